@@ -1,0 +1,228 @@
+-- Pieces one after the other: a front goes on by a piece, and there is one list of pieces.
+use Rattle.std.proofs.Common.{◌≡◌, ℕ, ◌+◌, ◌≤◌, List, [], ◌∷◌, ◌++◌, length, take, drop, zero-add, ◌⊎◌, inl, inr, Result, Ok, Err, refl, sym, ap, subst, ◌∙◌, arith, append_assoc}
+use Rattle.std.proofs.lemmas.List.{take_at, append_cancel_left, append-nil, length-append, drop_at, nil_from_length, same_from_push}
+use Rattle.proto_text.specs.declared.kind.PieceKind.{PieceKind}
+use Rattle.proto_text.specs.declared.fault.LexFault.{LexFault}
+use Rattle.proto_text.specs.declared.fault.LexFault.TheVariants.{BadChar, OpenComment, OpenString, BadEscape, BadNumber}
+use Rattle.proto_text.specs.declared.class.Class.TheVariants.{Digit}
+use Rattle.std.specs.Prelude.{MatchResult, IsErrAnd}
+use Rattle.std.specs.Global.{Vec}
+use Rattle.proto_text.specs.declared.fault.TextFault.{TextFault}
+use Rattle.proto_text.specs.declared.fault.TextFault.TheVariants.{TooLarge, NotUtf8, At, NoMemory}
+use Rattle.proto_text.specs.declared.lexer.Token.{Token}
+use Rattle.proto_text.specs.Pieces.{Piece, IsLexeme, EndsBefore, text_of, ArePieces, IsFront, IsPieces, IsFault, IsRun}
+use Rattle.proto_text.specs.Scan.{Found, piece_at}
+use Rattle.proto_text.specs.Tokens.{token_at, tokens_from, AreTokens, IsFaultAt, IsLexed, IsLexError, fault_of}
+use Rattle.proto_text.proofs.Begins.{raw_is, piece_again, found_at, fault_again}
+use Rattle.proto_text.specs.First.{BeginsWith, IsFirstPiece}
+use Rattle.proto_text.specs.declared.scan.Stop.{Stop}
+use Rattle.proto_text.specs.declared.scan.Stop.TheVariants as stops
+use Rattle.proto_text.specs.Strings.{IsQuoted, IsAllowed}
+use Rattle.proto_text.specs.declared.kind.PieceKind.TheVariants.{Solid}
+use Rattle.proto_text.specs.declared.kind.TokenKind.TheVariants.{Text}
+
+text_push : (ps : List Piece) (p : Piece) (rest : List ℕ) → text_of (ps ++ p ∷ []) ++ rest ≡ text_of ps ++ (p.bytes ++ rest)
+text_push [] p rest = ap (λ (t : List ℕ). t ++ rest) (append-nil p.bytes)
+text_push (q ∷ ps) p rest = append_assoc q.bytes (text_of (ps ++ p ∷ [])) rest ∙ ap (λ (t : List ℕ). q.bytes ++ t) (text_push ps p rest) ∙ sym (append_assoc q.bytes (text_of ps) (p.bytes ++ rest))
+
+pieces_push : (ps : List Piece) (p : Piece) (rest : List ℕ) → ArePieces ps (p.bytes ++ rest) → IsLexeme p.kind p.bytes → EndsBefore p.kind rest → ArePieces (ps ++ p ∷ []) rest
+pieces_push [] p rest h is ends = (is, ends, tt)
+pieces_push (q ∷ ps) p rest h is ends = (h.0, subst (EndsBefore q.kind) (sym (text_push ps p rest)) h.1, pieces_push ps p rest h.2 is ends)
+
+-- one piece more
+pub front_push : (text : List ℕ) (ps : List Piece) (p : Piece) (rest : List ℕ) → IsFront text ps (p.bytes ++ rest) → IsLexeme p.kind p.bytes → EndsBefore p.kind rest → IsFront text (ps ++ p ∷ []) rest
+front_push text ps p rest h is ends = (pieces_push ps p rest h.0 is ends, h.1 ∙ sym (text_push ps p rest))
+
+pub length_push : (ps : List Piece) (p : Piece) → length (text_of (ps ++ p ∷ [])) ≡ length (text_of ps) + length p.bytes
+length_push [] p = omega (arith, ap length (append-nil p.bytes))
+length_push (q ∷ ps) p = omega (arith, length-append q.bytes (text_of (ps ++ p ∷ [])), length-append q.bytes (text_of ps), length_push ps p)
+
+pub tokens_push : (at : ℕ) (ps : List Piece) (p : Piece) → tokens_from at (ps ++ p ∷ []) ≡ tokens_from at ps ++ token_at p.kind (at + length (text_of ps)) (length p.bytes)
+tokens_push at [] p = append-nil (token_at p.kind at (length p.bytes)) ∙ ap (λ (n : ℕ). token_at p.kind n (length p.bytes)) (omega arith)
+tokens_push at (q ∷ ps) p =
+    let n : (at + length q.bytes) + length (text_of ps) ≡ at + length (q.bytes ++ text_of ps) = omega (arith, length-append q.bytes (text_of ps)) in
+    ap (λ (t : List Token). token_at q.kind at (length q.bytes) ++ t) (tokens_push (at + length q.bytes) ps p)
+    ∙ sym (append_assoc (token_at q.kind at (length q.bytes)) (tokens_from (at + length q.bytes) ps) (token_at p.kind ((at + length q.bytes) + length (text_of ps)) (length p.bytes)))
+    ∙ ap (λ (n : ℕ). (token_at q.kind at (length q.bytes) ++ tokens_from (at + length q.bytes) ps) ++ token_at p.kind n (length p.bytes)) n
+
+-- ---- one list of pieces
+
+-- no piece begins
+abbrev pub IsStuck : List ℕ → Type 0
+IsStuck rest = (kind : PieceKind) (piece more : List ℕ) → rest ≡ piece ++ more → IsLexeme kind piece → EndsBefore kind more → ⊥
+
+abbrev ok : PieceKind × ℕ → Found
+ok x = Ok x
+
+ok_is : (x y : PieceKind × ℕ) → ok x ≡ ok y → x ≡ y
+ok_is x y e = cc
+
+ok_not_err : (x : PieceKind × ℕ) (f : LexFault) → ok x ≡ Err f → ⊥
+ok_not_err x f e = cc
+
+first_is : (p : Piece) (ps : List Piece) (rest : List ℕ) → ArePieces (p ∷ ps) rest → piece_at (text_of (p ∷ ps) ++ rest) ≡ Ok (p.kind, length p.bytes)
+first_is p ps rest h = ap piece_at (append_assoc p.bytes (text_of ps) rest) ∙ piece_again p.kind p.bytes (text_of ps ++ rest) (raw_is p.kind p.bytes h.0) h.1
+
+abbrev make : PieceKind → List ℕ → Piece
+make kind bytes = record { kind = kind; bytes = bytes }
+
+piece_is : (p q : Piece) → p.kind ≡ q.kind → p.bytes ≡ q.bytes → p ≡ q
+piece_is p q k b = ap (λ (x : PieceKind). make x p.bytes) k ∙ ap (make q.kind) b
+
+not_stuck : (p : Piece) (ps : List Piece) (rest stuck : List ℕ) → ArePieces (p ∷ ps) rest → text_of (p ∷ ps) ++ rest ≡ stuck → IsStuck stuck → ⊥
+not_stuck p ps rest stuck h e s = s p.kind p.bytes (text_of ps ++ rest) (sym e ∙ append_assoc p.bytes (text_of ps) rest) h.0 h.1
+
+pub same_front : (ps qs : List Piece) (r s : List ℕ) → ArePieces ps r → ArePieces qs s → text_of ps ++ r ≡ text_of qs ++ s → IsStuck r → IsStuck s → (ps ≡ qs) × (r ≡ s)
+same_front [] [] r s a b e x y = (refl, e)
+same_front [] (q ∷ qs) r s a b e x y = absurd (not_stuck q qs s r b (sym e) x)
+same_front (p ∷ ps) [] r s a b e x y = absurd (not_stuck p ps r s a e y)
+same_front (p ∷ ps) (q ∷ qs) r s a b e x y =
+    let one = ok_is (p.kind, length p.bytes) (q.kind, length q.bytes) (sym (first_is p ps r a) ∙ ap piece_at e ∙ first_is q qs s b) in
+    let kind : p.kind ≡ q.kind = ap (λ (x : PieceKind × ℕ). x.0) one in
+    let len : length p.bytes ≡ length q.bytes = ap (λ (x : PieceKind × ℕ). x.1) one in
+    let whole : p.bytes ++ (text_of ps ++ r) ≡ q.bytes ++ (text_of qs ++ s) = sym (append_assoc p.bytes (text_of ps) r) ∙ e ∙ append_assoc q.bytes (text_of qs) s in
+    let bytes : p.bytes ≡ q.bytes = sym (take_at p.bytes (text_of ps ++ r) (length q.bytes) len) ∙ ap (take (length q.bytes)) whole ∙ take_at q.bytes (text_of qs ++ s) (length q.bytes) refl in
+    let more : text_of ps ++ r ≡ text_of qs ++ s = append_cancel_left q.bytes (text_of ps ++ r) (text_of qs ++ s) (ap (λ (t : List ℕ). t ++ (text_of ps ++ r)) (sym bytes) ∙ whole) in
+    let others = same_front ps qs r s a.2 b.2 more x y in
+    (let head = piece_is p q kind bytes in let tail = others.0 in cc, others.1)
+
+no_piece_at_end : (x : PieceKind × ℕ) → piece_at [] ≡ ok x → ⊥
+unfolding piece_at
+no_piece_at_end x e = cc
+
+pub end_is_stuck : IsStuck []
+end_is_stuck kind piece more e is ends = no_piece_at_end (kind, length piece) (ap piece_at e ∙ piece_again kind piece more (raw_is kind piece is) ends)
+
+-- the body of a string is told by the string
+same_body : (text : List ℕ) (q r : ℕ) (b c : List ℕ) → IsQuoted text q b → IsQuoted text r c → b ≡ c
+same_body text q r b c x y =
+    let e : q ∷ (b ++ q ∷ []) ≡ r ∷ (c ++ r ∷ []) = sym x.1 ∙ y.1 in
+    let tail : b ++ q ∷ [] ≡ c ++ r ∷ [] = ap (drop 1) e in
+    (same_from_push b c q r tail).0
+
+same_front_of : (a x b y : List ℕ) → a ++ x ≡ b ++ y → length a ≡ length b → a ≡ b
+same_front_of a x b y e len = sym (take_at a x (length b) len) ∙ ap (take (length b)) e ∙ take_at b y (length b) refl
+
+-- what is refused is no string
+refused : (kind : PieceKind) (piece text : List ℕ) (c : ℕ) (body : List ℕ) → kind ≡ Solid Text → piece ≡ text → IsQuoted text c body → (IsAllowed body → ⊥) → IsLexeme kind piece → ⊥
+refused kind piece text c body k p quoted bad is =
+    let string : IsLexeme (Solid Text) text = subst (λ (k : PieceKind). IsLexeme k text) k (subst (IsLexeme kind) p is) in
+    bad (subst IsAllowed (same_body text string.0 c string.1 body string.2 quoted) string.3)
+
+pub fault_is_stuck : (fault : LexFault) (rest : List ℕ) → IsFault fault rest → IsStuck rest
+fault_is_stuck fault rest f kind piece more e is ends = by fault f (fault_again fault rest f)
+  where
+    found : piece_at rest ≡ ok (kind, length piece)
+    found = ap piece_at e ∙ piece_again kind piece more (raw_is kind piece is) ends
+
+    by : (fault : LexFault) → IsFault fault rest → ((text : List ℕ) × (piece_at rest ≡ found_at fault text)) → ⊥
+    by BadChar f again = ok_not_err (kind, length piece) BadChar (sym found ∙ again.1)
+    by OpenComment f again = ok_not_err (kind, length piece) OpenComment (sym found ∙ again.1)
+    by OpenString f again = ok_not_err (kind, length piece) OpenString (sym found ∙ again.1)
+    by BadNumber f again = ok_not_err (kind, length piece) BadNumber (sym found ∙ again.1)
+    by BadEscape f again =
+        let same = ok_is (kind, length piece) (Solid Text, length f.0) (sym found ∙ ap piece_at f.4 ∙ piece_again (Solid Text) f.0 f.1 (f.2, f.3, f.5) tt) in
+        refused kind piece f.0 f.2 f.3 (ap (λ (x : PieceKind × ℕ). x.0) same) (same_front_of piece more f.0 f.1 (sym e ∙ f.4) (ap (λ (x : PieceKind × ℕ). x.1) same)) f.5 f.6 is
+
+-- the fault that a scan shows
+abbrev shown : Found → LexFault
+shown (Ok x) = BadEscape
+shown (Err f) = f
+
+shows : (f : LexFault) (text : List ℕ) → shown (found_at f text) ≡ f
+shows BadChar text = refl
+shows OpenComment text = refl
+shows OpenString text = refl
+shows BadEscape text = refl
+shows BadNumber text = refl
+
+same_fault : (f g : LexFault) {r s : Found} (a : (text : List ℕ) × (r ≡ found_at f text)) (b : (text : List ℕ) × (s ≡ found_at g text)) → r ≡ s → f ≡ g
+same_fault f g a b e = sym (shows f a.0) ∙ ap shown (sym a.1 ∙ e ∙ b.1) ∙ shows g b.0
+
+-- a fault has a byte to stand at
+not_at_end : (fault : LexFault) → IsFault fault [] → ⊥
+not_at_end BadChar f = let e = f.2 in absurd cc
+not_at_end OpenComment f = let e = f.1 in absurd cc
+not_at_end OpenString f = let e = f.2 in absurd cc
+not_at_end BadEscape f = no_string f.0 f.1 f.2 f.3 f.4 f.5
+  where
+    no_string : (text more : List ℕ) (c : ℕ) (body : List ℕ) → [] ≡ text ++ more → IsQuoted text c body → ⊥
+    no_string text more c body e q = let l = ap length e in let t = ap length q.1 in omega (arith, length-append text more)
+not_at_end BadNumber f = no_run f.0 f.1 f.2 f.3
+  where
+    no_run : (run more : List ℕ) → [] ≡ run ++ more → IsRun Digit run → ⊥
+    no_run [] more e r = r
+    no_run (b ∷ run) more e r = absurd cc
+
+-- ---- the loop over the text
+
+-- these tokens were found in the text before rest
+pub record IsLexedUpTo (text rest : List ℕ) (at : ℕ) (tokens : List Token) : Type 0 where
+  pub pieces : List Piece
+  pub front : IsFront text pieces rest
+  pub place : at ≡ length (text_of pieces)
+  pub found : tokens ≡ tokens_from 0 pieces
+  pub room : at + length rest ≤ 1048576
+
+pub lexed_none : (text : List ℕ) → length text ≤ 1048576 → IsLexedUpTo text text 0 []
+lexed_none text short = record { pieces = []; front = (tt, refl); place = refl; found = refl; room = omega arith }
+
+-- the piece at the front of rest is found
+pub lexed_more : (text rest : List ℕ) (at : ℕ) (tokens : List Token) (kind : PieceKind) (n : ℕ) → IsLexedUpTo text rest at tokens → BeginsWith kind rest n
+    → IsLexedUpTo text (drop n rest) (at + n) (tokens ++ token_at kind at n)
+lexed_more text rest at tokens kind n so_far b =
+    let p : Piece = record { kind = kind; bytes = b.piece } in
+    let rest-is : drop n rest ≡ b.rest = ap (drop n) b.parts ∙ drop_at b.piece b.rest n (sym b.len) in
+    let front = front_push text so_far.pieces p b.rest (subst (IsFront text so_far.pieces) b.parts so_far.front) b.is b.ends in
+    record {
+      pieces = so_far.pieces ++ p ∷ [];
+      front = rw rest-is front;
+      place = omega (arith, length_push so_far.pieces p, so_far.place, b.len);
+      found = ap (λ (t : List Token). t ++ token_at kind at n) so_far.found ∙ ap (λ (k : ℕ). tokens_from 0 so_far.pieces ++ token_at kind k n) so_far.place
+          ∙ ap (λ (k : ℕ). tokens_from 0 so_far.pieces ++ token_at kind (length (text_of so_far.pieces)) k) b.len ∙ sym (moved so_far.pieces p);
+      room = omega (arith, so_far.room, ap length b.parts, length-append b.piece b.rest, b.len, ap length rest-is);
+    }
+  where
+    moved : (ps : List Piece) (p : Piece) → tokens_from 0 (ps ++ p ∷ []) ≡ tokens_from 0 ps ++ token_at p.kind (length (text_of ps)) (length p.bytes)
+    moved ps p = tokens_push 0 ps p ∙ ap (λ (n : ℕ). tokens_from 0 ps ++ token_at p.kind n (length p.bytes)) (zero-add (length (text_of ps)))
+
+pub lexed_all : (text rest : List ℕ) (at : ℕ) (tokens : List Token) → IsLexedUpTo text rest at tokens → length rest ≡ 0 → AreTokens text tokens
+lexed_all text rest at tokens so_far none = (so_far.pieces, subst (λ (r : List ℕ). IsFront text so_far.pieces r) (nil_from_length rest none) so_far.front, so_far.found)
+
+pub lexed_fault : (text rest : List ℕ) (at : ℕ) (tokens : List Token) (fault : LexFault) → IsLexedUpTo text rest at tokens → IsFault fault rest → IsFaultAt text at fault
+lexed_fault text rest at tokens fault so_far e = (so_far.pieces, rest, so_far.front, so_far.place, e)
+
+-- why the loop stops
+pub lexed_stop : (text rest : List ℕ) (at : ℕ) (tokens : List Token) (stop : Stop) → IsLexedUpTo text rest at tokens → IsFirstPiece rest (Err stop) → IsLexError text (fault_of at stop)
+lexed_stop text rest at tokens (stops.Fault fault) so_far f = lexed_fault text rest at tokens fault so_far f
+lexed_stop text rest at tokens stops.NoMemory so_far f = tt
+
+-- the answer is the only one
+pub only_tokens : (text : List ℕ) (tokens : List Token) (ps : List Piece) → AreTokens text tokens → IsPieces text ps → tokens ≡ tokens_from 0 ps
+only_tokens text tokens ps are is =
+    let same = same_front are.0 ps [] [] are.1.0 is.0 (sym are.1.1 ∙ is.1) end_is_stuck end_is_stuck in
+    are.2 ∙ ap (tokens_from 0) same.0
+
+pub no_fault : (text : List ℕ) (ps : List Piece) (offset : ℕ) (fault : LexFault) → IsPieces text ps → IsFaultAt text offset fault → ⊥
+no_fault text ps offset fault is at =
+    let same = same_front ps at.0 [] at.1 is.0 at.2.0 (sym is.1 ∙ at.2.1) end_is_stuck (fault_is_stuck fault at.1 at.4) in
+    not_at_end fault (subst (IsFault fault) (sym same.1) at.4)
+
+pub only_fault : (text : List ℕ) (o q : ℕ) (f g : LexFault) → IsFaultAt text o f → IsFaultAt text q g → (o ≡ q) × (f ≡ g)
+only_fault text o q f g a b =
+    let same = same_front a.0 b.0 a.1 b.1 a.2.0 b.2.0 (sym a.2.1 ∙ b.2.1) (fault_is_stuck f a.1 a.4) (fault_is_stuck g b.1 b.4) in
+    (a.3 ∙ ap (λ (ps : List Piece). length (text_of ps)) same.0 ∙ sym b.3, same_fault f g (fault_again f a.1 a.4) (fault_again g b.1 b.4) (ap piece_at same.1))
+
+pub is_only : (text : List ℕ) (result : Result (Vec Token) TextFault) (ps : List Piece) → IsLexed text result → IsPieces text ps → MatchResult result (λ tokens. tokens.items ≡ tokens_from 0 ps) (λ e. e ≡ NoMemory)
+is_only text (Ok tokens) ps h is = only_tokens text tokens.items ps h is
+is_only text (Err (At offset fault)) ps h is = absurd (no_fault text ps offset fault is h)
+is_only text (Err NoMemory) ps h is = refl
+is_only text (Err TooLarge) ps h is = absurd h
+is_only text (Err NotUtf8) ps h is = absurd h
+
+pub is_only_fault : (text : List ℕ) (result : Result (Vec Token) TextFault) (offset : ℕ) (fault : LexFault) → IsLexed text result → IsFaultAt text offset fault → IsErrAnd result (λ e. (e ≡ At offset fault) ⊎ (e ≡ NoMemory))
+is_only_fault text (Ok tokens) offset fault h at = absurd (no_fault text h.0 offset fault h.1 at)
+is_only_fault text (Err (At o f)) offset fault h at = inl (let same = only_fault text o offset f fault h at in let a = same.0 in let b = same.1 in cc)
+is_only_fault text (Err NoMemory) offset fault h at = inr refl
+is_only_fault text (Err TooLarge) offset fault h at = absurd h
+is_only_fault text (Err NotUtf8) offset fault h at = absurd h

@@ -1,0 +1,22 @@
+-- Tests over bytes: octal and hexadecimal digits, as the language specification has them.
+use Rattle.std.specs.Prelude.{◌≡◌, ℕ, Bool, true, false, ◌&&◌, ◌||◌, ◌==◌, List, [], ◌∷◌, nat_le}
+use Rattle.std.specs.List.{AllByRecursion}
+use Rattle.proto_text.specs.Classes.{is_digit}
+
+-- each byte passes
+abbrev pub Each : (ℕ → Bool) → List ℕ → Type 0
+Each p bytes = AllByRecursion (λ b. p b ≡ true) bytes
+
+-- no byte that passes stands first
+abbrev pub Stops : (ℕ → Bool) → List ℕ → Type 0
+Stops p [] = Unit {0}
+Stops p (b ∷ bytes) = p b ≡ false
+
+abbrev pub is_backslash : ℕ → Bool
+is_backslash b = b == 92
+
+abbrev pub is_octal : ℕ → Bool
+is_octal b = nat_le 48 b && nat_le b 55
+
+abbrev pub is_hex : ℕ → Bool
+is_hex b = is_digit b || (nat_le 97 b && nat_le b 102) || (nat_le 65 b && nat_le b 70)

@@ -1,0 +1,58 @@
+-- The first piece of a text, from its first bytes: the same sets as functions.
+use Rattle.std.specs.Prelude.{ℕ, ◌+◌, suc, Bool, false, List, [], ◌∷◌, ◌==◌, ◌&&◌, take, if◌then◌else◌, Option, Some, None, option_map, Result, Ok, Err}
+use Rattle.std.specs.List.{prefix_len}
+use Rattle.proto_text.specs.declared.class.Class.{Class}
+use Rattle.proto_text.specs.declared.class.Class.TheVariants.{Space, Letter, Digit, Quote, Mark, Slash, Other}
+use Rattle.proto_text.specs.declared.kind.TokenKind.TheVariants.{Word, Number, Text, Punctuation}
+use Rattle.proto_text.specs.declared.kind.PieceKind.{PieceKind}
+use Rattle.proto_text.specs.declared.kind.PieceKind.TheVariants.{Blank, LineComment, BlockComment, Solid}
+use Rattle.proto_text.specs.declared.fault.LexFault.{LexFault}
+use Rattle.proto_text.specs.declared.fault.LexFault.TheVariants.{BadChar, OpenComment, OpenString, BadNumber}
+use Rattle.proto_text.specs.Classes.{class_of, is_identifier}
+use Rattle.proto_text.specs.Strings.{end_len}
+use Rattle.proto_text.specs.Pieces.{is_number, is_in_line}
+
+-- how many bytes there are through the first `*/`; star says that a `*` stands before them
+unfoldable pub close_len : Bool → List ℕ → Option ℕ
+close_len star [] = None
+close_len star (b ∷ bytes) = if star && b == 47 then Some 1 else option_map suc (close_len (b == 42) bytes)
+
+abbrev pub Found : Type 0
+Found = Result (PieceKind × ℕ) LexFault
+
+abbrev pub block_found : Option ℕ → Found
+block_found None = Err OpenComment
+block_found (Some n) = Ok (BlockComment, 2 + n)
+
+-- behind a slash
+unfoldable pub comment_at : List ℕ → Found
+comment_at [] = Err BadChar
+comment_at (b ∷ bytes) =
+    if b == 47 then Ok (LineComment, 2 + prefix_len is_in_line bytes)
+    else (if b == 42 then block_found (close_len false bytes)
+    else Err BadChar)
+
+unfoldable pub number_at : ℕ → List ℕ → Found
+number_at n bytes = if is_number (take n bytes) then Ok (Solid Number, n) else Err BadNumber
+
+abbrev pub string_found : Option ℕ → Found
+string_found None = Err OpenString
+string_found (Some n) = Ok (Solid Text, 1 + n)
+
+-- behind a quote; what the string stands for is not looked at
+unfoldable pub string_at : ℕ → List ℕ → Found
+string_at quote bytes = string_found (end_len false quote bytes)
+
+abbrev pub piece_of : Class → ℕ → List ℕ → Found
+piece_of Space b bytes = Ok (Blank, 1)
+piece_of Letter b bytes = Ok (Solid Word, 1 + prefix_len is_identifier bytes)
+piece_of Digit b bytes = number_at (1 + prefix_len is_identifier bytes) (b ∷ bytes)
+piece_of Quote b bytes = string_at b bytes
+piece_of Mark b bytes = Ok (Solid Punctuation, 1)
+piece_of Slash b bytes = comment_at bytes
+piece_of Other b bytes = Err BadChar
+
+-- the kind of the piece that begins the bytes, and how many it takes
+unfoldable pub piece_at : List ℕ → Found
+piece_at [] = Err BadChar
+piece_at (b ∷ bytes) = piece_of (class_of b) b bytes

@@ -1,0 +1,15 @@
+-- The test of a word, as a function.
+use Rattle.std.specs.Prelude.{ℕ, Bool, true, false, ◌&&◌, List, [], ◌∷◌}
+use Rattle.std.specs.List.{list_all}
+use Rattle.proto_text.specs.declared.class.Class.{Class}
+use Rattle.proto_text.specs.declared.class.Class.TheVariants.{Letter}
+use Rattle.proto_text.specs.Classes.{class_of, is_identifier}
+
+abbrev pub begins_word : Class → Bool
+begins_word Letter = true
+begins_word _ = false
+
+-- a letter or `_`, and identifier characters
+abbrev pub is_run : List ℕ → Bool
+is_run [] = false
+is_run (b ∷ bytes) = begins_word (class_of b) && list_all is_identifier bytes

@@ -1,0 +1,117 @@
+//! What may be wrong with a text.
+
+ghost use Rattle.std.specs.Prelude.{◌≡◌};
+ghost use Rattle.proto_text.specs.FaultTable.{lex_number, lex_name, text_offset, text_number, text_name};
+ghost use Rattle.proto_text.specs.declared.fault.TextFault.TheVariants.{NoMemory};
+
+use std::alloc::{AllocError, AllocFailed};
+use thiserror::Error;
+
+/// Why no whole and allowed piece begins at a place.
+#[derive(Clone, Copy, Debug, PartialEq, Eq, Error)]
+pub enum LexFault {
+    #[error("a character that begins no token, white space or comment")]
+    BadChar,
+    #[error("a block comment that is not closed")]
+    OpenComment,
+    #[error("a string that is not closed")]
+    OpenString,
+    #[error("a string with a refused escape, or whose value is not UTF-8")]
+    BadEscape,
+    #[error("a word that begins with a digit and is no number")]
+    BadNumber,
+}
+
+impl LexFault {
+    /// The number of the fault, from 3 to 7.
+    pub fn number(self) -> u32
+        ensures { result ≡ lex_number self }
+    {
+        match self {
+            LexFault::BadChar => 3,
+            LexFault::OpenComment => 4,
+            LexFault::OpenString => 5,
+            LexFault::BadEscape => 6,
+            LexFault::BadNumber => 7,
+        }
+    }
+
+    /// The name of the fault.
+    pub fn name(self) -> &'static str
+        ensures { result.now ≡ lex_name self }
+    {
+        match self {
+            LexFault::BadChar => "BadChar",
+            LexFault::OpenComment => "OpenComment",
+            LexFault::OpenString => "OpenString",
+            LexFault::BadEscape => "BadEscape",
+            LexFault::BadNumber => "BadNumber",
+        }
+    }
+}
+
+/// Why bytes are no text, or why a text has no tokens.
+#[derive(Debug, Drop, Error)]
+pub enum TextFault {
+    #[error("more than 1,048,576 bytes")]
+    TooLarge,
+    #[error("not UTF-8")]
+    NotUtf8,
+    /// The bytes before the offset are whole white space, comments and tokens.
+    #[error("{fault}, at byte {offset}")]
+    At { offset: u32, fault: LexFault },
+    #[error("no memory")]
+    NoMemory,
+}
+
+impl TextFault {
+    /// The place of the fault, in bytes from 0. A fault of the whole text, and want of memory, stand at 0.
+    pub fn offset(&self) -> u32
+        ensures { result ≡ text_offset self.now }
+    {
+        match self {
+            TextFault::At { offset, .. } => *offset,
+            TextFault::TooLarge | TextFault::NotUtf8 | TextFault::NoMemory => 0,
+        }
+    }
+
+    /// The number of the fault, from 1 to 7; 0 for want of memory.
+    pub fn number(&self) -> u32
+        ensures { result ≡ text_number self.now }
+    {
+        match self {
+            TextFault::TooLarge => 1,
+            TextFault::NotUtf8 => 2,
+            TextFault::At { fault, .. } => fault.number(),
+            TextFault::NoMemory => 0,
+        }
+    }
+
+    /// The name of the fault.
+    pub fn name(&self) -> &'static str
+        ensures { result.now ≡ text_name self.now }
+    {
+        match self {
+            TextFault::TooLarge => "TooLarge",
+            TextFault::NotUtf8 => "NotUtf8",
+            TextFault::At { fault, .. } => fault.name(),
+            TextFault::NoMemory => "NoMemory",
+        }
+    }
+}
+
+impl From<AllocError> for TextFault {
+    ghost from_gives = { λ _ e. e ≡ NoMemory };
+
+    fn from(_e: AllocError) -> TextFault {
+        TextFault::NoMemory
+    }
+}
+
+impl<T: Drop> From<AllocFailed<T>> for TextFault {
+    ghost from_gives = { λ _ e. e ≡ NoMemory };
+
+    fn from(_e: AllocFailed<T>) -> TextFault {
+        TextFault::NoMemory
+    }
+}

@@ -1,0 +1,89 @@
+//! The tokens of a text.
+
+ghost use Rattle.std.specs.Prelude.{◌≡◌, ◌⊎◌, ◌+◌, ◌<◌, ◌^◌, ◌++◌, All, OnOk, ℕ, List, IfOk, IfErr, IsErrAnd, MatchResult};
+ghost use Rattle.proto_text.specs.declared.fault.LexFault.{LexFault};
+ghost use Rattle.proto_text.specs.declared.fault.TextFault.TheVariants as TextFault;
+ghost use Rattle.proto_text.specs.Pieces.{Piece, IsPieces};
+ghost use Rattle.proto_text.specs.SourceFacts.{IsSpan};
+ghost use Rattle.proto_text.specs.Tokens.{token_at, tokens_from, AreTokens, IsFaultAt, IsLexError, IsLexed, fault_of};
+
+use crate::fault::TextFault;
+use crate::kind::{PieceKind, TokenKind};
+use crate::scan::{Stop, piece};
+use crate::source::{Source, Span};
+use std::alloc::Global;
+
+/// A token: its kind, and where its text stands.
+#[derive(Clone, Copy, Debug, PartialEq, Eq)]
+pub struct Token {
+    pub kind: TokenKind,
+    pub span: Span,
+}
+
+// Adds the token of a piece, if it is one.
+fn add_token(
+    tokens: &mut Vec<Token>,
+    kind: PieceKind,
+    start: u32,
+    len: u32,
+) -> Result<(), TextFault>
+    requires { start + len < 2 ^ 32 }
+    ensures ok { OnOk result (tokens.new.items ≡ tokens.old.items ++ token_at kind start len) }
+    ensures err { IfErr result (λ e. e ≡ TextFault.NoMemory) }
+{
+    if let PieceKind::Solid(kind) = kind {
+        let end = start + len;
+        tokens.push(Token {
+            kind,
+            span: Span { start, end },
+        })?;
+    }
+    Ok(())
+}
+
+fn fault_at(offset: u32, stop: Stop) -> TextFault
+    ensures { result ≡ fault_of offset stop }
+{
+    match stop {
+        Stop::Fault(fault) => TextFault::At { offset, fault },
+        Stop::NoMemory => TextFault::NoMemory,
+    }
+}
+
+fn tokens_of(alloc: Global, source: &Source) -> Result<Vec<Token>, TextFault>
+    ensures { IsLexed source.now result }
+{
+    let mut tokens = Vec::new(alloc);
+    let mut rest = source.as_bytes();
+    let mut at: u32 = 0;
+    while !rest.is_empty() {
+        let (kind, len) = match piece(alloc, rest) {
+            Ok(found) => found,
+            Err(stop) => return Err(fault_at(at, stop)),
+        };
+        add_token(&mut tokens, kind, at, len as u32)?;
+        let (_, after) = rest.split_at(len);
+        rest = after;
+        at += len as u32;
+    }
+    Ok(tokens)
+}
+
+/// The tokens of the text, in order, each with the span of its text.
+/// A text that is not whole white space, comments and tokens is refused, at the first offset at which none begins that is whole and allowed.
+pub fn lex(alloc: Global, source: &Source) -> Result<Vec<Token>, TextFault>
+    // The text has pieces, and these are their tokens.
+    ensures tokens { IfOk result (λ tokens. AreTokens source.now tokens.items) }
+    // Each can be asked for its text.
+    ensures spans { IfOk result (λ tokens. All (λ t. IsSpan source.now t.span) tokens.items) }
+    // Of whatever pieces the text has, these are the tokens.
+    ensures only { (ps : List Piece) → IsPieces source.now ps
+        → MatchResult result (λ tokens. tokens.items ≡ tokens_from 0 ps) (λ e. e ≡ TextFault.NoMemory) }
+    // Whole pieces stand before the fault, and none begins at it.
+    ensures fault { IfErr result (λ e. IsLexError source.now e) }
+    // There is no other fault.
+    ensures only_fault { (offset : ℕ) (fault : LexFault) → IsFaultAt source.now offset fault
+        → IsErrAnd result (λ e. (e ≡ TextFault.At offset fault) ⊎ (e ≡ TextFault.NoMemory)) }
+{
+    tokens_of(alloc, source)
+}
