@@ -1,0 +1,17 @@
+pub mod Each
+pub mod Many
+pub mod Exact
+pub mod Rules
+pub mod PieceRules
+pub mod Walks
+pub mod Places
+pub mod Faults
+pub mod Depth
+pub mod Nodes
+pub mod Table
+pub mod ClassLemmas
+pub mod OneFault
+pub mod WordLaws
+pub mod MarkLaws
+pub mod MoveLaws
+pub mod ReplaceLaws

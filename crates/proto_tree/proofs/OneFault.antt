@@ -1,0 +1,110 @@
+-- A file has a tree, or one fault.
+use Rattle.std.proofs.Common.{◌≡◌, ℕ, ◌+◌, ◌<◌, List, refl, sym, ap, subst, ◌∙◌, ◌⊎◌, inl, inr, arith}
+use Rattle.std.specs.Prelude.{Result, Ok, Err, IfOk, IfErr, IsErrAnd, MatchResult}
+use Rattle.std.proofs.lemmas.Bool.{cases_lt}
+use Rattle.proto_text.specs.declared.lexer.Token.{Token}
+use Rattle.proto_text.specs.Tokens.{AreTokens}
+use Rattle.proto_tree.specs.declared.class.Lexeme.{Lexeme}
+use Rattle.proto_tree.specs.declared.tree.File.{File}
+use Rattle.proto_tree.specs.declared.files.Unread.TheVariants as unread
+use Rattle.proto_tree.specs.declared.parsing.ParseFault.{ParseFault}
+use Rattle.proto_tree.specs.declared.parsing.ParseFault.TheVariants as fault
+use Rattle.proto_tree.specs.Answer.{IsUnread}
+use Rattle.proto_tree.specs.File.{tree_of_file}
+use Rattle.proto_tree.specs.Tree.{Tree, Spells}
+use Rattle.proto_tree.specs.Place.{IsPlace, IsShallow, IsTooDeep}
+use Rattle.proto_tree.specs.Laws.{OneTree}
+use Rattle.proto_tree.proofs.Faults.{one_tree}
+use Rattle.proto_tree.specs.Reads.{classed, Reads, place_at, IsFault, is_fault_or_memory, IsParsed}
+
+-- ---- one place
+
+one_place : (s : List Lexeme) (j k : ℕ) → IsPlace s j → IsPlace s k → j ≡ k
+one_place s j k a b = elim (cases_lt j k) [
+  | inl lt ↦ absurd (a.longest k lt b.within b.good)
+  | inr le ↦ elim (cases_lt k j) [
+    | inl lt ↦ absurd (b.longest j lt a.within a.good)
+    | inr ge ↦ omega arith
+  ]
+]
+
+later_deep : (s : List Lexeme) (j k : ℕ) → IsTooDeep s j → IsTooDeep s k → j < k → ⊥
+later_deep s j k a b lt = omega (arith, a.deep, b.before (j + 1) (omega arith))
+
+one_deep : (s : List Lexeme) (j k : ℕ) → IsTooDeep s j → IsTooDeep s k → j ≡ k
+one_deep s j k a b = elim (cases_lt j k) [
+  | inl lt ↦ absurd (later_deep s j k a b lt)
+  | inr le ↦ elim (cases_lt k j) [
+    | inl lt ↦ absurd (later_deep s k j b a lt)
+    | inr ge ↦ omega arith
+  ]
+]
+
+shallow_deep : (s : List Lexeme) (k : ℕ) → IsShallow s → IsTooDeep s k → ⊥
+shallow_deep s k a b = omega (arith, b.deep, b.within, a (k + 1) (omega (arith, b.within)))
+
+-- ---- a tree, or a fault
+
+pub no_fault : (text : List ℕ) (tokens : List Token) (t : Tree) (f : ParseFault) → Reads text tokens t → IsFault text tokens f → ⊥
+no_fault text tokens t (fault.Syntax offset) r h = h.no_tree t r.spells
+no_fault text tokens t (fault.TooDeep offset) r h = shallow_deep (classed text tokens) h.at r.shallow h.place
+no_fault text tokens t fault.NoMemory r h = h
+
+pub one_fault : (text : List ℕ) (tokens : List Token) (f g : ParseFault) → IsFault text tokens f → IsFault text tokens g → f ≡ g
+one_fault text tokens (fault.Syntax i) (fault.Syntax j) a b =
+    let same : i ≡ j = a.offset_is ∙ ap (place_at text tokens) (one_place (classed text tokens) a.at b.at a.place b.place) ∙ sym b.offset_is in
+    ap (λ x. fault.Syntax x) same
+one_fault text tokens (fault.Syntax i) (fault.TooDeep j) a b = absurd (shallow_deep (classed text tokens) b.at a.shallow b.place)
+one_fault text tokens (fault.TooDeep i) (fault.Syntax j) a b = absurd (shallow_deep (classed text tokens) a.at b.shallow a.place)
+one_fault text tokens (fault.TooDeep i) (fault.TooDeep j) a b =
+    let same : i ≡ j = a.offset_is ∙ ap (place_at text tokens) (one_deep (classed text tokens) a.at b.at a.place b.place) ∙ sym b.offset_is in
+    ap (λ x. fault.TooDeep x) same
+one_fault text tokens fault.NoMemory g a b = absurd a
+one_fault text tokens (fault.Syntax i) fault.NoMemory a b = absurd b
+one_fault text tokens (fault.TooDeep i) fault.NoMemory a b = absurd b
+
+-- ---- what parse answers
+
+fault_or_memory : (text : List ℕ) (tokens : List Token) (f : ParseFault) → is_fault_or_memory text tokens f → (f ≡ fault.NoMemory) ⊎ IsFault text tokens f
+fault_or_memory text tokens fault.NoMemory h = inl refl
+fault_or_memory text tokens (fault.Syntax offset) h = inr h
+fault_or_memory text tokens (fault.TooDeep offset) h = inr h
+
+pub parsed_found : (text : List ℕ) (tokens : List Token) (r : Result File ParseFault) → IsParsed text tokens r → IfOk r (λ f. Reads text tokens (tree_of_file f))
+parsed_found text tokens (Ok f) h = h.0
+parsed_found text tokens (Err e) h = tt
+
+pub parsed_only : (text : List ℕ) (tokens : List Token) (r : Result File ParseFault) → IsParsed text tokens r → (t : Tree) → Reads text tokens t → MatchResult r (λ f. t ≡ tree_of_file f) (λ e. e ≡ fault.NoMemory)
+parsed_only text tokens (Ok f) h t reads = h.1 t reads.spells
+parsed_only text tokens (Err e) h t reads = elim (fault_or_memory text tokens e h) [
+  | inl memory ↦ memory
+  | inr k ↦ absurd (no_fault text tokens t e reads k)
+]
+
+pub parsed_fault : (text : List ℕ) (tokens : List Token) (r : Result File ParseFault) → IsParsed text tokens r → IfErr r (is_fault_or_memory text tokens)
+parsed_fault text tokens (Ok f) h = tt
+parsed_fault text tokens (Err e) h = h
+
+pub parsed_only_fault : (text : List ℕ) (tokens : List Token) (r : Result File ParseFault) → IsParsed text tokens r → (f : ParseFault) → IsFault text tokens f → IsErrAnd r (λ e. (e ≡ f) ⊎ (e ≡ fault.NoMemory))
+parsed_only_fault text tokens (Ok x) h f k = absurd (no_fault text tokens (tree_of_file x) f h.0 k)
+parsed_only_fault text tokens (Err e) h f k = elim (fault_or_memory text tokens e h) [
+  | inl memory ↦ inr memory
+  | inr g ↦ inl (one_fault text tokens e f g k)
+]
+
+-- ---- from the tokens as the grammar sees them
+
+pub read_tree : (text : List ℕ) (tokens : List Token) (ls : List Lexeme) (f : File) → AreTokens text tokens → ls ≡ classed text tokens → Spells (tree_of_file f) ls × IsShallow ls → ((t : Tree) → Spells t ls → t ≡ tree_of_file f) → IsParsed text tokens (Ok f)
+read_tree text tokens ls f are e found only = (
+  record { tokens_are = are; spells = subst (λ s. Spells (tree_of_file f) s) e found.0; shallow = subst (λ s. IsShallow s) e found.1 },
+  λ t h. only t (subst (λ s. Spells t s) (sym e) h),
+)
+
+pub read_syntax : (text : List ℕ) (tokens : List Token) (ls : List Lexeme) (k offset : ℕ) → ls ≡ classed text tokens → IsUnread ls (unread.Syntax k) → offset ≡ place_at text tokens k → IsParsed text tokens (Err (fault.Syntax offset))
+read_syntax text tokens ls k offset e h same = let g = subst (λ s. IsUnread s (unread.Syntax k)) e h in record { shallow = g.0; no_tree = g.1; at = k; place = g.2; offset_is = same }
+
+pub read_deep : (text : List ℕ) (tokens : List Token) (ls : List Lexeme) (k offset : ℕ) → ls ≡ classed text tokens → IsUnread ls (unread.TooDeep k) → offset ≡ place_at text tokens k → IsParsed text tokens (Err (fault.TooDeep offset))
+read_deep text tokens ls k offset e h same = record { at = k; place = subst (λ s. IsTooDeep s k) e h; offset_is = same }
+
+pub one_reading : OneTree
+one_reading text tokens a b r s = one_tree a b (classed text tokens) r.spells s.spells

@@ -1,0 +1,404 @@
+-- Pieces, and the readers that read exactly these.
+use Rattle.std.proofs.Common.{◌≡◌, ℕ, Bool, true, false, List, [], ◌∷◌, ◌++◌, Some, refl, sym, ap, subst, ◌∙◌, ◌⊎◌, inl, inr}
+use Rattle.std.specs.Prelude.{◌||◌}
+use Rattle.proto_tree.specs.declared.class.Class.{Class}
+use Rattle.proto_tree.specs.declared.class.Class.TheVariants as class
+use Rattle.proto_tree.specs.declared.class.Want.{Want}
+use Rattle.proto_tree.specs.declared.class.Want.TheVariants as want
+use Rattle.proto_tree.specs.declared.class.Lexeme.{Lexeme}
+use Rattle.proto_tree.specs.declared.tree.Syntax.{Syntax}
+use Rattle.proto_tree.specs.declared.tree.Import.{Import}
+use Rattle.proto_tree.specs.declared.tree.Package.{Package}
+use Rattle.proto_tree.specs.declared.tree.Option_.{Option_}
+use Rattle.proto_tree.specs.declared.tree.Field.{Field}
+use Rattle.proto_tree.specs.declared.tree.MapField.{MapField}
+use Rattle.proto_tree.specs.declared.tree.Reserved.{Reserved}
+use Rattle.proto_tree.specs.declared.tree.Extensions.{Extensions}
+use Rattle.proto_tree.specs.declared.tree.Value.{Value}
+use Rattle.proto_tree.specs.declared.tree.Signed.{Signed}
+use Rattle.proto_tree.specs.declared.tree.Signature.{Signature}
+use Rattle.proto_tree.specs.declared.piece.Statement.TheVariants as statement
+use Rattle.proto_tree.specs.declared.piece.Heading.{Heading}
+use Rattle.proto_tree.specs.declared.piece.Header.{Header}
+use Rattle.proto_tree.specs.declared.piece.Header.TheVariants as header
+use Rattle.proto_tree.specs.declared.piece.Ending.{Ending}
+use Rattle.proto_tree.specs.declared.piece.Ending.TheVariants as ending
+use Rattle.proto_tree.specs.declared.piece.Piece.{Piece}
+use Rattle.proto_tree.specs.declared.piece.Piece.TheVariants as piece
+use Rattle.proto_tree.specs.Classes.{fits, is_brace}
+use Rattle.proto_tree.specs.Flat.{Mark, mark, one, Fit, flat_signature, flat_heading, flat_header, flat_piece}
+use Rattle.proto_tree.specs.Reading.{Reader, ◌then◌, made, token, starts, either, heading_at, opened, stated, syntax_at, import_at, package_at, option_at, field_at, map_field_at, reserved_at, signed_at, extensions_at, value_at, signature_at, ending_at, method_piece, method_at, piece_at, enum_piece_at}
+use Rattle.proto_tree.proofs.Exact.{IsExact, Begins, Stops, Calm, never, any_of, bind_ok, some_is, either_cases, begins_left, begins_right, starts_yes, starts_no, within, within_is, apart, apart_is, Fit-split, next, token_then, one_of, IsMade, Left, Right, tok, renamed, hushed, token-exact}
+use Rattle.proto_tree.proofs.Rules.{syntax-exact, import-exact, package-exact, option-exact, field-exact, map_field-exact, reserved-exact, extensions-exact, enum_reserved-exact, value-exact, signature-exact, starts_field}
+
+-- a header and its brace
+pub record IsOpening (text : List Lexeme) : Type 0 where
+  pub front : List Lexeme
+  pub last : Lexeme
+  pub parts : text ≡ front ++ last ∷ []
+  pub calm : Calm is_brace front
+  pub opens : fits (want.One class.Open) last.class ≡ true
+
+pub record IsClosing (text : List Lexeme) : Type 0 where
+  pub only : Lexeme
+  pub parts : text ≡ only ∷ []
+  pub closes : fits (want.One class.Close) only.class ≡ true
+
+-- braces stand only at the end of a piece
+abbrev pub HasEnd : Piece → List Lexeme → Type 0
+HasEnd (piece.Statement s) text = Calm is_brace text
+HasEnd (piece.Open h i) text = IsOpening text
+HasEnd (piece.Close i) text = IsClosing text
+
+-- p reads exactly the pieces of which P is true
+pub record IsOn (P : Piece → Bool) (first : Class → Bool) (read : Reader Piece) : Type 0 where
+  pub begins : (u : Piece) → P u ≡ true → (text : List Lexeme) → Fit (flat_piece u) text → Begins true first text
+  pub end : (u : Piece) → P u ≡ true → (text : List Lexeme) → Fit (flat_piece u) text → HasEnd u text
+  pub sound : (s : List Lexeme) (u : Piece) (r : List Lexeme) → read s ≡ Some (u, r) → (P u ≡ true) × (text : List Lexeme) × (s ≡ text ++ r) × Fit (flat_piece u) text
+  pub complete : (u : Piece) → P u ≡ true → (text r : List Lexeme) → Fit (flat_piece u) text → read (text ++ r) ≡ Some (u, r)
+
+stops_never : (r : List Lexeme) → Stops never r
+stops_never [] = tt
+stops_never (l ∷ r) = refl
+
+-- what a reader of one kind of piece reads
+pub made_on : {A : Type 0} {loud : Class → Bool} {first : Class → Bool} {p : Reader A} (P : Piece → Bool) (make : A → Piece)
+    → IsExact loud true first never (λ x. flat_piece (make x)) p → ((x : A) → P (make x) ≡ true) → ((u : Piece) → P u ≡ true → (x : A) × (make x ≡ u))
+    → ((x : A) (text : List Lexeme) → Fit (flat_piece (make x)) text → HasEnd (make x) text) → IsOn P first (made make p)
+made_on {A = A} {first = first} {p = p} P make h yes_P all_P ends = record {
+  begins = λ u e text fit. let x = all_P u e in h.begins x.0 text (rw x.1 fit);
+  end = λ u e text fit. let x = all_P u e in subst (λ v. HasEnd v text) x.1 (ends x.0 text (rw x.1 fit));
+  sound = λ s u r e.
+      let a = bind_ok (p s) (λ x. Some (make x.0, x.1)) (u, r) e in
+      let Q : Piece × List Lexeme → Type 0 = λ y. (P y.0 ≡ true) × (text : List Lexeme) × (s ≡ text ++ y.1) × Fit (flat_piece y.0) text in
+      let t = h.sound s a.0.0 a.0.1 a.1 in
+      subst Q (some_is (make a.0.0, a.0.1) (u, r) a.2) (yes_P a.0.0, t.0, t.1, t.2);
+  complete = λ u e text r fit.
+      let x = all_P u e in
+      let f : p (text ++ r) ≡ Some (x.0, r) = h.complete x.0 text r (rw x.1 fit) (stops_never r) in
+      rw (f, x.1) refl;
+}
+
+abbrev pub either_of : (Piece → Bool) → (Piece → Bool) → Piece → Bool
+either_of P Q u = P u || Q u
+
+true_or : (a b : Bool) → (a || b) ≡ true → (a ≡ true) ⊎ (b ≡ true)
+true_or true b e = inl refl
+true_or false b e = inr e
+
+or_left : (a b : Bool) → a ≡ true → (a || b) ≡ true
+or_left true b e = refl
+or_left false b e = absurd cc
+
+or_right : (a b : Bool) → b ≡ true → (a || b) ≡ true
+or_right true b e = refl
+or_right false b e = e
+
+-- one kind of piece or another, by the first token
+pub or_on : {P Q : Piece → Bool} {first_p first_q : Class → Bool} {p q : Reader Piece} (w : Want)
+    → IsOn P first_p p → IsOn Q first_q q → within first_p (fits w) ≡ true → apart first_q (fits w) ≡ true
+    → IsOn (either_of P Q) (any_of first_p first_q) (either w p q)
+or_on {P = P} {Q = Q} {first_p = first_p} {first_q = first_q} {p = p} {q = q} w hp hq a b = record {
+  begins = λ u e text fit. elim (true_or (P u) (Q u) e) [ inl h ↦ begins_left first_p first_q text (hp.begins u h text fit) | inr h ↦ begins_right first_p first_q text (hq.begins u h text fit) ];
+  end = λ u e text fit. elim (true_or (P u) (Q u) e) [ inl h ↦ hp.end u h text fit | inr h ↦ hq.end u h text fit ];
+  sound = λ s u r e. elim (either_cases (starts w s) (p s) (q s) (Some (u, r)) e) [
+    | inl g ↦ let t = hp.sound s u r g.1 in (or_left (P u) (Q u) t.0, t.1, t.2, t.3)
+    | inr g ↦ let t = hq.sound s u r g.1 in (or_right (P u) (Q u) t.0, t.1, t.2, t.3)
+  ];
+  complete = λ u e text r fit. elim (true_or (P u) (Q u) e) [
+    | inl h ↦ rw (starts_yes w first_p text r (within_is first_p (fits w) a) (hp.begins u h text fit)) (hp.complete u h text r fit)
+    | inr h ↦ rw (starts_no w first_q text r (apart_is first_q (fits w) b) (hq.begins u h text fit)) (hq.complete u h text r fit)
+  ];
+}
+
+-- ---- the kinds of pieces
+
+abbrev pub is_close : Piece → Bool
+is_close (piece.Close i) = true
+is_close _ = false
+
+all_close : (u : Piece) → is_close u ≡ true → (x : ℕ) × ((piece.Close x) ≡ u)
+all_close (piece.Close i) e = (i, refl)
+all_close _ e = absurd cc
+
+abbrev pub is_syntax : Piece → Bool
+is_syntax (piece.Statement (statement.Syntax x)) = true
+is_syntax _ = false
+
+all_syntax : (u : Piece) → is_syntax u ≡ true → (x : Syntax) × (piece.Statement (statement.Syntax x) ≡ u)
+all_syntax (piece.Statement (statement.Syntax x)) e = (x, refl)
+all_syntax _ e = absurd cc
+
+abbrev pub is_import : Piece → Bool
+is_import (piece.Statement (statement.Import x)) = true
+is_import _ = false
+
+all_import : (u : Piece) → is_import u ≡ true → (x : Import) × (piece.Statement (statement.Import x) ≡ u)
+all_import (piece.Statement (statement.Import x)) e = (x, refl)
+all_import _ e = absurd cc
+
+abbrev pub is_package : Piece → Bool
+is_package (piece.Statement (statement.Package x)) = true
+is_package _ = false
+
+all_package : (u : Piece) → is_package u ≡ true → (x : Package) × (piece.Statement (statement.Package x) ≡ u)
+all_package (piece.Statement (statement.Package x)) e = (x, refl)
+all_package _ e = absurd cc
+
+abbrev pub is_option : Piece → Bool
+is_option (piece.Statement (statement.Option x)) = true
+is_option _ = false
+
+all_option : (u : Piece) → is_option u ≡ true → (x : Option_) × (piece.Statement (statement.Option x) ≡ u)
+all_option (piece.Statement (statement.Option x)) e = (x, refl)
+all_option _ e = absurd cc
+
+abbrev pub is_field : Piece → Bool
+is_field (piece.Statement (statement.Field x)) = true
+is_field _ = false
+
+all_field : (u : Piece) → is_field u ≡ true → (x : Field) × (piece.Statement (statement.Field x) ≡ u)
+all_field (piece.Statement (statement.Field x)) e = (x, refl)
+all_field _ e = absurd cc
+
+abbrev pub is_map_field : Piece → Bool
+is_map_field (piece.Statement (statement.MapField x)) = true
+is_map_field _ = false
+
+all_map_field : (u : Piece) → is_map_field u ≡ true → (x : MapField) × (piece.Statement (statement.MapField x) ≡ u)
+all_map_field (piece.Statement (statement.MapField x)) e = (x, refl)
+all_map_field _ e = absurd cc
+
+abbrev pub is_reserved : Piece → Bool
+is_reserved (piece.Statement (statement.Reserved x)) = true
+is_reserved _ = false
+
+all_reserved : (u : Piece) → is_reserved u ≡ true → (x : Reserved ℕ) × (piece.Statement (statement.Reserved x) ≡ u)
+all_reserved (piece.Statement (statement.Reserved x)) e = (x, refl)
+all_reserved _ e = absurd cc
+
+abbrev pub is_extensions : Piece → Bool
+is_extensions (piece.Statement (statement.Extensions x)) = true
+is_extensions _ = false
+
+all_extensions : (u : Piece) → is_extensions u ≡ true → (x : Extensions) × (piece.Statement (statement.Extensions x) ≡ u)
+all_extensions (piece.Statement (statement.Extensions x)) e = (x, refl)
+all_extensions _ e = absurd cc
+
+abbrev pub is_value : Piece → Bool
+is_value (piece.Statement (statement.Value x)) = true
+is_value _ = false
+
+all_value : (u : Piece) → is_value u ≡ true → (x : Value) × (piece.Statement (statement.Value x) ≡ u)
+all_value (piece.Statement (statement.Value x)) e = (x, refl)
+all_value _ e = absurd cc
+
+abbrev pub is_enum_reserved : Piece → Bool
+is_enum_reserved (piece.Statement (statement.EnumReserved x)) = true
+is_enum_reserved _ = false
+
+all_enum_reserved : (u : Piece) → is_enum_reserved u ≡ true → (x : Reserved Signed) × (piece.Statement (statement.EnumReserved x) ≡ u)
+all_enum_reserved (piece.Statement (statement.EnumReserved x)) e = (x, refl)
+all_enum_reserved _ e = absurd cc
+
+abbrev pub is_empty : Piece → Bool
+is_empty (piece.Statement (statement.Empty x)) = true
+is_empty _ = false
+
+all_empty : (u : Piece) → is_empty u ≡ true → (x : ℕ) × (piece.Statement (statement.Empty x) ≡ u)
+all_empty (piece.Statement (statement.Empty x)) e = (x, refl)
+all_empty _ e = absurd cc
+
+abbrev pub opens_message : Piece → Bool
+opens_message (piece.Open (header.Message h) i) = true
+opens_message _ = false
+
+all_opens_message : (u : Piece) → opens_message u ≡ true → (x : Heading × ℕ) × (piece.Open (header.Message x.0) x.1 ≡ u)
+all_opens_message (piece.Open (header.Message h) i) e = ((h, i), refl)
+all_opens_message _ e = absurd cc
+
+abbrev pub opens_oneof : Piece → Bool
+opens_oneof (piece.Open (header.Oneof h) i) = true
+opens_oneof _ = false
+
+all_opens_oneof : (u : Piece) → opens_oneof u ≡ true → (x : Heading × ℕ) × (piece.Open (header.Oneof x.0) x.1 ≡ u)
+all_opens_oneof (piece.Open (header.Oneof h) i) e = ((h, i), refl)
+all_opens_oneof _ e = absurd cc
+
+abbrev pub opens_enum : Piece → Bool
+opens_enum (piece.Open (header.Enum h) i) = true
+opens_enum _ = false
+
+all_opens_enum : (u : Piece) → opens_enum u ≡ true → (x : Heading × ℕ) × (piece.Open (header.Enum x.0) x.1 ≡ u)
+all_opens_enum (piece.Open (header.Enum h) i) e = ((h, i), refl)
+all_opens_enum _ e = absurd cc
+
+abbrev pub opens_service : Piece → Bool
+opens_service (piece.Open (header.Service h) i) = true
+opens_service _ = false
+
+all_opens_service : (u : Piece) → opens_service u ≡ true → (x : Heading × ℕ) × (piece.Open (header.Service x.0) x.1 ≡ u)
+all_opens_service (piece.Open (header.Service h) i) e = ((h, i), refl)
+all_opens_service _ e = absurd cc
+
+abbrev pub is_method : Piece → Bool
+is_method (piece.Statement (statement.Method s i)) = true
+is_method (piece.Open (header.Method s) i) = true
+is_method _ = false
+
+abbrev method_of : Signature × Ending → Piece
+method_of x = method_piece x.0 x.1
+
+all_method : (u : Piece) → is_method u ≡ true → (x : Signature × Ending) × (method_of x ≡ u)
+all_method (piece.Statement (statement.Method s i)) e = ((s, ending.Semicolon i), refl)
+all_method (piece.Open (header.Method s) i) e = ((s, ending.Open i), refl)
+all_method _ e = absurd cc
+
+-- ---- their ends
+
+one_closing : (i : ℕ) (text : List Lexeme) → Fit (one class.Close i) text → IsClosing text
+one_closing i [] h = absurd h
+one_closing i (l ∷ []) h = record { only = l; parts = refl; closes = h.0 }
+one_closing i (l ∷ k ∷ t) h = absurd h.2
+
+one_last : (i : ℕ) (t : List Lexeme) → Fit (one class.Open i) t → (l : Lexeme) × (t ≡ l ∷ []) × (fits (want.One class.Open) l.class ≡ true)
+one_last i [] h = absurd h
+one_last i (l ∷ []) h = (l, refl, h.0)
+one_last i (l ∷ k ∷ t) h = absurd h.2
+
+opening : (flat_h : List Mark) (i : ℕ) (text : List Lexeme) → ((t : List Lexeme) → Fit flat_h t → Calm is_brace t) → Fit (flat_h ++ one class.Open i) text → IsOpening text
+opening flat_h i text calm fit =
+    let s = Fit-split flat_h (one class.Open i) text fit in
+    let l = one_last i s.1 s.4 in
+    record { front = s.0; last = l.0; parts = s.2 ∙ ap (λ (u : List Lexeme). s.0 ++ u) l.1; calm = calm s.0 s.3; opens = l.2 }
+
+heading_calm : (c : Class) → apart (fits (want.One c)) is_brace ≡ true → (h : Heading) (t : List Lexeme) → Fit (flat_heading c h) t → Calm is_brace t
+heading_calm c e h t fit =
+    let rule : IsExact is_brace true (fits (want.One c)) never (λ x. one c x.0 ++ mark want.Word x.1 ∷ []) (token (want.One c) then token want.Word) = next (tok (want.One c) e) (tok want.Word refl) refl in
+    rule.calm (h.keyword, h.name) t fit
+
+-- ---- the readers
+
+abbrev quiet : (w : Want) → IsExact never true (fits w) never (λ i. mark w i ∷ []) (token w)
+quiet w = token-exact never w (λ c e. refl)
+
+close_on : IsOn is_close (fits (want.One class.Close)) (made piece.Close (token (want.One class.Close)))
+close_on = made_on is_close piece.Close (quiet (want.One class.Close)) (λ x. refl) all_close one_closing
+
+heading-exact : (c : Class) → IsExact never true (fits (want.One c)) never (λ x. flat_heading c x.0 ++ one class.Open x.1) (heading_at c)
+heading-exact c = renamed (λ x. flat_heading c x.0 ++ one class.Open x.1) (λ x. (record { keyword = x.0; name = x.1.0 }, x.1.1)) (λ x. (x.0.keyword, (x.0.name, x.1))) (λ x. refl)
+    (token_then (quiet (want.One c)) (token_then (quiet want.Word) (quiet (want.One class.Open))))
+
+opened_on : (c : Class) (make : Heading → Header) (P : Piece → Bool) → apart (fits (want.One c)) is_brace ≡ true → ((h : Heading) → flat_heading c h ≡ flat_header (make h)) → ((h : Heading) (i : ℕ) → P (piece.Open (make h) i) ≡ true)
+    → ((u : Piece) → P u ≡ true → (x : Heading × ℕ) × (piece.Open (make x.0) x.1 ≡ u)) → IsOn P (fits (want.One c)) (opened make c)
+opened_on c make P e same yes_P all_P = made_on P (λ x. piece.Open (make x.0) x.1) opened-exact (λ x. yes_P x.0 x.1) all_P
+    (λ x text fit. opening (flat_header (make x.0)) x.1 text (λ t h. heading_calm c e x.0 t (subst (λ ms. Fit ms t) (sym (same x.0)) h)) fit) where
+      opened-exact : IsExact never true (fits (want.One c)) never (λ x. flat_piece (piece.Open (make x.0) x.1)) (heading_at c)
+      opened-exact = let same_flat : (λ (x : Heading × ℕ). flat_heading c x.0 ++ one class.Open x.1) ≡ (λ x. flat_header (make x.0) ++ one class.Open x.1) = λ i x. same x.0 i ++ one class.Open x.1 in subst (λ f. IsExact never true (fits (want.One c)) never f (heading_at c)) same_flat (heading-exact c)
+
+message_on : IsOn opens_message (fits (want.One class.Message)) (opened header.Message class.Message)
+message_on = opened_on class.Message header.Message opens_message refl (λ h. refl) (λ h i. refl) all_opens_message
+
+oneof_on : IsOn opens_oneof (fits (want.One class.Oneof)) (opened header.Oneof class.Oneof)
+oneof_on = opened_on class.Oneof header.Oneof opens_oneof refl (λ h. refl) (λ h i. refl) all_opens_oneof
+
+enum_on : IsOn opens_enum (fits (want.One class.Enum)) (opened header.Enum class.Enum)
+enum_on = opened_on class.Enum header.Enum opens_enum refl (λ h. refl) (λ h i. refl) all_opens_enum
+
+service_on : IsOn opens_service (fits (want.One class.Service)) (opened header.Service class.Service)
+service_on = opened_on class.Service header.Service opens_service refl (λ h. refl) (λ h i. refl) all_opens_service
+
+empty_on : IsOn is_empty (fits (want.One class.Semicolon)) (stated statement.Empty (token (want.One class.Semicolon)))
+empty_on =
+    let rule : IsExact is_brace true (fits (want.One class.Semicolon)) never (λ i. one class.Semicolon i) (token (want.One class.Semicolon)) = tok (want.One class.Semicolon) refl in
+    made_on is_empty (λ i. piece.Statement (statement.Empty i)) rule (λ x. refl) all_empty rule.calm
+
+syntax_on : IsOn is_syntax (fits (want.One class.Syntax)) (stated statement.Syntax syntax_at)
+syntax_on = made_on is_syntax (λ x. piece.Statement (statement.Syntax x)) syntax-exact (λ x. refl) all_syntax syntax-exact.calm
+
+import_on : IsOn is_import (fits (want.One class.Import)) (stated statement.Import import_at)
+import_on = made_on is_import (λ x. piece.Statement (statement.Import x)) import-exact (λ x. refl) all_import import-exact.calm
+
+package_on : IsOn is_package (fits (want.One class.Package)) (stated statement.Package package_at)
+package_on = made_on is_package (λ x. piece.Statement (statement.Package x)) package-exact (λ x. refl) all_package package-exact.calm
+
+option_on : IsOn is_option (fits (want.One class.Option)) (stated statement.Option option_at)
+option_on = made_on is_option (λ x. piece.Statement (statement.Option x)) option-exact (λ x. refl) all_option option-exact.calm
+
+field_on : IsOn is_field starts_field (stated statement.Field field_at)
+field_on = made_on is_field (λ x. piece.Statement (statement.Field x)) field-exact (λ x. refl) all_field field-exact.calm
+
+map_field_on : IsOn is_map_field (fits (want.One class.Map)) (stated statement.MapField map_field_at)
+map_field_on = made_on is_map_field (λ x. piece.Statement (statement.MapField x)) map_field-exact (λ x. refl) all_map_field map_field-exact.calm
+
+reserved_on : IsOn is_reserved (fits (want.One class.Reserved)) (stated statement.Reserved (reserved_at (token (want.One class.Number))))
+reserved_on = made_on is_reserved (λ x. piece.Statement (statement.Reserved x)) reserved-exact (λ x. refl) all_reserved reserved-exact.calm
+
+extensions_on : IsOn is_extensions (fits (want.One class.Extensions)) (stated statement.Extensions extensions_at)
+extensions_on = made_on is_extensions (λ x. piece.Statement (statement.Extensions x)) extensions-exact (λ x. refl) all_extensions extensions-exact.calm
+
+value_on : IsOn is_value (fits want.ValueName) (stated statement.Value value_at)
+value_on = made_on is_value (λ x. piece.Statement (statement.Value x)) value-exact (λ x. refl) all_value value-exact.calm
+
+enum_reserved_on : IsOn is_enum_reserved (fits (want.One class.Reserved)) (stated statement.EnumReserved (reserved_at signed_at))
+enum_reserved_on = made_on is_enum_reserved (λ x. piece.Statement (statement.EnumReserved x)) enum_reserved-exact (λ x. refl) all_enum_reserved enum_reserved-exact.calm
+
+abbrev flat_ending : Ending → List Mark
+flat_ending (ending.Semicolon i) = one class.Semicolon i
+flat_ending (ending.Open i) = one class.Open i
+
+ending_made : (x : Ending) → IsMade ending.Semicolon ending.Open x
+ending_made (ending.Semicolon i) = Left i
+ending_made (ending.Open i) = Right i
+
+abbrev ends_method : Class → Bool
+ends_method = any_of (fits (want.One class.Semicolon)) (fits (want.One class.Open))
+
+abbrev no_class : Class → Bool
+no_class = any_of never never
+
+flat_method : (s : Signature) (x : Ending) → flat_signature s ++ flat_ending x ≡ flat_piece (method_piece s x)
+flat_method s (ending.Semicolon i) = refl
+flat_method s (ending.Open i) = refl
+
+method-exact : IsExact never true (fits (want.One class.Rpc)) never (λ x. flat_piece (method_of x)) (signature_at then ending_at)
+unfolding ending_at
+method-exact =
+    let ending-exact : IsExact never true ends_method no_class flat_ending ending_at = one_of (want.One class.Semicolon) flat_ending ending.Semicolon ending.Open ending_made (quiet (want.One class.Semicolon)) (quiet (want.One class.Open)) refl refl in
+    let rule : IsExact never true (fits (want.One class.Rpc)) no_class (λ x. flat_signature x.0 ++ flat_ending x.1) (signature_at then ending_at) = token_then (hushed signature-exact) ending-exact in
+    let same_flat : (λ (x : Signature × Ending). flat_signature x.0 ++ flat_ending x.1) ≡ (λ x. flat_piece (method_of x)) = λ i x. flat_method x.0 x.1 i in
+    subst (λ f. IsExact never true (fits (want.One class.Rpc)) never f (signature_at then ending_at)) same_flat rule
+
+method_ends : (x : Signature × Ending) (text : List Lexeme) → Fit (flat_piece (method_of x)) text → HasEnd (method_of x) text
+method_ends (s, ending.Semicolon i) text fit =
+    let rule : IsExact is_brace true (fits (want.One class.Rpc)) never (λ x. flat_signature x.0 ++ one class.Semicolon x.1) (signature_at then token (want.One class.Semicolon)) = token_then signature-exact (tok (want.One class.Semicolon) refl) in
+    rule.calm (s, i) text fit
+method_ends (s, ending.Open i) text fit = opening (flat_signature s) i text (λ t h. signature-exact.calm s t h) fit
+
+method_on : IsOn is_method (fits (want.One class.Rpc)) method_at
+unfolding method_at
+method_on = made_on is_method method_of method-exact is_yes all_method method_ends
+  where
+    is_yes : (x : Signature × Ending) → is_method (method_of x) ≡ true
+    is_yes (s, ending.Semicolon i) = refl
+    is_yes (s, ending.Open i) = refl
+
+abbrev pub enum_pieces : Piece → Bool
+enum_pieces = either_of is_close (either_of is_empty (either_of is_option (either_of is_enum_reserved (is_value))))
+
+abbrev pub begins_enum_piece : Class → Bool
+begins_enum_piece = any_of (fits (want.One class.Close)) (any_of (fits (want.One class.Semicolon)) (any_of (fits (want.One class.Option)) (any_of (fits (want.One class.Reserved)) (fits want.ValueName))))
+
+abbrev pub elsewhere : Piece → Bool
+elsewhere = either_of is_close (either_of is_empty (either_of opens_message (either_of opens_oneof (either_of opens_enum (either_of opens_service (either_of is_syntax (either_of is_import (either_of is_package (either_of is_option (either_of is_map_field (either_of is_reserved (either_of is_extensions (either_of is_method (is_field))))))))))))))
+
+abbrev pub begins_elsewhere : Class → Bool
+begins_elsewhere = any_of (fits (want.One class.Close)) (any_of (fits (want.One class.Semicolon)) (any_of (fits (want.One class.Message)) (any_of (fits (want.One class.Oneof)) (any_of (fits (want.One class.Enum)) (any_of (fits (want.One class.Service)) (any_of (fits (want.One class.Syntax)) (any_of (fits (want.One class.Import)) (any_of (fits (want.One class.Package)) (any_of (fits (want.One class.Option)) (any_of (fits (want.One class.Map)) (any_of (fits (want.One class.Reserved)) (any_of (fits (want.One class.Extensions)) (any_of (fits (want.One class.Rpc)) (starts_field))))))))))))))
+
+pub enum_piece_on : IsOn enum_pieces begins_enum_piece enum_piece_at
+unfolding enum_piece_at
+enum_piece_on = or_on (want.One class.Close) close_on (or_on (want.One class.Semicolon) empty_on (or_on (want.One class.Option) option_on (or_on (want.One class.Reserved) enum_reserved_on (value_on) refl refl) refl refl) refl refl) refl refl
+
+pub piece_on : IsOn elsewhere begins_elsewhere piece_at
+unfolding piece_at
+piece_on = or_on (want.One class.Close) close_on (or_on (want.One class.Semicolon) empty_on (or_on (want.One class.Message) message_on (or_on (want.One class.Oneof) oneof_on (or_on (want.One class.Enum) enum_on (or_on (want.One class.Service) service_on (or_on (want.One class.Syntax) syntax_on (or_on (want.One class.Import) import_on (or_on (want.One class.Package) package_on (or_on (want.One class.Option) option_on (or_on (want.One class.Map) map_field_on (or_on (want.One class.Reserved) reserved_on (or_on (want.One class.Extensions) extensions_on (or_on (want.One class.Rpc) method_on (field_on) refl refl) refl refl) refl refl) refl refl) refl refl) refl refl) refl refl) refl refl) refl refl) refl refl) refl refl) refl refl) refl refl) refl refl

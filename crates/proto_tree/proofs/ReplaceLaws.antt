@@ -1,0 +1,136 @@
+-- Statements that are replaced.
+use Rattle.std.proofs.Common.{◌≡◌, ℕ, suc, ◌+◌, List, [], ◌∷◌, ◌++◌, length, map, refl, sym, ap, subst, ◌∙◌, arith, append_assoc, length-append}
+use Rattle.proto_text.specs.Tokens.{Lexeme}
+use Rattle.proto_tree.specs.declared.class.Class.TheVariants as class
+use Rattle.proto_tree.specs.declared.class.Lexeme.{Lexeme as Classed}
+use Rattle.proto_tree.specs.declared.context.Context.{Context}
+use Rattle.proto_tree.specs.declared.context.Context.TheVariants as context
+use Rattle.proto_tree.specs.Flat.{Mark, one, Fit, flat_statement, flat_header}
+use Rattle.proto_tree.specs.Tree.{Tree, End, Leaf, Block, flat, statement_kind, header_kind, after, inside, IsWellFormed, last_of, joined}
+use Rattle.proto_tree.specs.Words.{class_by, classes}
+use Rattle.proto_tree.specs.Moved.{Move, shift, move_tree}
+use Rattle.proto_tree.specs.Replaced.{IsReplaced, Here, Later, Inside, Behind, before, StatementsAreReplaced}
+use Rattle.proto_tree.proofs.Exact.{Fit-join}
+use Rattle.proto_tree.proofs.Nodes.{flat-joined, joined-fine}
+use Rattle.proto_tree.proofs.MoveLaws.{map_append, flat_moved, well_formed_moved}
+
+-- ---- marks before and behind the place
+
+record IsAround (g : Move) (a b t u : Tree) (n : ℕ) : Type 0 where
+  front : List Mark
+  back : List Mark
+  long : length front ≡ n
+  old : flat t ≡ front ++ (flat a ++ back)
+  new : flat u ≡ front ++ (flat b ++ map (shift g) back)
+
+regroup : (x y z w : List Mark) → x ++ (y ++ (z ++ w)) ≡ (x ++ y) ++ (z ++ w)
+regroup x y z w = sym (append_assoc x y (z ++ w))
+
+around : (g : Move) (a b : Tree) (c : Context) (t u : Tree) (r : IsReplaced g a b c t u) → IsAround g a b t u (before r)
+around g a b _ t u (Here c rest fine last) = record {
+  front = [];
+  back = flat rest;
+  long = refl;
+  old = flat-joined a rest;
+  new = flat-joined b (move_tree g rest) ∙ ap (λ (ms : List Mark). flat b ++ ms) (flat_moved g rest);
+}
+around g a b _ t u (Later c s x y r) =
+    let h = around g a b (after c (statement_kind s)) x y r in
+    record {
+      front = flat_statement s ++ h.front;
+      back = h.back;
+      long = length-append (flat_statement s) h.front ∙ ap (λ (n : ℕ). length (flat_statement s) + n) h.long;
+      old = ap (λ (ms : List Mark). flat_statement s ++ ms) h.old ∙ regroup (flat_statement s) h.front (flat a) h.back;
+      new = ap (λ (ms : List Mark). flat_statement s ++ ms) h.new ∙ regroup (flat_statement s) h.front (flat b) (map (shift g) h.back);
+    }
+around g a b _ t u (Inside c k i x y j rest r) =
+    let h = around g a b (inside k) x y r in
+    let head : List Mark = flat_header k ++ one class.Open i in
+    let tail : List Mark = one class.Close j ++ flat rest in
+    let moved : one class.Close (g j) ++ flat (move_tree g rest) ≡ map (shift g) tail = ap (λ (ms : List Mark). one class.Close (g j) ++ ms) (flat_moved g rest) in
+    record {
+      front = head ++ h.front;
+      back = h.back ++ tail;
+      long = length-append head h.front ∙ ap (λ (n : ℕ). length head + n) h.long;
+      old = ap (λ (ms : List Mark). head ++ (ms ++ tail)) h.old ∙ ap (λ (ms : List Mark). head ++ ms) (append_assoc h.front (flat a ++ h.back) tail ∙ ap (λ (ms : List Mark). h.front ++ ms) (append_assoc (flat a) h.back tail)) ∙ regroup head h.front (flat a) (h.back ++ tail);
+      new = ap (λ (ms : List Mark). head ++ (ms ++ (one class.Close (g j) ++ flat (move_tree g rest)))) h.new
+          ∙ ap (λ (ms : List Mark). head ++ ((h.front ++ (flat b ++ map (shift g) h.back)) ++ ms)) moved
+          ∙ ap (λ (ms : List Mark). head ++ ms) (append_assoc h.front (flat b ++ map (shift g) h.back) (map (shift g) tail) ∙ ap (λ (ms : List Mark). h.front ++ ms) (append_assoc (flat b) (map (shift g) h.back) (map (shift g) tail) ∙ ap (λ (ms : List Mark). flat b ++ ms) (sym (map_append g h.back tail))))
+          ∙ regroup head h.front (flat b) (map (shift g) (h.back ++ tail));
+    }
+around g a b _ t u (Behind c k i within j x y r) =
+    let h = around g a b (after c (header_kind k)) x y r in
+    let head : List Mark = flat (Block k i within j End) in
+    let whole : (z : Tree) → flat (Block k i within j z) ≡ head ++ flat z = λ z. flat-joined (Block k i within j End) z in
+    record {
+      front = head ++ h.front;
+      back = h.back;
+      long = length-append head h.front ∙ ap (λ (n : ℕ). length head + n) h.long;
+      old = whole x ∙ ap (λ (ms : List Mark). head ++ ms) h.old ∙ regroup head h.front (flat a) h.back;
+      new = whole y ∙ ap (λ (ms : List Mark). head ++ ms) h.new ∙ regroup head h.front (flat b) (map (shift g) h.back);
+    }
+
+-- ---- what stands where
+
+behind_fine : (a rest : Tree) (c : Context) → IsWellFormed c (joined a rest) → IsWellFormed (last_of c a) rest
+behind_fine End rest c h = h
+behind_fine (Leaf s a) rest c h = behind_fine a rest (after c (statement_kind s)) h.1
+behind_fine (Block k i within j a) rest c h = behind_fine a rest (after c (header_kind k)) h.2
+
+replaced_fine : (g : Move) (a b : Tree) (c : Context) (t u : Tree) → IsReplaced g a b c t u → IsWellFormed c t → IsWellFormed c u
+replaced_fine g a b _ t u (Here c rest fine last) h =
+    joined-fine b (move_tree g rest) c fine (subst (λ d. IsWellFormed d (move_tree g rest)) (sym last) (well_formed_moved g (last_of c a) rest (behind_fine a rest c h)))
+replaced_fine g a b _ t u (Later c s x y r) h = (h.0, replaced_fine g a b (after c (statement_kind s)) x y r h.1)
+replaced_fine g a b _ t u (Inside c k i x y j rest r) h = (h.0, replaced_fine g a b (inside k) x y r h.1, well_formed_moved g (after c (header_kind k)) rest h.2)
+replaced_fine g a b _ t u (Behind c k i within j x y r) h = (h.0, h.1, replaced_fine g a b (after c (header_kind k)) x y r h.2)
+
+-- ---- tokens
+
+classes-append : (n : ℕ) (x y : List Lexeme) → classes n (x ++ y) ≡ classes n x ++ classes (n + length x) y
+classes-append n [] y = ap (λ (k : ℕ). classes k y) (omega arith)
+classes-append n (l ∷ x) y =
+    let e : suc n + length x ≡ n + length (l ∷ x) = omega arith in
+    ap (λ (ls : List Classed). record { class = class_by l.kind l.text; at = n } ∷ ls) (classes-append (suc n) x y ∙ ap (λ (k : ℕ). classes (suc n) x ++ classes k y) e)
+
+classes-length : (n : ℕ) (x : List Lexeme) → length (classes n x) ≡ length x
+classes-length n [] = refl
+classes-length n (l ∷ x) = ap suc (classes-length (suc n) x)
+
+fit_parts : (a b : List Mark) (s t : List Classed) → length a ≡ length s → Fit (a ++ b) (s ++ t) → Fit a s × Fit b t
+fit_parts [] b [] t e h = (tt, h)
+fit_parts [] b (l ∷ s) t e h = absurd (omega (arith, e))
+fit_parts (m ∷ a) b [] t e h = absurd (omega (arith, e))
+fit_parts (m ∷ a) b (l ∷ s) t e h = let r = fit_parts a b s t (omega (arith, e)) h.2 in ((h.0, h.1, r.0), r.1)
+
+fit_moved : (g : Move) (n n' : ℕ) (ms : List Mark) (x : List Lexeme) → ((k : ℕ) → g (n + k) ≡ n' + k) → Fit ms (classes n x) → Fit (map (shift g) ms) (classes n' x)
+fit_moved g n n' [] [] to h = tt
+fit_moved g n n' [] (l ∷ x) to h = absurd h
+fit_moved g n n' (m ∷ ms) [] to h = absurd h
+fit_moved g n n' (m ∷ ms) (l ∷ x) to h =
+    let here : g n ≡ n' = ap g (zero_more n) ∙ to 0 ∙ sym (zero_more n') in
+    (h.0, sym here ∙ ap g h.1, fit_moved g (suc n) (suc n') ms x (λ k. ap g (one_more n k) ∙ to (suc k) ∙ sym (one_more n' k)) h.2)
+  where
+    zero_more : (n : ℕ) → n ≡ n + 0
+    zero_more n = omega arith
+
+    one_more : (n k : ℕ) → suc n + k ≡ n + suc k
+    one_more n k = omega arith
+
+pub statements_are_replaced : StatementsAreReplaced
+statements_are_replaced g a b t u r front old new back at len fits_b to h =
+    let s = around g a b context.Start t u r in
+    let n : ℕ = length front in
+    let split : (x : List Lexeme) → classes 0 (front ++ (x ++ back)) ≡ classes 0 front ++ (classes n x ++ classes (n + length x) back) = λ x. (
+    classes-append 0 front (x ++ back) ∙ ap (λ (ls : List Classed). classes 0 front ++ ls) (ap (λ (k : ℕ). classes k (x ++ back)) (zero_first n) ∙ classes-append n x back)) in
+    let whole = subst (λ (ls : List Classed). Fit (s.front ++ (flat a ++ s.back)) ls) (split old) (subst (λ (ms : List Mark). Fit ms (classes 0 (front ++ (old ++ back)))) s.old h.fits) in
+    let p = fit_parts s.front (flat a ++ s.back) (classes 0 front) (classes n old ++ classes (n + length old) back) (s.long ∙ at ∙ sym (classes-length 0 front)) whole in
+    let q = fit_parts (flat a) s.back (classes n old) (classes (n + length old) back) (len ∙ sym (classes-length n old)) p.1 in
+    let moved = fit_moved g (n + length old) (n + length new) s.back back to q.1 in
+    let fit = Fit-join s.front (flat b ++ map (shift g) s.back) (classes 0 front) (classes n new ++ classes (n + length new) back) p.0 (Fit-join (flat b) (map (shift g) s.back) (classes n new) (classes (n + length new) back) fits_b moved) in
+    record {
+      well_formed = replaced_fine g a b context.Start t u r h.well_formed;
+      fits = subst (λ (ms : List Mark). Fit ms (classes 0 (front ++ (new ++ back)))) (sym s.new) (subst (λ (ls : List Classed). Fit (s.front ++ (flat b ++ map (shift g) s.back)) ls) (sym (split new)) fit);
+    }
+  where
+    zero_first : (n : ℕ) → 0 + n ≡ n
+    zero_first n = omega arith

@@ -1,0 +1,177 @@
+-- The same tree spells the new words.
+use Rattle.std.proofs.Common.{◌≡◌, ℕ, zero, suc, ◌≤◌, Bool, true, false, ◌==◌, List, [], ◌∷◌, length, take, map, Option, Some, None, refl, sym, ap, subst, ◌∙◌, arith, cond}
+use Rattle.std.specs.Prelude.{◌||◌, codes}
+use Rattle.std.specs.Str.{bytes_eq}
+use Rattle.std.proofs.lemmas.Bool.{eqb-true}
+use Rattle.proto_text.specs.declared.kind.TokenKind.{TokenKind}
+use Rattle.proto_text.specs.declared.kind.TokenKind.TheVariants.{Word, Number, Text, Punctuation}
+use Rattle.proto_text.specs.Texts.{or_word, changed, AreWords}
+use Rattle.proto_text.specs.Tokens.{Lexeme, lexeme_at}
+use Rattle.proto_text.specs.Values.{says}
+use Rattle.proto_text.proofs.Texts.{words_are_put}
+use Rattle.proto_tree.specs.declared.class.Class.{Class}
+use Rattle.proto_tree.specs.declared.class.Class.TheVariants as class
+use Rattle.proto_tree.specs.declared.class.Want.{Want}
+use Rattle.proto_tree.specs.declared.class.Want.TheVariants as want
+use Rattle.proto_tree.specs.Classes.{code, is_word, fits}
+use Rattle.proto_tree.specs.Flat.{Mark, Fit}
+use Rattle.proto_tree.specs.Tree.{flat, Spells}
+use Rattle.proto_tree.specs.Place.{open_after, open_from, IsShallow}
+use Rattle.proto_tree.specs.Words.{Listed, class_in, listed, marks, class_by, classes}
+use Rattle.proto_tree.specs.Laws.{Change, Suits, PutsWords, WordsKeepTrees, WordsComeForWords, EditsKeepTrees, WordsHaveWordClasses}
+use Rattle.proto_tree.proofs.Each.{each, each_is}
+
+-- ---- the classes of words
+
+abbrev Holds : (Class → Bool) → List Listed → Type 0
+Holds p [] = Unit {0}
+Holds p (k ∷ ks) = (p k.class ≡ true) × Holds p ks
+
+either_holds : (p : Class → Bool) (b : Bool) (c d : Class) → p c ≡ true → p d ≡ true → p (cond b c d) ≡ true
+either_holds p true c d e f = e
+either_holds p false c d e f = f
+
+class_holds : (p : Class → Bool) (ks : List Listed) (c : Class) (w : List ℕ) → Holds p ks → p c ≡ true → p (class_in ks c w) ≡ true
+class_holds p [] c w h e = e
+class_holds p (k ∷ ks) c w h e = either_holds p (bytes_eq w k.word) k.class (class_in ks c w) h.0 (class_holds p ks c w h.1 e)
+
+abbrev is_no_word : Class → Bool
+is_no_word c = cond (is_word c) false true
+
+differ : true ≡ false → ⊥
+differ z = cc
+
+not_both : (b : Bool) → b ≡ true → cond b false true ≡ true → ⊥
+not_both true e h = cc
+not_both false e h = cc
+
+pub word_is_word : (w : List ℕ) → is_word (class_by Word w) ≡ true
+word_is_word w = class_holds is_word listed class.Name w (refl, (refl, (refl, (refl, (refl, (refl, (refl, (refl, (refl, (refl, (refl, (refl, (refl, (refl, (refl, (refl, (refl, (refl, (refl, (refl, (refl, (refl, (refl, (refl, (refl, (refl, (refl, (refl, (refl, (refl, (refl, (refl, (refl, (refl, (refl, (refl, (refl, (refl, tt)))))))))))))))))))))))))))))))))))))) refl
+
+mark_is_none : (w : List ℕ) → is_no_word (class_by Punctuation w) ≡ true
+mark_is_none w = class_holds is_no_word marks class.Other w (refl, (refl, (refl, (refl, (refl, (refl, (refl, (refl, (refl, (refl, (refl, (refl, (refl, tt))))))))))))) refl
+
+text_is_none : (b : Bool) → is_word (cond b class.ProtoText class.OtherText) ≡ true → ⊥
+text_is_none true h = cc
+text_is_none false h = cc
+
+pub words_only : (k : TokenKind) (w : List ℕ) → is_word (class_by k w) ≡ true → k ≡ Word
+words_only Word w h = refl
+words_only Number w h = absurd cc
+words_only Text w h = absurd (text_is_none (says w (codes "proto2") || says w (codes "proto3")) h)
+words_only Punctuation w h = absurd (not_both (is_word (class_by Punctuation w)) h (mark_is_none w))
+
+pub words_have_word_classes : WordsHaveWordClasses
+words_have_word_classes k w = (λ e. subst (λ (x : TokenKind). is_word (class_by x w) ≡ true) (sym e) (word_is_word w), words_only k w)
+
+-- ---- a place that a word fits holds a word
+
+text_no_word : (c : Class) → fits want.Text c ≡ true → is_word c ≡ true → ⊥
+text_no_word class.ProtoText e h = cc
+text_no_word class.OtherText e h = cc
+text_no_word _ e h = cc
+
+value_is_word : (c : Class) → fits want.ValueName c ≡ true → is_word c ≡ true
+value_is_word class.Option e = refl
+value_is_word class.Reserved e = refl
+value_is_word c e = e
+
+label_is_word : (c : Class) → fits want.Label c ≡ true → is_word c ≡ true
+label_is_word class.Optional e = refl
+label_is_word class.Required e = refl
+label_is_word class.Repeated e = refl
+label_is_word _ e = absurd cc
+
+-- two classes with one number are of words or not alike
+abbrev alike : Class → Class → Bool
+alike c d = cond (code c == code d) (cond (is_word c) (is_word d) true) true
+
+all_alike : (c d : Class) → alike c d ≡ true
+all_alike c d = each_is (alike c) (each_is (λ (x : Class). each (alike x)) refl c) d
+
+one_word : (w c d : Class) → fits (want.One w) c ≡ true → fits (want.One w) d ≡ true → is_word c ≡ true → is_word d ≡ true
+one_word w c d e f h =
+    let same : (code c == code d) ≡ true = subst (λ (n : ℕ). (n == code d) ≡ true) (eqb-true (code w) (code c) e) f in
+    by (code c == code d) (is_word c) (is_word d) same h (all_alike c d)
+  where
+    by : (a b x : Bool) → a ≡ true → b ≡ true → cond a (cond b x true) true ≡ true → x ≡ true
+    by true true x s h k = k
+    by true false x s h k = absurd cc
+    by false b x s h k = absurd cc
+
+pub place_of_word : (w : Want) (c d : Class) → fits w c ≡ true → fits w d ≡ true → is_word c ≡ true → is_word d ≡ true
+place_of_word (want.One x) c d e f h = one_word x c d e f h
+place_of_word want.Word c d e f h = f
+place_of_word want.ValueName c d e f h = value_is_word d f
+place_of_word want.Label c d e f h = label_is_word d f
+place_of_word want.Text c d e f h = absurd (text_no_word c e h)
+
+-- ---- the tree
+
+kind_there : (c : Change) (n : ℕ) (m : Mark) (l : Lexeme) (w : List ℕ) → ((w : List ℕ) → c m.at ≡ Some w → fits m.want (class_by Word w) ≡ true) → n ≡ m.at → c n ≡ Some w → fits m.want (class_by l.kind l.text) ≡ true → l.kind ≡ Word
+kind_there c n m l w suits at e fit =
+    words_only l.kind l.text (place_of_word m.want (class_by Word w) (class_by l.kind l.text) (suits w (ap c (sym at) ∙ e)) fit (word_is_word w))
+
+fits_words : (c : Change) (n : ℕ) (ms : List Mark) (ls : List Lexeme) → Suits c ms → Fit ms (classes n ls) → Fit ms (classes n (changed c n ls))
+fits_words c n [] [] g h = tt
+fits_words c n [] (l ∷ ls) g h = absurd h
+fits_words c n (m ∷ ms) [] g h = absurd h
+fits_words c n (m ∷ ms) (l ∷ ls) g h = (by (c n) refl, h.1, fits_words c (suc n) ms ls g.1 h.2)
+  where
+    by : (o : Option (List ℕ)) → c n ≡ o → fits m.want (class_by l.kind (or_word o l.text)) ≡ true
+    by None e = h.0
+    by (Some v) e = subst (λ (k : TokenKind). fits m.want (class_by k v) ≡ true) (sym (kind_there c n m l v g.0 h.1 e h.0)) (g.0 v (ap c (sym h.1) ∙ e))
+
+are_words : (c : Change) → PutsWords c → (n : ℕ) (ms : List Mark) (ls : List Lexeme) → Suits c ms → Fit ms (classes n ls) → AreWords c n ls
+are_words c run n [] [] g h = tt
+are_words c run n [] (l ∷ ls) g h = absurd h
+are_words c run n (m ∷ ms) [] g h = tt
+are_words c run n (m ∷ ms) (l ∷ ls) g h = ((λ w e. (kind_there c n m l w g.0 h.1 e h.0, run n w e)), are_words c run (suc n) ms ls g.1 h.2)
+
+-- ---- braces
+
+opens_none : (d : ℕ) (k : Class) → is_word k ≡ true → open_after d k ≡ d
+opens_none d class.Open e = absurd cc
+opens_none d class.Close e = absurd cc
+opens_none d _ e = refl
+
+open_same : (c : Change) (n d k : ℕ) (ms : List Mark) (ls : List Lexeme) → Suits c ms → Fit ms (classes n ls) → open_from d (take k (classes n (changed c n ls))) ≡ open_from d (take k (classes n ls))
+open_same c n d zero ms ls g h = refl
+open_same c n d (suc k) ms [] g h = refl
+open_same c n d (suc k) [] (l ∷ ls) g h = absurd h
+open_same c n d (suc k) (m ∷ ms) (l ∷ ls) g h =
+    ap (λ (x : ℕ). open_from x (take k (classes (suc n) (changed c (suc n) ls)))) (by (c n) refl) ∙ open_same c (suc n) (open_after d (class_by l.kind l.text)) k ms ls g.1 h.2
+  where
+    by : (o : Option (List ℕ)) → c n ≡ o → open_after d (class_by l.kind (or_word o l.text)) ≡ open_after d (class_by l.kind l.text)
+    by None e = refl
+    by (Some v) e =
+        let there = kind_there c n m l v g.0 h.1 e h.0 in
+        opens_none d (class_by l.kind v) ((words_have_word_classes l.kind v).0 there) ∙ sym (opens_none d (class_by l.kind l.text) ((words_have_word_classes l.kind l.text).0 there))
+
+same_length : (c : Change) (n : ℕ) (ls : List Lexeme) → length (classes n (changed c n ls)) ≡ length (classes n ls)
+same_length c n [] = refl
+same_length c n (l ∷ ls) = ap suc (same_length c (suc n) ls)
+
+pub words_keep_trees : WordsKeepTrees
+words_keep_trees c t ls g h = (
+  record { well_formed = h.well_formed; fits = fits_words c 0 (flat t) ls g h.fits },
+  λ s k lt. subst (λ (x : ℕ). x ≤ 32) (sym (open_same c 0 0 k (flat t) ls g h.fits)) (s k (omega (arith, lt, same_length c 0 ls))),
+)
+
+pub words_come_for_words : WordsComeForWords
+words_come_for_words c t ls g run h = are_words c run 0 (flat t) ls g h.fits
+
+pub edits_keep_trees : EditsKeepTrees
+edits_keep_trees c text tokens t g run r =
+    let ls = map (lexeme_at text) tokens in
+    let put = words_are_put text tokens c r.tokens_are (words_come_for_words c t ls g run r.spells) in
+    let kept = words_keep_trees c t ls g r.spells in (
+      put.0,
+      put.1,
+      put.2,
+      record {
+        tokens_are = put.2.lexed;
+        spells = subst (λ (s : List Lexeme). Spells t (classes 0 s)) (sym put.2.words) kept.0;
+        shallow = subst (λ (s : List Lexeme). IsShallow (classes 0 s)) (sym put.2.words) (kept.1 r.shallow);
+      },
+    )

@@ -1,0 +1,11 @@
+use Rattle.std.proofs.Common.{length}
+use Rattle.proto_tree.specs.declared.context.Context.TheVariants as context
+use Rattle.proto_tree.specs.Answer.{IsRead}
+use Rattle.proto_tree.specs.File.{trees, enum_item_tree}
+use Rattle.proto_tree.proofs.blocks.enum_items.Given as goal
+
+abbrev pub invariant-loop-items : goal.invariant-loop-items
+invariant-loop-items l = IsRead context.Enum l.tokens (trees enum_item_tree l.items.items) l.rest
+
+abbrev pub decreases-loop-items : goal.decreases-loop-items
+decreases-loop-items l = length l.rest

@@ -1,0 +1,22 @@
+use Rattle.std.proofs.Common.{List, [], ◌∷◌, ◌++◌, take, get_or, sym, ap, ◌∙◌}
+use Rattle.proto_text.specs.declared.kind.TokenKind.TheVariants as kind
+use Rattle.proto_text.specs.declared.lexer.Token.{Token}
+use Rattle.proto_tree.specs.declared.class.Lexeme.{Lexeme}
+use Rattle.proto_tree.specs.Words.{class_by}
+use Rattle.proto_tree.specs.Reads.{classed}
+use Rattle.proto_tree.proofs.ClassLemmas.{next_class}
+use Rattle.proto_tree.proofs.classing.lexemes.Goals as goal
+
+abbrev none : Token
+none = record { kind = kind.Word; span = record { start = 0; end = 0 } }
+
+pub loop-i-preserved : goal.loop-i-preserved
+loop-i-preserved c =
+    let text = c.args.source.now in
+    let tokens = c.args.tokens.now in
+    let i = c.loop-i.i in
+    let class = c.token_class-class.ensures ∙ ap (class_by (get_or tokens i none).kind) c.text.ensures in
+    c.in_ok-push.ensures.items
+    ∙ ap (λ (ls : List Lexeme). ls ++ record { class = c.token_class-class.result; at = i } ∷ []) c.loop-i.invariant
+    ∙ ap (λ k. classed text (take i tokens) ++ record { class = k; at = i } ∷ []) class
+    ∙ sym (next_class text i tokens none c.loop-i-test.true)

@@ -1,0 +1,222 @@
+-- The tokens of each part of a tree, in order: what each place wants, and the index that the tree holds there. This is the grammar.
+use Rattle.std.specs.Prelude.{◌≡◌, ℕ, true, List, [], ◌∷◌, ◌++◌, Option, Some, None}
+use Rattle.proto_tree.specs.declared.class.Class.{Class}
+use Rattle.proto_tree.specs.declared.class.Class.TheVariants as class
+use Rattle.proto_tree.specs.declared.class.Want.{Want}
+use Rattle.proto_tree.specs.declared.class.Want.TheVariants as want
+use Rattle.proto_tree.specs.declared.class.Lexeme.{Lexeme}
+use Rattle.proto_tree.specs.declared.tree.Behind.{Behind}
+use Rattle.proto_tree.specs.declared.tree.Separated.{Separated}
+use Rattle.proto_tree.specs.declared.tree.Reference.{Reference}
+use Rattle.proto_tree.specs.declared.tree.FieldType.{FieldType}
+use Rattle.proto_tree.specs.declared.tree.FieldType.TheVariants as field_type
+use Rattle.proto_tree.specs.declared.tree.Signed.{Signed}
+use Rattle.proto_tree.specs.declared.tree.Joined.{Joined}
+use Rattle.proto_tree.specs.declared.tree.Constant.{Constant}
+use Rattle.proto_tree.specs.declared.tree.Constant.TheVariants as constant
+use Rattle.proto_tree.specs.declared.tree.Setting.{Setting}
+use Rattle.proto_tree.specs.declared.tree.Settings.{Settings}
+use Rattle.proto_tree.specs.declared.tree.Syntax.{Syntax}
+use Rattle.proto_tree.specs.declared.tree.Import.{Import}
+use Rattle.proto_tree.specs.declared.tree.Package.{Package}
+use Rattle.proto_tree.specs.declared.tree.Option_.{Option_}
+use Rattle.proto_tree.specs.declared.tree.Field.{Field}
+use Rattle.proto_tree.specs.declared.tree.MapField.{MapField}
+use Rattle.proto_tree.specs.declared.tree.RangeEnd.{RangeEnd}
+use Rattle.proto_tree.specs.declared.tree.RangeEnd.TheVariants as range_end
+use Rattle.proto_tree.specs.declared.tree.UpTo.{UpTo}
+use Rattle.proto_tree.specs.declared.tree.Range.{Range}
+use Rattle.proto_tree.specs.declared.tree.ReservedList.{ReservedList}
+use Rattle.proto_tree.specs.declared.tree.ReservedList.TheVariants as reserved_list
+use Rattle.proto_tree.specs.declared.tree.Reserved.{Reserved}
+use Rattle.proto_tree.specs.declared.tree.Extensions.{Extensions}
+use Rattle.proto_tree.specs.declared.tree.Value.{Value}
+use Rattle.proto_tree.specs.declared.tree.MethodType.{MethodType}
+use Rattle.proto_tree.specs.declared.tree.Signature.{Signature}
+use Rattle.proto_tree.specs.declared.piece.Statement.{Statement}
+use Rattle.proto_tree.specs.declared.piece.Statement.TheVariants as statement
+use Rattle.proto_tree.specs.declared.piece.Heading.{Heading}
+use Rattle.proto_tree.specs.declared.piece.Header.{Header}
+use Rattle.proto_tree.specs.declared.piece.Header.TheVariants as header
+use Rattle.proto_tree.specs.declared.piece.Piece.{Piece}
+use Rattle.proto_tree.specs.declared.piece.Piece.TheVariants as piece
+use Rattle.proto_tree.specs.Classes.{fits}
+
+pub record Mark : Type 0 where
+  pub want : Want
+  pub at : ℕ
+
+abbrev pub mark : Want → ℕ → Mark
+mark w i = record { want = w; at = i }
+
+abbrev pub only : Want → ℕ → List Mark
+only w i = mark w i ∷ []
+
+abbrev pub one : Class → ℕ → List Mark
+one c i = only (want.One c) i
+
+abbrev pub word : ℕ → List Mark
+word i = only want.Word i
+
+abbrev pub text : ℕ → List Mark
+text i = only want.Text i
+
+-- the tokens are those of the marks: each is what is wanted, and has the index that the tree holds
+abbrev pub Fit : List Mark → List Lexeme → Type 0
+Fit [] [] = Unit {0}
+Fit [] (l ∷ ls) = ⊥
+Fit (m ∷ ms) [] = ⊥
+Fit (m ∷ ms) (l ∷ ls) = (fits m.want l.class ≡ true) × (l.at ≡ m.at) × Fit ms ls
+
+-- a part that may be left out
+abbrev pub flat_option : {A : Type 0} → (A → List Mark) → Option A → List Mark
+flat_option flat None = []
+flat_option flat (Some x) = flat x
+
+-- one after another
+abbrev pub flat_all : {A : Type 0} → (A → List Mark) → List A → List Mark
+flat_all flat [] = []
+flat_all flat (x ∷ xs) = flat x ++ flat_all flat xs
+
+abbrev pub flat_behind : {A : Type 0} → Class → (A → List Mark) → Behind A → List Mark
+flat_behind c flat b = one c b.separator ++ flat b.item
+
+-- the first item may want something else than the others
+abbrev pub flat_from : {A : Type 0} → Class → (A → List Mark) → (A → List Mark) → Separated A → List Mark
+flat_from c first flat s = first s.first ++ flat_all (flat_behind c flat) s.rest
+
+abbrev pub flat_separated : {A : Type 0} → Class → (A → List Mark) → Separated A → List Mark
+flat_separated c flat s = flat_from c flat flat s
+
+-- ---- names and types
+
+abbrev pub flat_dotted : Separated ℕ → List Mark
+flat_dotted d = flat_separated class.Dot word d
+
+-- after a dot any word, else one that isn't listed
+abbrev pub flat_words : Option ℕ → Separated ℕ → List Mark
+flat_words None d = flat_from class.Dot (one class.Name) word d
+flat_words (Some i) d = one class.Dot i ++ flat_dotted d
+
+abbrev pub flat_reference : Reference → List Mark
+flat_reference r = flat_words r.dot r.words
+
+abbrev pub flat_type : FieldType → List Mark
+flat_type (field_type.Scalar i) = one class.Scalar i
+flat_type (field_type.Reference r) = flat_reference r
+
+-- ---- options
+
+abbrev pub flat_number : ℕ → List Mark
+flat_number i = one class.Number i
+
+abbrev pub flat_signed : Signed → List Mark
+flat_signed n = flat_option (one class.Minus) n.minus ++ one class.Number n.number
+
+abbrev pub flat_joined : Joined → List Mark
+flat_joined t = text t.first ++ flat_all text t.rest
+
+abbrev pub flat_constant : Constant → List Mark
+flat_constant (constant.Word i) = word i
+flat_constant (constant.Number n) = flat_signed n
+flat_constant (constant.Text t) = flat_joined t
+
+abbrev pub flat_setting : Setting → List Mark
+flat_setting s = word s.name ++ (one class.Equals s.equals ++ flat_constant s.value)
+
+abbrev pub flat_settings : Settings → List Mark
+flat_settings s = one class.LeftBracket s.open ++ (flat_separated class.Comma flat_setting s.list ++ one class.RightBracket s.close)
+
+abbrev pub flat_option_statement : Option_ → List Mark
+flat_option_statement o = one class.Option o.keyword ++ (word o.name ++ (one class.Equals o.equals ++ (flat_constant o.value ++ one class.Semicolon o.semicolon)))
+
+-- ---- statements of a file
+
+abbrev pub flat_syntax : Syntax → List Mark
+flat_syntax s = one class.Syntax s.keyword ++ (one class.Equals s.equals ++ (one class.ProtoText s.text ++ one class.Semicolon s.semicolon))
+
+abbrev pub flat_import : Import → List Mark
+flat_import i = one class.Import i.keyword ++ (flat_option (one class.Public) i.public ++ (text i.path ++ one class.Semicolon i.semicolon))
+
+abbrev pub flat_package : Package → List Mark
+flat_package p = one class.Package p.keyword ++ (flat_dotted p.name ++ one class.Semicolon p.semicolon)
+
+-- ---- statements of a message
+
+abbrev pub flat_field : Field → List Mark
+flat_field f =
+    flat_option (only want.Label) f.label
+    ++ (flat_type f.kind ++ (word f.name ++ (one class.Equals f.equals ++ (one class.Number f.number ++ (flat_option flat_settings f.settings ++ one class.Semicolon f.semicolon)))))
+
+abbrev pub flat_map_field : MapField → List Mark
+flat_map_field f =
+    one class.Map f.keyword
+    ++ (one class.Less f.open ++ (one class.Scalar f.key ++ (one class.Comma f.comma ++ (flat_type f.value ++ (one class.Greater f.close
+    ++ (word f.name ++ (one class.Equals f.equals ++ (one class.Number f.number ++ (flat_option flat_settings f.settings ++ one class.Semicolon f.semicolon)))))))))
+
+abbrev pub flat_range_end : {N : Type 0} → (N → List Mark) → RangeEnd N → List Mark
+flat_range_end flat (range_end.Number n) = flat n
+flat_range_end flat (range_end.Max i) = one class.Max i
+
+abbrev pub flat_up_to : {N : Type 0} → (N → List Mark) → UpTo N → List Mark
+flat_up_to flat u = one class.To u.to ++ flat_range_end flat u.end
+
+abbrev pub flat_range : {N : Type 0} → (N → List Mark) → Range N → List Mark
+flat_range flat r = flat r.first ++ flat_option (flat_up_to flat) r.up_to
+
+abbrev pub flat_ranges : {N : Type 0} → (N → List Mark) → Separated (Range N) → List Mark
+flat_ranges flat r = flat_separated class.Comma (flat_range flat) r
+
+abbrev pub flat_reserved_list : {N : Type 0} → (N → List Mark) → ReservedList N → List Mark
+flat_reserved_list flat (reserved_list.Names names) = flat_separated class.Comma text names
+flat_reserved_list flat (reserved_list.Ranges ranges) = flat_ranges flat ranges
+
+abbrev pub flat_reserved : {N : Type 0} → (N → List Mark) → Reserved N → List Mark
+flat_reserved flat r = one class.Reserved r.keyword ++ (flat_reserved_list flat r.list ++ one class.Semicolon r.semicolon)
+
+abbrev pub flat_extensions : Extensions → List Mark
+flat_extensions e = one class.Extensions e.keyword ++ (flat_ranges flat_number e.ranges ++ one class.Semicolon e.semicolon)
+
+-- ---- statements of an enum and of a service
+
+abbrev pub flat_value : Value → List Mark
+flat_value v =
+    only want.ValueName v.name ++ (one class.Equals v.equals ++ (flat_signed v.number ++ (flat_option flat_settings v.settings ++ one class.Semicolon v.semicolon)))
+
+abbrev pub flat_method_type : MethodType → List Mark
+flat_method_type t = one class.LeftParenthesis t.open ++ (flat_option (one class.Stream) t.stream ++ (flat_reference t.reference ++ one class.RightParenthesis t.close))
+
+abbrev pub flat_signature : Signature → List Mark
+flat_signature s = one class.Rpc s.keyword ++ (word s.name ++ (flat_method_type s.input ++ (one class.Returns s.returns ++ flat_method_type s.output)))
+
+-- ---- pieces
+
+abbrev pub flat_statement : Statement → List Mark
+flat_statement (statement.Syntax s) = flat_syntax s
+flat_statement (statement.Import i) = flat_import i
+flat_statement (statement.Package p) = flat_package p
+flat_statement (statement.Option o) = flat_option_statement o
+flat_statement (statement.Field f) = flat_field f
+flat_statement (statement.MapField f) = flat_map_field f
+flat_statement (statement.Reserved r) = flat_reserved flat_number r
+flat_statement (statement.Extensions e) = flat_extensions e
+flat_statement (statement.Value v) = flat_value v
+flat_statement (statement.EnumReserved r) = flat_reserved flat_signed r
+flat_statement (statement.Method s i) = flat_signature s ++ one class.Semicolon i
+flat_statement (statement.Empty i) = one class.Semicolon i
+
+abbrev pub flat_heading : Class → Heading → List Mark
+flat_heading c h = one c h.keyword ++ word h.name
+
+abbrev pub flat_header : Header → List Mark
+flat_header (header.Message h) = flat_heading class.Message h
+flat_header (header.Oneof h) = flat_heading class.Oneof h
+flat_header (header.Enum h) = flat_heading class.Enum h
+flat_header (header.Service h) = flat_heading class.Service h
+flat_header (header.Method s) = flat_signature s
+
+-- a statement, or what begins or ends a block
+abbrev pub flat_piece : Piece → List Mark
+flat_piece (piece.Statement s) = flat_statement s
+flat_piece (piece.Open h i) = flat_header h ++ one class.Open i
+flat_piece (piece.Close i) = one class.Close i

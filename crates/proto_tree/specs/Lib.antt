@@ -1,0 +1,13 @@
+pub mod Classes
+pub mod Words
+pub mod Flat
+pub mod Tree
+pub mod File
+pub mod Place
+pub mod Reading
+pub mod Walk
+pub mod Answer
+pub mod Reads
+pub mod Laws
+pub mod Moved
+pub mod Replaced

@@ -1,0 +1,247 @@
+//! Reading blocks: what stands between two braces, and the second brace.
+
+ghost use Rattle.std.specs.Prelude.{◌≡◌, [], ◌∷◌, ◌++◌, MatchResult, true};
+ghost use Rattle.proto_tree.specs.Answer.{FaultOf, FoundIn, IsBody, IsMet, braced};
+ghost use Rattle.proto_tree.specs.File.{method_item_tree, service_item_tree, enum_item_tree, field_tree, member_tree, trees};
+ghost use Rattle.proto_tree.specs.Tree.{allows};
+
+use crate::class::Lexeme;
+use crate::context::{Context, Kind};
+use crate::items::{enum_item_of, member_of, method_item_of, oneof_field_of, service_item_of};
+use crate::piece::{Header, Heading, Piece};
+use crate::pieces::any_piece;
+use crate::reading::Stop;
+use crate::tree::{Block, EnumItem, Field, Member, Method, MethodEnd, MethodItem, ServiceItem};
+use std::alloc::Global;
+
+/// Why a file was not read: for want of memory, or how many tokens are left where it goes wrong.
+#[derive(Clone, Copy)]
+pub enum Fault {
+    Memory,
+    Syntax(usize),
+}
+
+/// What was met in a block: an item of it, or the brace that ends it.
+#[derive(Drop)]
+pub enum Found<T: Drop> {
+    Item(T),
+    Close(u32),
+}
+
+pub fn push<T: Drop>(items: &mut Vec<T>, item: T) -> Result<(), Fault>
+    ensures { MatchResult result (λ _. items.new.items ≡ items.old.items ++ item ∷ []) (λ e. e ≡ Fault.Memory) }
+{
+    match items.push(item) {
+        Ok(()) => Ok(()),
+        Err(_) => Err(Fault::Memory),
+    }
+}
+
+pub fn block<T: Drop>(heading: Heading, open: u32, members: Vec<T>, close: u32) -> Block<T>
+    ensures { result ≡ braced heading «open» members close }
+{
+    Block {
+        keyword: heading.keyword,
+        name: heading.name,
+        open,
+        members,
+        close,
+    }
+}
+
+/// The next piece, wherever it may stand.
+pub fn next_piece(
+    alloc: Global,
+    context: Context,
+    tokens: &[Lexeme],
+) -> Result<(Piece, &[Lexeme]), Fault>
+    requires { tokens.now ≡ [] → allows context Kind.Close ≡ true }
+    ensures { MatchResult result (λ x. IsMet context tokens.now x.0 x.1.now) (FaultOf context tokens.now) }
+{
+    match any_piece(alloc, context, tokens) {
+        Ok(found) => Ok(found),
+        Err(Stop::Memory) => Err(Fault::Memory),
+        Err(Stop::Syntax) => Err(Fault::Syntax(tokens.len())),
+    }
+}
+
+fn method_item(alloc: Global, tokens: &[Lexeme]) -> Result<(Found<MethodItem>, &[Lexeme]), Fault>
+    ensures { MatchResult result (λ x. FoundIn Context.Method method_item_tree tokens.now x.0 x.1.now) (FaultOf Context.Method tokens.now) }
+{
+    let (piece, rest) = next_piece(alloc, Context::Method, tokens)?;
+    match piece {
+        Piece::Statement(statement) => match method_item_of(statement) {
+            Some(item) => Ok((Found::Item(item), rest)),
+            None => Err(Fault::Syntax(tokens.len())),
+        },
+        Piece::Open(_, _) => Err(Fault::Syntax(tokens.len())),
+        Piece::Close(close) => Ok((Found::Close(close), rest)),
+    }
+}
+
+fn method_items(
+    alloc: Global,
+    tokens: &[Lexeme],
+) -> Result<(Vec<MethodItem>, u32, &[Lexeme]), Fault>
+    ensures { MatchResult result (λ x. IsBody Context.Method tokens.now (trees method_item_tree x.0.items) x.1 x.2.now) (FaultOf Context.Method tokens.now) }
+{
+    let mut items = Vec::new(alloc);
+    let mut rest = tokens;
+    loop {
+        let (found, after) = method_item(alloc, rest)?;
+        match found {
+            Found::Close(close) => return Ok((items, close, after)),
+            Found::Item(item) => push(&mut items, item)?,
+        }
+        rest = after;
+    }
+}
+
+fn service_item(alloc: Global, tokens: &[Lexeme]) -> Result<(Found<ServiceItem>, &[Lexeme]), Fault>
+    ensures { MatchResult result (λ x. FoundIn Context.Service service_item_tree tokens.now x.0 x.1.now) (FaultOf Context.Service tokens.now) }
+{
+    let (piece, rest) = next_piece(alloc, Context::Service, tokens)?;
+    match piece {
+        Piece::Statement(statement) => match service_item_of(statement) {
+            Some(item) => Ok((Found::Item(item), rest)),
+            None => Err(Fault::Syntax(tokens.len())),
+        },
+        Piece::Open(header, open) => match header {
+            Header::Method(signature) => {
+                let (items, close, rest) = method_items(alloc, rest)?;
+                let end = MethodEnd::Block { open, items, close };
+                let method = Method { signature, end };
+                Ok((Found::Item(ServiceItem::Method(method)), rest))
+            }
+            _ => Err(Fault::Syntax(tokens.len())),
+        },
+        Piece::Close(close) => Ok((Found::Close(close), rest)),
+    }
+}
+
+pub fn service_items(
+    alloc: Global,
+    tokens: &[Lexeme],
+) -> Result<(Vec<ServiceItem>, u32, &[Lexeme]), Fault>
+    ensures { MatchResult result (λ x. IsBody Context.Service tokens.now (trees service_item_tree x.0.items) x.1 x.2.now) (FaultOf Context.Service tokens.now) }
+{
+    let mut items = Vec::new(alloc);
+    let mut rest = tokens;
+    loop {
+        let (found, after) = service_item(alloc, rest)?;
+        match found {
+            Found::Close(close) => return Ok((items, close, after)),
+            Found::Item(item) => push(&mut items, item)?,
+        }
+        rest = after;
+    }
+}
+
+fn enum_item(alloc: Global, tokens: &[Lexeme]) -> Result<(Found<EnumItem>, &[Lexeme]), Fault>
+    ensures { MatchResult result (λ x. FoundIn Context.Enum enum_item_tree tokens.now x.0 x.1.now) (FaultOf Context.Enum tokens.now) }
+{
+    let (piece, rest) = next_piece(alloc, Context::Enum, tokens)?;
+    match piece {
+        Piece::Statement(statement) => match enum_item_of(statement) {
+            Some(item) => Ok((Found::Item(item), rest)),
+            None => Err(Fault::Syntax(tokens.len())),
+        },
+        Piece::Open(_, _) => Err(Fault::Syntax(tokens.len())),
+        Piece::Close(close) => Ok((Found::Close(close), rest)),
+    }
+}
+
+pub fn enum_items(
+    alloc: Global,
+    tokens: &[Lexeme],
+) -> Result<(Vec<EnumItem>, u32, &[Lexeme]), Fault>
+    ensures { MatchResult result (λ x. IsBody Context.Enum tokens.now (trees enum_item_tree x.0.items) x.1 x.2.now) (FaultOf Context.Enum tokens.now) }
+{
+    let mut items = Vec::new(alloc);
+    let mut rest = tokens;
+    loop {
+        let (found, after) = enum_item(alloc, rest)?;
+        match found {
+            Found::Close(close) => return Ok((items, close, after)),
+            Found::Item(item) => push(&mut items, item)?,
+        }
+        rest = after;
+    }
+}
+
+fn oneof_field(alloc: Global, tokens: &[Lexeme]) -> Result<(Found<Field>, &[Lexeme]), Fault>
+    ensures { MatchResult result (λ x. FoundIn Context.Oneof field_tree tokens.now x.0 x.1.now) (FaultOf Context.Oneof tokens.now) }
+{
+    let (piece, rest) = next_piece(alloc, Context::Oneof, tokens)?;
+    match piece {
+        Piece::Statement(statement) => match oneof_field_of(statement) {
+            Some(item) => Ok((Found::Item(item), rest)),
+            None => Err(Fault::Syntax(tokens.len())),
+        },
+        Piece::Open(_, _) => Err(Fault::Syntax(tokens.len())),
+        Piece::Close(close) => Ok((Found::Close(close), rest)),
+    }
+}
+
+fn oneof_fields(alloc: Global, tokens: &[Lexeme]) -> Result<(Vec<Field>, u32, &[Lexeme]), Fault>
+    ensures { MatchResult result (λ x. IsBody Context.Oneof tokens.now (trees field_tree x.0.items) x.1 x.2.now) (FaultOf Context.Oneof tokens.now) }
+{
+    let mut items = Vec::new(alloc);
+    let mut rest = tokens;
+    loop {
+        let (found, after) = oneof_field(alloc, rest)?;
+        match found {
+            Found::Close(close) => return Ok((items, close, after)),
+            Found::Item(item) => push(&mut items, item)?,
+        }
+        rest = after;
+    }
+}
+
+#[cycle(messages)]
+fn member(alloc: Global, tokens: &[Lexeme]) -> Result<(Found<Member>, &[Lexeme]), Fault>
+    ensures { MatchResult result (λ x. FoundIn Context.Message member_tree tokens.now x.0 x.1.now) (FaultOf Context.Message tokens.now) }
+{
+    let (piece, rest) = next_piece(alloc, Context::Message, tokens)?;
+    match piece {
+        Piece::Statement(statement) => match member_of(statement) {
+            Some(item) => Ok((Found::Item(item), rest)),
+            None => Err(Fault::Syntax(tokens.len())),
+        },
+        Piece::Open(header, open) => match header {
+            Header::Message(heading) => {
+                let (items, close, rest) = members(alloc, rest)?;
+                let message = block(heading, open, items, close);
+                Ok((Found::Item(Member::Message(message)), rest))
+            }
+            Header::Oneof(heading) => {
+                let (items, close, rest) = oneof_fields(alloc, rest)?;
+                let oneof = block(heading, open, items, close);
+                Ok((Found::Item(Member::Oneof(oneof)), rest))
+            }
+            Header::Enum(heading) => {
+                let (items, close, rest) = enum_items(alloc, rest)?;
+                let nested = block(heading, open, items, close);
+                Ok((Found::Item(Member::Enum(nested)), rest))
+            }
+            _ => Err(Fault::Syntax(tokens.len())),
+        },
+        Piece::Close(close) => Ok((Found::Close(close), rest)),
+    }
+}
+
+#[cycle(messages)]
+pub fn members(alloc: Global, tokens: &[Lexeme]) -> Result<(Vec<Member>, u32, &[Lexeme]), Fault>
+    ensures { MatchResult result (λ x. IsBody Context.Message tokens.now (trees member_tree x.0.items) x.1 x.2.now) (FaultOf Context.Message tokens.now) }
+{
+    let mut items = Vec::new(alloc);
+    let mut rest = tokens;
+    loop {
+        let (found, after) = member(alloc, rest)?;
+        match found {
+            Found::Close(close) => return Ok((items, close, after)),
+            Found::Item(item) => push(&mut items, item)?,
+        }
+        rest = after;
+    }
+}

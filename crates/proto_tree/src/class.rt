@@ -1,0 +1,129 @@
+//! Tokens as the grammar sees them.
+
+ghost use Rattle.std.specs.Prelude.{◌≡◌};
+ghost use Rattle.proto_tree.specs.Classes.{is_word as word, is_value_name as value_name, is_label as label, is_text as text, fits};
+
+/// What the grammar knows of a token.
+#[derive(Clone, Copy)]
+pub enum Class {
+    Syntax,
+    Import,
+    Public,
+    Package,
+    Option,
+    Message,
+    Enum,
+    Service,
+    Rpc,
+    Returns,
+    Stream,
+    Oneof,
+    Map,
+    Reserved,
+    Extensions,
+    Extend,
+    Optional,
+    Required,
+    Repeated,
+    To,
+    Max,
+    /// The word of a scalar type.
+    Scalar,
+    /// A listed word that no statement has.
+    OtherListed,
+    /// A word that is not listed.
+    Name,
+    Number,
+    /// A string whose value is `proto2` or `proto3`.
+    ProtoText,
+    OtherText,
+    Open,
+    Close,
+    LeftBracket,
+    RightBracket,
+    LeftParenthesis,
+    RightParenthesis,
+    Less,
+    Greater,
+    Semicolon,
+    Comma,
+    Equals,
+    Dot,
+    Minus,
+    Other,
+}
+
+/// A token: its class and its index.
+#[derive(Clone, Copy)]
+pub struct Lexeme {
+    pub class: Class,
+    pub at: u32,
+}
+
+/// What the grammar may want at a place.
+#[derive(Clone, Copy)]
+pub enum Want {
+    One(Class),
+    Word,
+    /// A word that may name an enum value.
+    ValueName,
+    Label,
+    Text,
+}
+
+impl Class {
+    fn is_word(self) -> bool
+        ensures { result ≡ word self }
+    {
+        match self {
+            Class::Number | Class::ProtoText | Class::OtherText => false,
+            Class::Open | Class::Close | Class::LeftBracket | Class::RightBracket => false,
+            Class::LeftParenthesis | Class::RightParenthesis => false,
+            Class::Less | Class::Greater | Class::Semicolon | Class::Comma => false,
+            Class::Equals | Class::Dot | Class::Minus | Class::Other => false,
+            _ => true,
+        }
+    }
+
+    fn is_value_name(self) -> bool
+        ensures { result ≡ value_name self }
+    {
+        match self {
+            Class::Option | Class::Reserved => false,
+            class => class.is_word(),
+        }
+    }
+
+    fn is_label(self) -> bool
+        ensures { result ≡ label self }
+    {
+        match self {
+            Class::Optional | Class::Required | Class::Repeated => true,
+            _ => false,
+        }
+    }
+
+    fn is_text(self) -> bool
+        ensures { result ≡ text self }
+    {
+        match self {
+            Class::ProtoText | Class::OtherText => true,
+            _ => false,
+        }
+    }
+}
+
+impl Want {
+    /// Whether a token of this class is what is wanted.
+    pub fn fits(self, class: Class) -> bool
+        ensures { result ≡ fits self class }
+    {
+        match self {
+            Want::One(wanted) => wanted as u8 == class as u8,
+            Want::Word => class.is_word(),
+            Want::ValueName => class.is_value_name(),
+            Want::Label => class.is_label(),
+            Want::Text => class.is_text(),
+        }
+    }
+}

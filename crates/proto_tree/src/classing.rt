@@ -1,0 +1,37 @@
+//! The tokens of a text as the grammar sees them.
+
+ghost use Rattle.std.specs.Prelude.{◌≡◌, ◌≤◌, All, IfOk, length};
+ghost use Rattle.proto_text.specs.SourceFacts.{IsSpan};
+ghost use Rattle.proto_tree.specs.Reads.{classed, place_at};
+
+use crate::class::Lexeme;
+use crate::words::token_class;
+use proto_text::{Source, Token};
+use std::alloc::{AllocError, Global};
+
+/// The class of each token, with its index.
+pub fn lexemes(alloc: Global, source: &Source, tokens: &[Token]) -> Result<Vec<Lexeme>, AllocError>
+    requires spans { All (λ t. IsSpan source.now t.span) tokens.now }
+    requires few { length tokens.now ≤ 1048576 }
+    ensures { IfOk result (λ found. found.items ≡ classed source.now tokens.now) }
+{
+    let mut found = Vec::new(alloc);
+    for (i, token) in tokens.iter().enumerate() {
+        let class = token_class(token.kind, source.text(token.span));
+        found.push(Lexeme {
+            class,
+            at: i as u32,
+        })?;
+    }
+    Ok(found)
+}
+
+/// Where the token with an index begins, or the text ends.
+pub fn place(source: &Source, tokens: &[Token], at: usize) -> u32
+    ensures { result ≡ place_at source.now tokens.now at }
+{
+    if at < tokens.len() {
+        return tokens[at].span.start;
+    }
+    source.as_bytes().len() as u32
+}

@@ -1,0 +1,123 @@
+//! Reading a file.
+
+ghost use Rattle.std.specs.Prelude.{◌≡◌, ◌≢◌, [], IfOk, IfErr, MatchResult, MatchOption};
+ghost use Rattle.proto_tree.specs.Answer.{FaultOf, IsItemBefore, IsOuter, IsUnread};
+ghost use Rattle.proto_tree.specs.File.{item_tree, trees, tree_of_file};
+ghost use Rattle.proto_tree.specs.Place.{IsShallow, IsTooDeep};
+ghost use Rattle.proto_tree.specs.Tree.{Tree, Spells};
+
+use crate::blocks::{Fault, block, enum_items, members, next_piece, push, service_items};
+use crate::class::{Class, Lexeme};
+use crate::context::{Context, kind_of};
+use crate::items::item_of;
+use crate::piece::{Header, Piece};
+use crate::tree::{File, Item};
+use std::alloc::Global;
+
+/// An item that may stand here, and where what follows it stands.
+fn item(
+    alloc: Global,
+    context: Context,
+    tokens: &[Lexeme],
+) -> Result<(Item, Context, &[Lexeme]), Fault>
+    requires outer { IsOuter context }
+    requires some { tokens.now ≢ [] }
+    ensures { MatchResult result (λ x. IsItemBefore context tokens.now (item_tree x.0) x.1 x.2.now) (FaultOf context tokens.now) }
+{
+    let (piece, rest) = next_piece(alloc, context, tokens)?;
+    let kind = kind_of(&piece);
+    if !context.allows(kind) {
+        return Err(Fault::Syntax(tokens.len()));
+    }
+    match piece {
+        Piece::Statement(statement) => match item_of(statement) {
+            Some(item) => Ok((item, context.after(kind), rest)),
+            None => Err(Fault::Syntax(tokens.len())),
+        },
+        Piece::Open(header, open) => match header {
+            Header::Message(heading) => {
+                let (items, close, rest) = members(alloc, rest)?;
+                let message = block(heading, open, items, close);
+                Ok((Item::Message(message), context.after(kind), rest))
+            }
+            Header::Enum(heading) => {
+                let (items, close, rest) = enum_items(alloc, rest)?;
+                let found = block(heading, open, items, close);
+                Ok((Item::Enum(found), context.after(kind), rest))
+            }
+            Header::Service(heading) => {
+                let (items, close, rest) = service_items(alloc, rest)?;
+                let service = block(heading, open, items, close);
+                Ok((Item::Service(service), context.after(kind), rest))
+            }
+            _ => Err(Fault::Syntax(tokens.len())),
+        },
+        Piece::Close(_) => Err(Fault::Syntax(tokens.len())),
+    }
+}
+
+/// All items of a file.
+fn items(alloc: Global, tokens: &[Lexeme]) -> Result<Vec<Item>, Fault>
+    ensures { MatchResult result (λ xs. Spells (trees item_tree xs.items) tokens.now) (FaultOf Context.Start tokens.now) }
+{
+    let mut items = Vec::new(alloc);
+    let mut context = Context::Start;
+    let mut rest = tokens;
+    while !rest.is_empty() {
+        let (found, next, after) = item(alloc, context, rest)?;
+        push(&mut items, found)?;
+        context = next;
+        rest = after;
+    }
+    Ok(items)
+}
+
+/// How many braces may be open at once.
+const LIMIT: u32 = 32;
+
+/// The first brace that is one too many.
+fn too_deep(tokens: &[Lexeme]) -> Option<usize>
+    ensures { MatchOption result (IsShallow tokens.now) (IsTooDeep tokens.now) }
+{
+    let mut depth: u32 = 0;
+    for (i, token) in tokens.iter().enumerate() {
+        match token.class {
+            Class::Open => {
+                if depth == LIMIT {
+                    return Some(i);
+                }
+                depth += 1;
+            }
+            Class::Close => depth = depth.saturating_sub(1),
+            _ => {}
+        }
+    }
+    None
+}
+
+/// Why there is no tree: the index of a token, or how many there are.
+#[derive(Clone, Copy)]
+pub enum Unread {
+    Syntax(usize),
+    TooDeep(usize),
+    Memory,
+}
+
+/// The tree of a file.
+pub fn file(alloc: Global, tokens: &[Lexeme]) -> Result<File, Unread>
+    // The answered tree is well-formed and has these tokens, and no more than 32 braces are open at once.
+    ensures found { IfOk result (λ f. Spells (tree_of_file f) tokens.now × IsShallow tokens.now) }
+    // There is no other.
+    ensures only { IfOk result (λ f. (t : Tree) → Spells t tokens.now → t ≡ tree_of_file f) }
+    // Where there is none, or too many braces are open, which fault it is, and where.
+    ensures fault { IfErr result (IsUnread tokens.now) }
+{
+    if let Some(at) = too_deep(tokens) {
+        return Err(Unread::TooDeep(at));
+    }
+    match items(alloc, tokens) {
+        Ok(items) => Ok(File { items }),
+        Err(Fault::Memory) => Err(Unread::Memory),
+        Err(Fault::Syntax(left)) => Err(Unread::Syntax(tokens.len() - left)),
+    }
+}

@@ -1,0 +1,52 @@
+//! Reading names and types.
+
+ghost use Rattle.std.specs.Prelude.{◌≡◌};
+ghost use Rattle.proto_tree.specs.Reading.{Gives, dotted_at, named_at, reference_at, type_at};
+
+use crate::class::{Class, Lexeme, Want};
+use crate::reading::{Stop, one, separated, starts};
+use crate::tree::{Dotted, FieldType, Reference};
+use std::alloc::Global;
+
+pub fn dotted(alloc: Global, rest: &[Lexeme]) -> Result<(Dotted, &[Lexeme]), Stop>
+    ensures { Gives (λ x. (x.0, x.1.now)) result (dotted_at rest.now) }
+{
+    separated(alloc, rest, Class::Dot, Want::Word, Want::Word)
+}
+
+fn named(alloc: Global, rest: &[Lexeme]) -> Result<(Dotted, &[Lexeme]), Stop>
+    ensures { Gives (λ x. (x.0, x.1.now)) result (named_at rest.now) }
+{
+    separated(alloc, rest, Class::Dot, Want::One(Class::Name), Want::Word)
+}
+
+#[tactic(auto, unfolding(crate::specs::Reading::reference_at))]
+pub fn reference(alloc: Global, rest: &[Lexeme]) -> Result<(Reference, &[Lexeme]), Stop>
+    ensures { Gives (λ x. (x.0, x.1.now)) result (reference_at rest.now) }
+{
+    if starts(rest, Want::One(Class::Dot)) {
+        let (dot, rest) = one(rest, Class::Dot)?;
+        let (words, rest) = dotted(alloc, rest)?;
+        return Ok((
+            Reference {
+                dot: Some(dot),
+                words,
+            },
+            rest,
+        ));
+    }
+    let (words, rest) = named(alloc, rest)?;
+    Ok((Reference { dot: None, words }, rest))
+}
+
+#[tactic(auto, unfolding(crate::specs::Reading::type_at))]
+pub fn field_type(alloc: Global, rest: &[Lexeme]) -> Result<(FieldType, &[Lexeme]), Stop>
+    ensures { Gives (λ x. (x.0, x.1.now)) result (type_at rest.now) }
+{
+    if starts(rest, Want::One(Class::Scalar)) {
+        let (word, rest) = one(rest, Class::Scalar)?;
+        return Ok((FieldType::Scalar(word), rest));
+    }
+    let (words, rest) = reference(alloc, rest)?;
+    Ok((FieldType::Reference(words), rest))
+}

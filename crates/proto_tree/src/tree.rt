@@ -1,0 +1,300 @@
+//! The tree of a file. Each token of the file has its index, from 0, in a named field; no text is kept.
+
+use crate::list::Sequence;
+
+/// A separator and what stands behind it.
+#[derive(Drop)]
+pub struct Behind<T: Drop> {
+    pub separator: u32,
+    pub item: T,
+}
+
+/// One or more items with a separator between each two.
+#[derive(Drop)]
+pub struct Separated<T: Drop> {
+    pub first: T,
+    pub rest: Sequence<Behind<T>>,
+}
+
+/// Words joined by dots.
+pub type Dotted = Separated<u32>;
+
+/// The name of a message or an enum, with the dot before it where there is one. One without it begins with no listed word.
+#[derive(Drop)]
+pub struct Reference {
+    pub dot: Option<u32>,
+    pub words: Dotted,
+}
+
+/// The type of a field: the word of a scalar type, or a reference.
+#[derive(Drop)]
+pub enum FieldType {
+    Scalar(u32),
+    Reference(Reference),
+}
+
+/// A number, with the `-` before it where there is one.
+#[derive(Clone, Copy)]
+pub struct Signed {
+    pub minus: Option<u32>,
+    pub number: u32,
+}
+
+/// Strings that join to one text.
+#[derive(Drop)]
+pub struct Joined {
+    pub first: u32,
+    pub rest: Sequence<u32>,
+}
+
+/// The value of an option.
+#[derive(Drop)]
+pub enum Constant {
+    Word(u32),
+    Number(Signed),
+    Text(Joined),
+}
+
+/// `name = value`, between brackets.
+#[derive(Drop)]
+pub struct Setting {
+    pub name: u32,
+    pub equals: u32,
+    pub value: Constant,
+}
+
+/// `[name = value, ..]`
+#[derive(Drop)]
+pub struct Settings {
+    pub open: u32,
+    pub list: Separated<Setting>,
+    pub close: u32,
+}
+
+/// `syntax = "proto3";`
+#[derive(Clone, Copy)]
+pub struct Syntax {
+    pub keyword: u32,
+    pub equals: u32,
+    pub text: u32,
+    pub semicolon: u32,
+}
+
+/// `import public "path";`
+#[derive(Clone, Copy)]
+pub struct Import {
+    pub keyword: u32,
+    pub public: Option<u32>,
+    pub path: u32,
+    pub semicolon: u32,
+}
+
+/// `package a.b;`
+#[derive(Drop)]
+pub struct Package {
+    pub keyword: u32,
+    pub name: Dotted,
+    pub semicolon: u32,
+}
+
+/// `option name = value;`
+#[derive(Drop)]
+pub struct Option_ {
+    pub keyword: u32,
+    pub name: u32,
+    pub equals: u32,
+    pub value: Constant,
+    pub semicolon: u32,
+}
+
+/// `repeated Type name = 1 [settings];` A field of a oneof has no label.
+#[derive(Drop)]
+pub struct Field {
+    pub label: Option<u32>,
+    pub kind: FieldType,
+    pub name: u32,
+    pub equals: u32,
+    pub number: u32,
+    pub settings: Option<Settings>,
+    pub semicolon: u32,
+}
+
+/// `map<key, Type> name = 1 [settings];`
+#[derive(Drop)]
+pub struct MapField {
+    pub keyword: u32,
+    pub open: u32,
+    pub key: u32,
+    pub comma: u32,
+    pub value: FieldType,
+    pub close: u32,
+    pub name: u32,
+    pub equals: u32,
+    pub number: u32,
+    pub settings: Option<Settings>,
+    pub semicolon: u32,
+}
+
+/// The last number of a range, or `max`.
+#[derive(Drop)]
+pub enum RangeEnd<N: Drop> {
+    Number(N),
+    Max(u32),
+}
+
+/// `to` and the end of a range.
+#[derive(Drop)]
+pub struct UpTo<N: Drop> {
+    pub to: u32,
+    pub end: RangeEnd<N>,
+}
+
+/// A number, or a range of numbers.
+#[derive(Drop)]
+pub struct Range<N: Drop> {
+    pub first: N,
+    pub up_to: Option<UpTo<N>>,
+}
+
+#[derive(Drop)]
+pub enum ReservedList<N: Drop> {
+    Names(Separated<u32>),
+    Ranges(Separated<Range<N>>),
+}
+
+/// `reserved 1, 3 to max;` or `reserved "a", "b";` The numbers of a message are `u32`, those of an enum `Signed`.
+#[derive(Drop)]
+pub struct Reserved<N: Drop> {
+    pub keyword: u32,
+    pub list: ReservedList<N>,
+    pub semicolon: u32,
+}
+
+/// `extensions 100 to max;`
+#[derive(Drop)]
+pub struct Extensions {
+    pub keyword: u32,
+    pub ranges: Separated<Range<u32>>,
+    pub semicolon: u32,
+}
+
+/// A value of an enum: `NAME = -1 [settings];`
+#[derive(Drop)]
+pub struct Value {
+    pub name: u32,
+    pub equals: u32,
+    pub number: Signed,
+    pub settings: Option<Settings>,
+    pub semicolon: u32,
+}
+
+/// `(stream Type)`
+#[derive(Drop)]
+pub struct MethodType {
+    pub open: u32,
+    pub stream: Option<u32>,
+    pub reference: Reference,
+    pub close: u32,
+}
+
+/// `rpc Name (Input) returns (Output)`
+#[derive(Drop)]
+pub struct Signature {
+    pub keyword: u32,
+    pub name: u32,
+    pub input: MethodType,
+    pub returns: u32,
+    pub output: MethodType,
+}
+
+/// What ends a method: a `;`, or a block of options.
+#[derive(Drop)]
+pub enum MethodEnd {
+    Semicolon(u32),
+    Block {
+        open: u32,
+        items: Vec<MethodItem>,
+        close: u32,
+    },
+}
+
+#[derive(Drop)]
+pub struct Method {
+    pub signature: Signature,
+    pub end: MethodEnd,
+}
+
+/// What stands in the block of a method.
+#[derive(Drop)]
+pub enum MethodItem {
+    Option(Option_),
+    Empty(u32),
+}
+
+/// A keyword, a name, and what stands between braces.
+#[derive(Drop)]
+pub struct Block<T: Drop> {
+    pub keyword: u32,
+    pub name: u32,
+    pub open: u32,
+    pub members: Vec<T>,
+    pub close: u32,
+}
+
+pub type Message = Block<Member>;
+
+pub type Oneof = Block<Field>;
+
+pub type Enum = Block<EnumItem>;
+
+pub type Service = Block<ServiceItem>;
+
+/// What stands in a message.
+#[derive(Drop)]
+pub enum Member {
+    Field(Field),
+    MapField(MapField),
+    Oneof(Oneof),
+    Message(Message),
+    Enum(Enum),
+    Option(Option_),
+    Reserved(Reserved<u32>),
+    Extensions(Extensions),
+    Empty(u32),
+}
+
+/// What stands in an enum.
+#[derive(Drop)]
+pub enum EnumItem {
+    Value(Value),
+    Option(Option_),
+    Reserved(Reserved<Signed>),
+    Empty(u32),
+}
+
+/// What stands in a service.
+#[derive(Drop)]
+pub enum ServiceItem {
+    Method(Method),
+    Option(Option_),
+    Empty(u32),
+}
+
+/// What stands in a file.
+#[derive(Drop)]
+pub enum Item {
+    Syntax(Syntax),
+    Import(Import),
+    Package(Package),
+    Option(Option_),
+    Message(Message),
+    Enum(Enum),
+    Service(Service),
+    Empty(u32),
+}
+
+/// A whole file, in order.
+#[derive(Drop)]
+pub struct File {
+    pub items: Vec<Item>,
+}
