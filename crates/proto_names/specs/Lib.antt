@@ -1,0 +1,16 @@
+pub mod Names
+pub mod Edits
+pub mod Linked
+pub mod Skeleton
+pub mod Cycles
+pub mod Tree
+pub mod Joined
+pub mod Grown
+pub mod EntryNames
+pub mod Faults
+pub mod FromTree
+pub mod Forest
+pub mod Tables
+pub mod Search
+pub mod Walks
+pub mod Resolved
