@@ -1,0 +1,4 @@
+pub mod Nesting
+pub mod Objects
+pub mod Quoting
+pub mod Slots

@@ -1,0 +1,73 @@
+-- The compact text of JSON values (RFC 8259), with one way to quote each text.
+use Rattle.std.specs.Prelude.{ℕ, ◌/◌, ◌%◌, List, [], ◌∷◌, ◌++◌, Bool, true, false, ◌==◌, nat_lt, if◌then◌else◌, Option, Some, None, flat_map, codes, ◌&&◌, map}
+use Rattle.std.specs.Char.{digit_char}
+use Rattle.std.specs.List.{list_all}
+use Rattle.std.specs.Cmp.Lexicographic.{slice_cmp}
+use Rattle.std.specs.Ordering.{nat_cmp, is_lt}
+
+-- what stands in a string for a byte of a text
+abbrev pub escaped : ℕ → List ℕ
+escaped b =
+    if b == 34 then codes "\\\"" else
+    (if b == 92 then codes "\\\\" else
+    (if b == 8 then codes "\\b" else
+    (if b == 12 then codes "\\f" else
+    (if b == 10 then codes "\\n" else
+    (if b == 13 then codes "\\r" else
+    (if b == 9 then codes "\\t" else
+    (if nat_lt b 32 then codes "\\u00" ++ digit_char (b / 16) ∷ digit_char (b % 16) ∷ []
+    else b ∷ [])))))))
+
+-- a text between quotes
+unfoldable pub quoted : List ℕ → List ℕ
+quoted text = 34 ∷ (flat_map escaped text ++ 34 ∷ [])
+
+abbrev pub boolean_text : Bool → List ℕ
+boolean_text true = codes "true"
+boolean_text false = codes "false"
+
+-- texts with a comma between two
+abbrev pub separated : List (List ℕ) → List ℕ
+separated [] = []
+separated (t ∷ ts) = t ++ flat_map (λ u. 44 ∷ u) ts
+
+unfoldable pub array_text : List (List ℕ) → List ℕ
+array_text texts = 91 ∷ (separated texts ++ 93 ∷ [])
+
+-- a key of an object and, where it is there, the text of its value
+abbrev pub Slot : Type 0
+Slot = List ℕ × Option (List ℕ)
+
+-- a member that is there: its key, a colon, its value
+abbrev pub member_texts : List Slot → List (List ℕ)
+member_texts [] = []
+member_texts ((key, None) ∷ slots) = member_texts slots
+member_texts ((key, Some text) ∷ slots) = (quoted key ++ 58 ∷ text) ∷ member_texts slots
+
+-- the members that are there, in the order of the slots
+unfoldable pub object_text : List Slot → List ℕ
+object_text slots = 123 ∷ (separated (member_texts slots) ++ 125 ∷ [])
+
+-- an array that is left out where it has no items
+unfoldable pub array_if_any : List (List ℕ) → Option (List ℕ)
+array_if_any [] = None
+array_if_any (t ∷ ts) = Some (array_text (t ∷ ts))
+
+-- an object that is left out where it has no members
+unfoldable pub object_if_any : List Slot → Option (List ℕ)
+object_if_any [] = None
+object_if_any ((key, None) ∷ slots) = object_if_any slots
+object_if_any ((key, Some text) ∷ slots) = Some (object_text ((key, Some text) ∷ slots))
+
+-- a mark that is left out where it is false
+abbrev pub mark : Bool → Option (List ℕ)
+mark true = Some (codes "true")
+mark false = None
+
+-- each key is below all later ones, byte by byte
+abbrev pub are_rising : List (List ℕ) → Bool
+are_rising [] = true
+are_rising (key ∷ keys) = list_all (λ later. is_lt (slice_cmp nat_cmp key later)) keys && are_rising keys
+
+abbrev pub keys_of : List Slot → List (List ℕ)
+keys_of slots = map (λ slot. slot.0) slots
