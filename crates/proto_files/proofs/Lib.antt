@@ -1,0 +1,13 @@
+pub mod WorkspacePathTest
+pub mod Members
+pub mod PathOrder
+pub mod FaultOrder
+pub mod PathWalk
+pub mod NamedLists
+pub mod FirstFaultSteps
+pub mod FirstErrors
+pub mod FileErrors
+pub mod LeastOfFiles
+pub mod OneLeast
+mod Rows
+pub mod OneOrder

@@ -1,0 +1,6 @@
+use Rattle.std.specs.Prelude.{codes}
+use Rattle.std.proofs.lemmas.Str.Pattern.{ends_text}
+use Rattle.proto_files.proofs.path.has_proto_ending.Goals as goal
+
+pub returns : goal.returns
+returns c = ends_text c.ends_with.result (codes ".proto") c.args.path.now c.ends_with.ensures.cases

@@ -1,0 +1,15 @@
+use Rattle.std.proofs.Common.{◌≡◌, rules, ap, ◌∙◌}
+use Rattle.std.proofs.lemmas.Iterator.{YieldsList-from_map, items_from_collect}
+use Rattle.std.proofs.lemmas.Iterator.Adapters.{YieldsList-from_vec}
+use Rattle.std.proofs.lemmas.Result.{IfOk-weaker}
+use Rattle.proto_files.specs.GivenFiles.{files_of}
+use Rattle.proto_files.specs.Stages.{named_files}
+use Rattle.proto_files.proofs.NamedLists.{name_pair, named_files-map}
+use Rattle.proto_files.proofs.paths.named.Goals as goal
+
+pub returns : goal.returns
+returns c =
+    IfOk-weaker _ _ (λ w. named_files w.items ≡ files_of c.args.files.items)
+    (λ w e. ap named_files e ∙ named_files-map c.args.files.items)
+    (items_from_collect _ c.collect.ensures.ran
+    (YieldsList-from_map _ name_pair (YieldsList-from_vec c.args.files.items (search rules) (search rules)) (search rules) (λ x r q k. search rules)))

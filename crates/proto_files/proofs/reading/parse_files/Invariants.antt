@@ -1,0 +1,8 @@
+use Rattle.std.proofs.Common.{◌≡◌}
+use Rattle.std.specs.List.{All}
+use Rattle.proto_files.specs.Reading.{IsReadFile}
+use Rattle.proto_files.specs.Stages.{lexed_files, read_files}
+use Rattle.proto_files.proofs.reading.parse_files.Given as goal
+
+abbrev pub invariant-loop-file : goal.invariant-loop-file
+invariant-loop-file l = (read_files l.read.items ≡ lexed_files l.yielded) × All IsReadFile l.read.items

@@ -1,0 +1,44 @@
+-- Faults as a set, and the least of them: by phase, path, offset and number (a choice of this profile).
+use Rattle.std.specs.Prelude.{◌≡◌, ℕ, List}
+use Rattle.std.specs.Ordering.{nat_cmp, ordering_then}
+use Rattle.std.specs.String.{string_bytes}
+use Rattle.std.specs.declared.cmp.Ordering.{Ordering}
+use Rattle.std.specs.declared.cmp.Ordering.TheVariants.{Less}
+use Rattle.proto_files.specs.declared.fault.FaultKind.{FaultKind}
+use Rattle.proto_files.specs.declared.fault.Fault.{Fault}
+use Rattle.proto_files.specs.declared.fault.FilesFault.{FilesFault}
+use Rattle.proto_files.specs.declared.fault.FilesFault.TheVariants.{Schema, NoMemory}
+use Rattle.proto_files.specs.FaultTable.{number_of, phase_of}
+use Rattle.proto_files.specs.WorkspacePaths.{path_cmp}
+
+-- a fault of a kind at an offset of the file at a path
+pub record FaultAt : Type 0 where
+  pub path : List ℕ
+  pub offset : ℕ
+  pub kind : FaultKind
+
+-- what a fault says
+abbrev pub fault_at : Fault → FaultAt
+fault_at fault = record { path = string_bytes fault.path; offset = fault.offset; kind = fault.kind }
+
+abbrev pub fault_cmp : FaultAt → FaultAt → Ordering
+fault_cmp x y =
+    ordering_then (nat_cmp (phase_of x.kind) (phase_of y.kind))
+    (ordering_then (path_cmp x.path y.path)
+    (ordering_then (nat_cmp x.offset y.offset) (nat_cmp (number_of x.kind) (number_of y.kind))))
+
+abbrev pub ComesBefore : FaultAt → FaultAt → Type 0
+ComesBefore x y = fault_cmp x y ≡ Less
+
+-- x is one of the faults, and none of them comes before it
+pub record IsLeastFault (faults : FaultAt → Type 0) (x : FaultAt) : Type 0 where
+  pub is_fault : faults x
+  pub is_least : (y : FaultAt) → faults y → ComesBefore y x → ⊥
+
+abbrev pub HasNoFault : (FaultAt → Type 0) → Type 0
+HasNoFault faults = (y : FaultAt) → faults y → ⊥
+
+-- the error is want of memory, or the least fault
+abbrev pub IsFilesError : (FaultAt → Type 0) → FilesFault → Type 0
+IsFilesError faults (Schema fault) = IsLeastFault faults (fault_at fault)
+IsFilesError faults NoMemory = Unit {0}

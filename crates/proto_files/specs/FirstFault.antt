@@ -1,0 +1,24 @@
+-- The first fault that a walk over paths in their order meets, with the place of its path.
+use Rattle.std.specs.Prelude.{ℕ, ◌+◌, ◌==◌, Bool, false, List, [], ◌∷◌, Option, Some, None, if◌then◌else◌}
+use Rattle.std.specs.Str.{bytes_eq}
+use Rattle.proto_files.specs.declared.fault.FaultKind.{FaultKind}
+use Rattle.proto_files.specs.declared.fault.FaultKind.TheVariants.{BadPath, DoublePath, TooManyFiles}
+use Rattle.proto_files.specs.WorkspacePaths.{is_workspace_path}
+
+abbrev pub begins_with : List (List ℕ) → List ℕ → Bool
+begins_with [] path = false
+begins_with (next ∷ paths) path = bytes_eq next path
+
+-- the fault of a path that `paths` follow
+unfoldable pub fault_before : ℕ → ℕ → List ℕ → List (List ℕ) → Option FaultKind
+fault_before place limit path paths =
+    if is_workspace_path path then (if begins_with paths path then Some DoublePath else (if place == limit then Some TooManyFiles else None)) else Some BadPath
+
+abbrev pub fault_or : ℕ → Option FaultKind → Option (ℕ × FaultKind) → Option (ℕ × FaultKind)
+fault_or place None next = next
+fault_or place (Some kind) next = Some (place, kind)
+
+-- the first path is at the place
+unfoldable pub first_fault : ℕ → ℕ → List (List ℕ) → Option (ℕ × FaultKind)
+first_fault place limit [] = None
+first_fault place limit (path ∷ paths) = fault_or place (fault_before place limit path paths) (first_fault (place + 1) limit paths)

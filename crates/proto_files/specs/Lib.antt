@@ -1,0 +1,10 @@
+pub mod FaultTable
+pub mod WorkspacePaths
+pub mod Faults
+pub mod GivenFiles
+pub mod PathFaults
+pub mod Stages
+pub mod FirstFault
+pub mod ReadFaults
+pub mod Reading
+pub mod Laws

@@ -1,0 +1,107 @@
+//! The files of a workspace, read.
+
+ghost use Rattle.std.specs.Prelude.{◌≡◌, ◌<◌, ◌==◌, List, length, All, IfOk, IfErr};
+ghost use Rattle.proto_text.specs.declared.lexer.Token.{Token};
+ghost use Rattle.proto_text.specs.SourceFacts.{IsSpan};
+ghost use Rattle.proto_text.specs.Tokens.{AreTokens};
+ghost use Rattle.proto_tree.specs.File.{tree_of_file};
+ghost use Rattle.proto_tree.specs.Reads.{Reads};
+ghost use Rattle.proto_files.specs.Faults.{HasNoFault, IsFilesError};
+ghost use Rattle.proto_files.specs.GivenFiles.{AreWorkspaceFiles, file_at};
+ghost use Rattle.proto_files.specs.ReadFaults.{ReadFaults};
+
+use crate::fault::FilesFault;
+use crate::paths::Paths;
+use crate::reading::{lex_files, parse_files};
+use crate::stages::ReadFile;
+use proto_text::{Source, Token};
+use proto_tree::File;
+use std::alloc::Global;
+use std::marker::Model;
+
+/// Files at distinct workspace paths, in the order of their paths, each with its source, its tokens and its tree.
+/// Places of files count from 0.
+#[derive(Drop)]
+pub struct Files {
+    files: Vec<ReadFile>,
+}
+
+impl Model for Files {
+    ghost use Rattle.std.specs.Prelude.{List};
+    ghost use Rattle.proto_files.specs.GivenFiles.{FileOf};
+
+    ghost Value = { List FileOf };
+
+    ghost use Rattle.proto_files.specs.Stages.{read_files};
+    ghost use Rattle.proto_files.specs.Reading.{AreReadFiles};
+
+    ghost view = { λ f. read_files f.files.items };
+
+    ghost invariant = { λ f. AreReadFiles f.files.items };
+}
+
+impl Files {
+    /// Reads the files. Where a text or the grammar of a file has a fault, the least fault is answered: all texts
+    /// come before all trees.
+    pub fn read(alloc: Global, paths: Paths) -> Result<Files, FilesFault>
+        ensures clean { IfOk result (λ _. HasNoFault (ReadFaults paths)) }
+        ensures same { IfOk result (λ files. files ≡ paths) }
+        ensures fault { IfErr result (IsFilesError (ReadFaults paths)) }
+    {
+        let lexed = lex_files(alloc, paths.into_files())?;
+        let files = parse_files(alloc, lexed)?;
+        Ok(Files { files })
+    }
+
+    /// How many files there are.
+    pub fn len(&self) -> usize
+        ensures len { result ≡ length self.now }
+        // What holds of each value: its files are those of a workspace, and their texts and grammar have no fault.
+        ensures workspace { AreWorkspaceFiles self.now }
+        ensures clean { HasNoFault (ReadFaults self.now) }
+    {
+        self.files.len()
+    }
+
+    /// Whether there is no file.
+    pub fn is_empty(&self) -> bool
+        ensures { result ≡ (length self.now == 0) }
+    {
+        self.files.is_empty()
+    }
+
+    /// The path of the file at a place.
+    pub fn path(&self, place: usize) -> &str
+        requires { place < length self.now }
+        ensures { result.now ≡ (file_at self.now place).path }
+    {
+        self.files[place].path.as_str()
+    }
+
+    /// The text of the file at a place.
+    pub fn source(&self, place: usize) -> &Source
+        requires { place < length self.now }
+        ensures { result.now ≡ (file_at self.now place).bytes }
+    {
+        &self.files[place].source
+    }
+
+    /// The tokens of the file at a place.
+    pub fn tokens(&self, place: usize) -> &[Token]
+        requires { place < length self.now }
+        ensures tokens { AreTokens (file_at self.now place).bytes result.now }
+        // Each can be asked for its text.
+        ensures spans { All (λ t. IsSpan (file_at self.now place).bytes t.span) result.now }
+    {
+        self.files[place].tokens.as_slice()
+    }
+
+    /// The tree of the file at a place.
+    pub fn tree(&self, place: usize) -> &File
+        requires { place < length self.now }
+        ensures { (tokens : List Token) → AreTokens (file_at self.now place).bytes tokens
+            → Reads (file_at self.now place).bytes tokens (tree_of_file result.now) }
+    {
+        &self.files[place].tree
+    }
+}

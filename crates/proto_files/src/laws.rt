@@ -1,0 +1,15 @@
+//! Laws of the definitions, for the layers above. None of these does anything.
+
+ghost use Rattle.proto_files.specs.Laws.{OneOrder, PathsArePhase0, TextsArePhase1, GrammarIsPhase2};
+
+/// The same files stand in one order of their paths.
+pub fn files_have_one_order()
+    ensures { OneOrder }
+{}
+
+/// Faults of paths, of texts and of the grammar are of the phases 0, 1 and 2.
+pub fn faults_have_one_phase()
+    ensures paths { PathsArePhase0 }
+    ensures texts { TextsArePhase1 }
+    ensures grammar { GrammarIsPhase2 }
+{}

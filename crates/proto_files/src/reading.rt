@@ -1,0 +1,116 @@
+//! Reads files: their tokens first, and then their trees.
+
+ghost use Rattle.std.specs.Prelude.{◌≡◌, All, IfOk, IfErr};
+ghost use Rattle.proto_files.specs.ReadFaults.{IsTextFault, IsGrammarFault};
+ghost use Rattle.proto_files.specs.Reading.{lex_kind, text_error, grammar_error, IsFileError, IsFirstError, IsLexedFile, IsReadFile};
+ghost use Rattle.proto_files.specs.Stages.{named_file, named_files, lexed_file, lexed_files, read_file, read_files};
+
+use crate::fault::{Fault, FaultKind, FilesFault};
+use crate::stages::{LexedFile, NamedFile, ReadFile};
+use proto_text::{LexFault, Source, TextFault, lex};
+use proto_tree::{ParseFault, parse};
+use std::alloc::Global;
+
+fn lex_kind(fault: LexFault) -> FaultKind
+    ensures { result ≡ lex_kind fault }
+{
+    match fault {
+        LexFault::BadChar => FaultKind::BadChar,
+        LexFault::OpenComment => FaultKind::OpenComment,
+        LexFault::OpenString => FaultKind::OpenString,
+        LexFault::BadEscape => FaultKind::BadEscape,
+        LexFault::BadNumber => FaultKind::BadNumber,
+    }
+}
+
+fn text_error(path: String, fault: TextFault) -> FilesFault
+    ensures { result ≡ text_error path fault }
+{
+    let (offset, kind) = match fault {
+        TextFault::TooLarge => (0, FaultKind::TooLarge),
+        TextFault::NotUtf8 => (0, FaultKind::NotUtf8),
+        TextFault::At { offset, fault } => (offset, lex_kind(fault)),
+        TextFault::NoMemory => return FilesFault::NoMemory,
+    };
+    FilesFault::Schema(Fault { path, offset, kind })
+}
+
+fn grammar_error(path: String, fault: ParseFault) -> FilesFault
+    ensures { result ≡ grammar_error path fault }
+{
+    let (offset, kind) = match fault {
+        ParseFault::Syntax { offset } => (offset, FaultKind::Syntax),
+        ParseFault::TooDeep { offset } => (offset, FaultKind::TooDeep),
+        ParseFault::NoMemory => return FilesFault::NoMemory,
+    };
+    FilesFault::Schema(Fault { path, offset, kind })
+}
+
+fn lex_file(alloc: Global, file: NamedFile) -> Result<LexedFile, FilesFault>
+    ensures same { IfOk result (λ lexed. lexed_file lexed ≡ named_file file) }
+    ensures lexed { IfOk result IsLexedFile }
+    ensures fault { IfErr result (IsFileError IsTextFault (named_file file)) }
+{
+    let NamedFile { path, bytes } = file;
+    let source = match Source::new(bytes) {
+        Ok(source) => source,
+        Err(fault) => return Err(text_error(path, fault)),
+    };
+    match lex(alloc, &source) {
+        Ok(tokens) => Ok(LexedFile {
+            path,
+            source,
+            tokens,
+        }),
+        Err(fault) => Err(text_error(path, fault)),
+    }
+}
+
+/// The files with their tokens, or the fault of the first whose text has one.
+pub fn lex_files(alloc: Global, files: Vec<NamedFile>) -> Result<Vec<LexedFile>, FilesFault>
+    ensures same { IfOk result (λ lexed. lexed_files lexed.items ≡ named_files files.items) }
+    ensures lexed { IfOk result (λ lexed. All IsLexedFile lexed.items) }
+    ensures fault { IfErr result (IsFirstError IsTextFault (named_files files.items)) }
+{
+    let mut lexed = Vec::new(alloc);
+    for file in files {
+        lexed.push(lex_file(alloc, file)?)?;
+    }
+    Ok(lexed)
+}
+
+fn parse_file(alloc: Global, file: LexedFile) -> Result<ReadFile, FilesFault>
+    requires { IsLexedFile file }
+    ensures same { IfOk result (λ read. read_file read ≡ lexed_file file) }
+    ensures read { IfOk result IsReadFile }
+    ensures fault { IfErr result (IsFileError IsGrammarFault (lexed_file file)) }
+{
+    let LexedFile {
+        path,
+        source,
+        tokens,
+    } = file;
+    match parse(alloc, &source, &tokens) {
+        Ok(tree) => Ok(ReadFile {
+            path,
+            source,
+            tokens,
+            tree,
+        }),
+        Err(fault) => Err(grammar_error(path, fault)),
+    }
+}
+
+/// The files with their trees, or the fault of the first whose tokens have none.
+pub fn parse_files(alloc: Global, files: Vec<LexedFile>) -> Result<Vec<ReadFile>, FilesFault>
+    requires { All IsLexedFile files.items }
+    ensures same { IfOk result (λ read. read_files read.items ≡ lexed_files files.items) }
+    ensures read { IfOk result (λ read. All IsReadFile read.items) }
+    ensures fault { IfErr result (IsFirstError IsGrammarFault (lexed_files files.items)) }
+{
+    let mut read = Vec::new(alloc);
+    for file in files {
+        read.push(parse_file(alloc, file)?)?;
+    }
+    Ok(read)
+}

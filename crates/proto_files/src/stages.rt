@@ -1,0 +1,28 @@
+//! A file of a workspace as it is read: by its path, with its tokens, with its tree.
+
+use proto_text::{Source, Token};
+use proto_tree::File;
+
+/// A path and the bytes that stand at it.
+#[derive(Drop)]
+pub struct NamedFile {
+    pub path: String,
+    pub bytes: Vec<u8>,
+}
+
+/// A file with the tokens of its text.
+#[derive(Drop)]
+pub struct LexedFile {
+    pub path: String,
+    pub source: Source,
+    pub tokens: Vec<Token>,
+}
+
+/// A file with the tree that its tokens spell.
+#[derive(Drop)]
+pub struct ReadFile {
+    pub path: String,
+    pub source: Source,
+    pub tokens: Vec<Token>,
+    pub tree: File,
+}
