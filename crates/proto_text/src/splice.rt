@@ -207,7 +207,8 @@ impl Splices {
 
     /// The splices in order.
     pub fn as_slice(&self) -> &[Splice]
-        ensures { edits result.now ≡ self.now }
+        ensures items { edits result.now ≡ self.now }
+        ensures ordered { AreShort 0 0 self.now }
     {
         self.items.as_slice()
     }
