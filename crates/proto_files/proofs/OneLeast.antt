@@ -9,7 +9,7 @@ use Rattle.proto_files.specs.declared.fault.FaultKind.{FaultKind}
 use Rattle.proto_files.specs.declared.fault.FaultKind.TheVariants.{TooLarge, NotUtf8, BadChar, OpenComment, OpenString, BadEscape, BadNumber, Syntax, TooDeep, UnknownImport, DoubleImport, ImportCycle, DuplicateName, Unresolved, WrongKind, MapEntryRef, NumberRange, DuplicateNumber, ReservedNumber, ReservedName, RangeOverlap, EmptyEnum, FirstNotZero, ClosedEnum, Label, BadMap, BadOption, BadDefault, EmptyOneof, JsonClash, NotInProto3, AliasNotAllowed, BadPath, DoublePath, TooManyFiles}
 use Rattle.proto_files.specs.FaultTable.{number_of, phase_of}
 use Rattle.proto_files.specs.WorkspacePaths.{path_cmp}
-use Rattle.proto_files.specs.Faults.{FaultAt, fault_cmp, IsLeastFault}
+use Rattle.proto_files.specs.Faults.{FaultAt, ComesBefore, fault_cmp, IsLeastFault}
 use Rattle.proto_files.proofs.PathOrder.{same_from_equal}
 
 abbrev kinds : List FaultKind
@@ -84,10 +84,14 @@ same_place x y h =
     ∙ ap (λ (o : ℕ). record { path = y.path; offset = o; kind = x.kind }) offset
     ∙ ap (λ (k : FaultKind). record { path = y.path; offset = y.offset; kind = k }) kind
 
+-- Two faults, neither before the other, are the same.
+pub neither_before : (x y : FaultAt) → (ComesBefore x y → ⊥) → (ComesBefore y x → ⊥) → x ≡ y
+neither_before x y a b = go (fault_cmp x y) refl where
+  go : (o : Ordering) → fault_cmp x y ≡ o → x ≡ y
+  go Less e = absurd (a e)
+  go Equal e = same_place x y e
+  go Greater e = absurd (b (fault_cmp_total.antisymm y x ∙ ap ordering_reverse e))
+
 -- A set of faults has one least.
 pub least_is_one : (faults : FaultAt → Type 0) (x y : FaultAt) → IsLeastFault faults x → IsLeastFault faults y → x ≡ y
-least_is_one faults x y a b = go (fault_cmp x y) refl where
-  go : (o : Ordering) → fault_cmp x y ≡ o → x ≡ y
-  go Less e = absurd (b.is_least x a.is_fault e)
-  go Equal e = same_place x y e
-  go Greater e = absurd (a.is_least y b.is_fault (fault_cmp_total.antisymm y x ∙ ap ordering_reverse e))
+least_is_one faults x y a b = neither_before x y (b.is_least x a.is_fault) (a.is_least y b.is_fault)

@@ -2,6 +2,8 @@
 use Rattle.std.specs.Prelude.{ℕ, List, codes}
 use Rattle.proto_files.specs.declared.fault.FaultKind.{FaultKind}
 use Rattle.proto_files.specs.declared.fault.FaultKind.TheVariants.{TooLarge, NotUtf8, BadChar, OpenComment, OpenString, BadEscape, BadNumber, Syntax, TooDeep, UnknownImport, DoubleImport, ImportCycle, DuplicateName, Unresolved, WrongKind, MapEntryRef, NumberRange, DuplicateNumber, ReservedNumber, ReservedName, RangeOverlap, EmptyEnum, FirstNotZero, ClosedEnum, Label, BadMap, BadOption, BadDefault, EmptyOneof, JsonClash, NotInProto3, AliasNotAllowed, BadPath, DoublePath, TooManyFiles}
+use Rattle.proto_files.specs.declared.fault.FilesFault.{FilesFault}
+use Rattle.proto_files.specs.declared.fault.FilesFault.TheVariants as answer
 
 abbrev pub number_of : FaultKind → ℕ
 number_of TooLarge = 1
@@ -114,3 +116,14 @@ phase_of AliasNotAllowed = 6
 phase_of BadPath = 0
 phase_of DoublePath = 0
 phase_of TooManyFiles = 0
+
+-- ---- what is answered in place of files
+
+-- want of memory is no fault of a schema
+abbrev pub answer_number : FilesFault → ℕ
+answer_number (answer.Schema fault) = number_of fault.kind
+answer_number answer.NoMemory = 0
+
+abbrev pub answer_name : FilesFault → List ℕ
+answer_name (answer.Schema fault) = name_of fault.kind
+answer_name answer.NoMemory = codes "NoMemory"

@@ -1,7 +1,7 @@
 -- Laws of the definitions, for the layers above.
 use Rattle.std.specs.Prelude.{◌≡◌, ℕ, List, IsPermutation}
 use Rattle.proto_files.specs.FaultTable.{phase_of}
-use Rattle.proto_files.specs.Faults.{FaultAt}
+use Rattle.proto_files.specs.Faults.{FaultAt, ComesBefore}
 use Rattle.proto_files.specs.GivenFiles.{FileOf, AreWorkspaceFiles}
 use Rattle.proto_files.specs.PathFaults.{PathFaults}
 use Rattle.proto_files.specs.ReadFaults.{TextFaults, GrammarFaults}
@@ -19,3 +19,7 @@ TextsArePhase1 = (files : List FileOf) (x : FaultAt) → TextFaults files x → 
 
 abbrev pub GrammarIsPhase2 : Type 0
 GrammarIsPhase2 = (files : List FileOf) (x : FaultAt) → GrammarFaults files x → phase_of x.kind ≡ 2
+
+-- Two faults, neither before the other, are the same. (So a set of faults has one least.)
+abbrev pub ApartInOrder : Type 0
+ApartInOrder = (x y : FaultAt) → (ComesBefore x y → ⊥) → (ComesBefore y x → ⊥) → x ≡ y

@@ -1,7 +1,7 @@
 //! What may be wrong with the schemas of a workspace.
 
 ghost use Rattle.std.specs.Prelude.{◌≡◌};
-ghost use Rattle.proto_files.specs.FaultTable.{number_of, name_of, phase_of};
+ghost use Rattle.proto_files.specs.FaultTable.{number_of, name_of, phase_of, answer_number, answer_name};
 
 use std::alloc::{AllocError, AllocFailed};
 use thiserror::Error;
@@ -244,6 +244,28 @@ pub enum FilesFault {
     Schema(Fault),
     #[error("no memory")]
     NoMemory,
+}
+
+impl FilesFault {
+    /// The number of the fault, from 1 to 35, or 0 for want of memory.
+    pub fn number(&self) -> u32
+        ensures { result ≡ answer_number self.now }
+    {
+        match self {
+            FilesFault::Schema(fault) => fault.number(),
+            FilesFault::NoMemory => 0,
+        }
+    }
+
+    /// The name of the fault, or `NoMemory`.
+    pub fn name(&self) -> &'static str
+        ensures { result.now ≡ answer_name self.now }
+    {
+        match self {
+            FilesFault::Schema(fault) => fault.name(),
+            FilesFault::NoMemory => "NoMemory",
+        }
+    }
 }
 
 impl From<AllocError> for FilesFault {

@@ -1,6 +1,6 @@
 //! Laws of the definitions, for the layers above. None of these does anything.
 
-ghost use Rattle.proto_files.specs.Laws.{OneOrder, PathsArePhase0, TextsArePhase1, GrammarIsPhase2};
+ghost use Rattle.proto_files.specs.Laws.{ApartInOrder, OneOrder, PathsArePhase0, TextsArePhase1, GrammarIsPhase2};
 
 /// The same files stand in one order of their paths.
 pub fn files_have_one_order()
@@ -12,4 +12,9 @@ pub fn faults_have_one_phase()
     ensures paths { PathsArePhase0 }
     ensures texts { TextsArePhase1 }
     ensures grammar { GrammarIsPhase2 }
+{}
+
+/// Two faults, neither before the other, are the same: a set of faults has one least.
+pub fn least_is_one()
+    ensures { ApartInOrder }
 {}
