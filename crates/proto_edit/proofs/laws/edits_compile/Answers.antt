@@ -1,0 +1,6 @@
+use Rattle.proto_edit.proofs.Admitted.{edits_are_made}
+use Rattle.proto_edit.proofs.Steps.{steps_compile}
+use Rattle.proto_edit.proofs.laws.edits_compile.Goals as goal
+
+pub returns : goal.returns
+returns c = record { made = edits_are_made; mapped = steps_compile }

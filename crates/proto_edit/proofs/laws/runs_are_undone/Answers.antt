@@ -1,0 +1,6 @@
+use Rattle.proto_edit.proofs.Puts.{puts_are_once}
+use Rattle.proto_edit.proofs.Steps.{runs_are_undone, undone_once}
+use Rattle.proto_edit.proofs.laws.runs_are_undone.Goals as goal
+
+pub returns : goal.returns
+returns c = record { back = runs_are_undone; puts = puts_are_once; once = undone_once }

@@ -1,0 +1,17 @@
+pub mod Shape
+pub mod Named
+pub mod Descriptors
+pub mod Renames
+pub mod RefusalTable
+pub mod Cases
+pub mod Regular
+pub mod Targets
+pub mod Entries
+pub mod Workspaces
+pub mod Printed
+pub mod Faults
+pub mod Laws
+pub mod Answers
+pub mod Sentences
+pub mod Shaped
+pub mod Plain
