@@ -1,0 +1,5 @@
+mod Entries
+mod Faulted
+mod Loading
+mod PathOrder
+pub mod Printing

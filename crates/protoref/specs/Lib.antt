@@ -1,0 +1,4 @@
+pub mod Memory
+pub mod Printed
+pub mod Stores
+pub mod Writing

@@ -1,0 +1,81 @@
+-- What a command prints, and the status that it ends with: the choice of this program.
+use Rattle.std.specs.Prelude.{◌≡◌, ℕ, ◌+◌, List, [], ◌++◌, codes, decimal, Option, Some, None, Result, Ok, Err}
+use Rattle.std.specs.Option.{unwrap_or}
+use Rattle.std.specs.Io.KnownBytes.{Appends, Keeps}
+use Rattle.protoref.specs.declared.run.Command.{Command}
+use Rattle.protoref.specs.declared.run.Command.TheVariants.{Compile}
+use Rattle.protoref.specs.declared.run.Status.{Status}
+use Rattle.protoref.specs.declared.run.Status.TheVariants.{Done, Problem}
+use Rattle.protoref.specs.declared.run.RunFault.{RunFault}
+use Rattle.protoref.specs.declared.run.RunFault.TheVariants.{Store, NoMemory, Output}
+use Rattle.proto_files.specs.GivenFiles.{FileOf}
+use Rattle.proto_desc.specs.Descriptors.{FileDesc}
+use Rattle.proto_desc.specs.DescriptorText.{json_text}
+use Rattle.proto_files.specs.Faults.{FaultAt, IsLeastFault}
+use Rattle.proto_files.specs.FaultTable.{name_of, number_of}
+use Rattle.proto_edit.specs.Faults.{IsFault}
+use Rattle.proto_edit.specs.Printed.{AreDescribedBy}
+use Rattle.proto_text.specs.Lines.{column_at, line_at}
+use Rattle.protoref.specs.Stores.{bytes_at}
+use Rattle.protoref.specs.Writing.{AppendsBeginning}
+
+abbrev pub code_of : Status → ℕ
+code_of Done = 0
+code_of Problem = 1
+
+-- the line for standard error
+abbrev pub fault_text : RunFault → List ℕ
+fault_text Store = codes "protoref: store failed"
+fault_text NoMemory = codes "protoref: no memory"
+fault_text Output = codes "protoref: output failed"
+
+-- `path:line:column: NUMBER NAME`
+abbrev pub line_of : FaultAt → ℕ → ℕ → List ℕ
+line_of fault line column =
+    fault.path ++ (codes ":" ++ (decimal line ++ (codes ":" ++ (decimal column
+    ++ (codes ": " ++ (decimal (number_of fault.kind) ++ (codes " " ++ (name_of fault.kind ++ codes "\n"))))))))
+
+-- the line and the column of a fault of the files
+abbrev pub IsPlace : List FileOf → FaultAt → ℕ → ℕ → Type 0
+IsPlace files fault line column =
+    let bytes = unwrap_or (bytes_at fault.path files) [] in
+    (line ≡ line_at bytes fault.offset) × (column ≡ column_at bytes fault.offset)
+
+-- the line of a fault of the files
+abbrev pub IsLine : List FileOf → FaultAt → List ℕ → Type 0
+IsLine files fault text = (line : ℕ) × (column : ℕ) × IsPlace files fault line column × (text ≡ line_of fault line column)
+
+-- the same of a store, whose files may be unknown
+abbrev pub IsPlaceOver : Option (List FileOf) → FaultAt → ℕ → ℕ → Type 0
+IsPlaceOver None fault line column = Unit {0}
+IsPlaceOver (Some files) fault line column = IsPlace files fault line column
+
+abbrev pub IsLineOver : Option (List FileOf) → FaultAt → List ℕ → Type 0
+IsLineOver None fault text = Unit {0}
+IsLineOver (Some files) fault text = IsLine files fault text
+
+-- files that compile: their descriptors as JSON, on a line; others: the line of their least fault
+abbrev pub PrintsCompiled : List FileOf → List ℕ → Status → Type 0
+PrintsCompiled files text Done = (descriptors : List FileDesc) × AreDescribedBy files descriptors × (text ≡ json_text descriptors ++ codes "\n")
+PrintsCompiled files text Problem = (fault : FaultAt) × IsLeastFault (IsFault files) fault × IsLine files fault text
+
+-- the command prints the text over the files, in the order of their paths, and ends with the status
+abbrev pub Prints : Command → List FileOf → List ℕ → Status → Type 0
+Prints Compile files text status = PrintsCompiled files text status
+
+-- the same of a store, whose files may be unknown
+abbrev pub PrintsOver : Command → Option (List FileOf) → List ℕ → Status → Type 0
+PrintsOver command None text status = Unit {0}
+PrintsOver command (Some files) text status = Prints command files text status
+
+-- the whole text where the command ends, a beginning of it where the output failed, and else nothing
+abbrev pub Writes : Command → Option (List FileOf) → Option (List ℕ) → Option (List ℕ) → Result Status RunFault → Type 0
+Writes command files old new (Ok status) = (text : List ℕ) × PrintsOver command files text status × Appends old new text
+Writes command files old new (Err Output) = (text : List ℕ) × (status : Status) × PrintsOver command files text status × AppendsBeginning old new text
+Writes command files old new (Err Store) = Keeps old new
+Writes command files old new (Err NoMemory) = Keeps old new
+
+-- a failed call of the store is counted and answered, and nothing else is
+abbrev pub CountsStore : {T : Type 0} → ℕ → ℕ → Result T RunFault → Type 0
+CountsStore before after (Err Store) = after ≡ before + 1
+CountsStore before after _ = after ≡ before

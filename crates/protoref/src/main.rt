@@ -1,0 +1,69 @@
+//! `protoref`: a compiler of Protocol Buffers schemas.
+#![tactic(auto)]
+
+mod command_line;
+mod folder;
+mod memory;
+mod output;
+mod place;
+mod run;
+mod store;
+
+use crate::command_line::{Request, WordsFault, read_words};
+use crate::folder::FolderStore;
+use crate::output::write_text;
+use crate::run::{Command, RunFault, fault_line, run};
+use std::process::ExitCode;
+use std::rt::{Env, Files};
+use std::{env, io};
+
+const BAD_COMMAND_LINE: &str = "protoref: bad command line";
+
+fn main(rt: HostRuntime) -> ExitCode {
+    match answer(&rt) {
+        Ok(code) => ExitCode::from(code),
+        Err(line) => {
+            let _ = rt.eprintln(line);
+            ExitCode::from(2)
+        }
+    }
+}
+
+// The exit status, or the line for standard error.
+fn answer<R: Files + Env + Print + AllocGlobal>(rt: &R) -> Result<u8, &'static str> {
+    let request = match words(rt) {
+        Ok(words) => read_words(rt.alloc(), words.as_slice()),
+        Err(fault) => Err(fault),
+    };
+    match request {
+        Ok(Request::Help(text)) => match write_text(&mut io::writer(rt), text.as_str().as_bytes()) {
+            Ok(()) => Ok(0),
+            Err(_) => Err(fault_line(&RunFault::Output)),
+        },
+        Ok(Request::Compile { root }) => run_over(rt, Command::Compile, root.as_str()),
+        Err(WordsFault::BadCommandLine) => Err(BAD_COMMAND_LINE),
+        Err(WordsFault::NoMemory) => Err(fault_line(&RunFault::NoMemory)),
+    }
+}
+
+// The words of the command line, where they are texts.
+fn words<R: Env + AllocGlobal>(rt: &R) -> Result<Vec<String>, WordsFault> {
+    match env::args(rt) {
+        Ok(words) => Ok(words.collect(rt.alloc())?),
+        Err(error) if error.kind() == io::ErrorKind::OutOfMemory => Err(WordsFault::NoMemory),
+        Err(_) => Err(WordsFault::BadCommandLine),
+    }
+}
+
+// Runs a command over the folder at a path.
+fn run_over<R: Files + Print + AllocGlobal>(
+    rt: &R,
+    command: Command,
+    root: &str,
+) -> Result<u8, &'static str> {
+    let mut store = FolderStore::new(rt, root);
+    match run(rt.alloc(), command, &mut store, &mut io::writer(rt)) {
+        Ok(status) => Ok(status.code()),
+        Err(fault) => Err(fault_line(&fault)),
+    }
+}

@@ -1,0 +1,189 @@
+use super::*;
+use crate::memory::MemoryStore;
+use std::io;
+use std::process::Abort;
+use std::test::Fail;
+
+const ROW: &str = "syntax = \"proto3\"; message A { string b_c = 1; }";
+
+const ROW_JSON: &str =
+    "{\"file\":[{\"messageType\":[{\"field\":[{\"jsonName\":\"bC\",\"label\":\"LABEL_OPTIONAL\",\"name\":\"b_c\",\"number\":1,\"type\":\"TYPE_STRING\"}],\"name\":\"A\"}],\"name\":\"a.proto\",\"syntax\":\"proto3\"}]}\n";
+
+// A writer that takes a few bytes at a time, and only so many of them.
+#[derive(Drop)]
+struct Pipe {
+    taken: Vec<u8>,
+    at_once: usize,
+    room: usize,
+    breaks: bool,
+}
+
+impl Pipe {
+    fn new(alloc: Global, at_once: usize, room: usize) -> Pipe {
+        Pipe {
+            taken: Vec::new(alloc),
+            at_once,
+            room,
+            breaks: false,
+        }
+    }
+}
+
+impl Write for Pipe {
+    fn write(&mut self, bytes: &[u8]) -> io::Result<usize> {
+        if self.room == 0 && self.breaks {
+            return Err(io::Error::from(io::ErrorKind::BrokenPipe));
+        }
+        let count = bytes.len().min(self.at_once).min(self.room);
+        let (front, _) = bytes.split_at(count);
+        self.taken.extend_from_slice(front)?;
+        self.room -= count;
+        Ok(count)
+    }
+
+    fn flush(&mut self) -> io::Result<()> {
+        Ok(())
+    }
+}
+
+fn store_of(alloc: Global, files: &[(&str, &str)]) -> Result<MemoryStore, AllocError> {
+    let mut given = Vec::new(alloc);
+    for (path, text) in files {
+        let bytes = text.as_bytes().to_vec(alloc)?;
+        given.push((String::from_str(alloc, path)?, bytes))?;
+    }
+    MemoryStore::new(alloc, given, Vec::new(alloc))
+}
+
+fn compile_into<R: AllocGlobal + Abort>(
+    rt: &R,
+    store: &mut MemoryStore,
+    writer: &mut Pipe,
+) -> Result<Status, RunFault> {
+    assert!(rt; store.failures() < u64::MAX);
+    run(rt.alloc(), Command::Compile, store, writer)
+}
+
+#[test]
+fn prints_descriptors_and_faults(rt: HostRuntime) -> Result<(), Fail> {
+    let two = "syntax = \"proto3\"; message A { B b = 1; } message B {}";
+    let two_json =
+        "{\"file\":[{\"messageType\":[{\"field\":[{\"jsonName\":\"b\",\"label\":\"LABEL_OPTIONAL\",\"name\":\"b\",\"number\":1,\"type\":\"TYPE_MESSAGE\",\"typeName\":\".B\"}],\"name\":\"A\"},{\"name\":\"B\"}],\"name\":\"a.proto\",\"syntax\":\"proto3\"}]}\n";
+    let range = "syntax = \"proto3\"; message A { string b = 19000; }";
+    let lines = "syntax = \"proto3\";\nmessage A {\n  string b = 19000;\n}\n";
+    for (files, text, status) in [
+        ([].as_slice(), "{}\n", Status::Done),
+        (&[("a.proto", ROW)], ROW_JSON, Status::Done),
+        (&[("a.proto", two)], two_json, Status::Done),
+        (
+            &[("a.proto", range)],
+            "a.proto:1:43: 17 NumberRange\n",
+            Status::Problem,
+        ),
+        (
+            &[("p/b.proto", lines)],
+            "p/b.proto:3:14: 17 NumberRange\n",
+            Status::Problem,
+        ),
+        (
+            &[("a.proto", "")],
+            "a.proto:1:1: 8 Syntax\n",
+            Status::Problem,
+        ),
+        (
+            &[("a.proto", "\n /*")],
+            "a.proto:2:2: 4 OpenComment\n",
+            Status::Problem,
+        ),
+        (
+            &[("a b.proto", ROW)],
+            "a b.proto:1:1: 33 BadPath\n",
+            Status::Problem,
+        ),
+        (
+            &[("b.proto", ROW), ("a.proto", ROW)],
+            "b.proto:1:1: 35 TooManyFiles\n",
+            Status::Problem,
+        ),
+    ] {
+        let mut store = store_of(rt.alloc(), files)?;
+        let mut writer = Pipe::new(rt.alloc(), 4096, 4096);
+        assert_eq!(rt;
+            compile_into(&rt, &mut store, &mut writer),
+            Ok(status),
+            "for {text}"
+        );
+        assert!(rt; writer.taken.as_slice() == text.as_bytes(), "for {text}");
+        assert_eq!(rt; store.failures(), 0);
+    }
+    Ok(())
+}
+
+#[test]
+fn stops_where_the_store_fails(rt: HostRuntime) -> Result<(), Fail> {
+    let range = "syntax = \"proto3\"; message A { string b = 19000; }";
+    for (text, call) in [(ROW, 1), (ROW, 2), (range, 1), (range, 2), (range, 3)] {
+        let mut store = store_of(rt.alloc(), &[("a.proto", text)])?;
+        store.fail_at(call);
+        let mut writer = Pipe::new(rt.alloc(), 4096, 4096);
+        assert_eq!(rt;
+            compile_into(&rt, &mut store, &mut writer),
+            Err(RunFault::Store),
+            "at {call}"
+        );
+        assert_eq!(rt; writer.taken.len(), 0);
+        assert_eq!(rt; store.failures(), 1);
+        // Another run goes on as if nothing had been.
+        assert!(rt;
+            compile_into(&rt, &mut store, &mut writer).is_ok(),
+            "after {call}"
+        );
+        assert_eq!(rt; store.failures(), 1);
+    }
+    Ok(())
+}
+
+#[test]
+fn writes_in_many_calls(rt: HostRuntime) -> Result<(), Fail> {
+    for at_once in [1, 7, 4096] {
+        let mut store = store_of(rt.alloc(), &[("a.proto", ROW)])?;
+        let mut writer = Pipe::new(rt.alloc(), at_once, ROW_JSON.len());
+        assert_eq!(rt;
+            compile_into(&rt, &mut store, &mut writer),
+            Ok(Status::Done)
+        );
+        assert!(rt;
+            writer.taken.as_slice() == ROW_JSON.as_bytes(),
+            "by {at_once}"
+        );
+    }
+    Ok(())
+}
+
+#[test]
+fn stops_where_the_output_fails(rt: HostRuntime) -> Result<(), Fail> {
+    for room in [0, 1, 50, ROW_JSON.len() - 1] {
+        for breaks in [false, true] {
+            let mut store = store_of(rt.alloc(), &[("a.proto", ROW)])?;
+            let mut writer = Pipe::new(rt.alloc(), 7, room);
+            writer.breaks = breaks;
+            assert_eq!(rt;
+                compile_into(&rt, &mut store, &mut writer),
+                Err(RunFault::Output),
+                "after {room}"
+            );
+            assert_eq!(rt; writer.taken.len(), room);
+            assert!(rt; ROW_JSON.as_bytes().starts_with(writer.taken.as_slice()));
+            assert_eq!(rt; store.failures(), 0);
+        }
+    }
+    Ok(())
+}
+
+#[test]
+fn names_its_faults(rt: HostRuntime) {
+    assert_eq!(rt; fault_line(&RunFault::Store), "protoref: store failed");
+    assert_eq!(rt; fault_line(&RunFault::NoMemory), "protoref: no memory");
+    assert_eq!(rt; fault_line(&RunFault::Output), "protoref: output failed");
+    assert_eq!(rt; (Status::Done.code(), Status::Problem.code()), (0, 1));
+}
