@@ -13,11 +13,8 @@ fn token_count(alloc: Global, bytes: Vec<u8>) -> Option<usize> {
 }
 
 fn main(rt: HostRuntime) -> io::Result<()> {
-    let mut path = None;
-    for word in env::args(&rt)? {
-        path = Some(word);
-    }
-    let Some(path) = path else {
+    // The first word is the name of the program itself.
+    let Some(path) = env::args(&rt)?.skip(1).last() else {
         return println!(rt; "no file");
     };
     let bytes = fs::read(&rt, path.as_str())?;
