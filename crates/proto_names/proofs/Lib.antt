@@ -25,3 +25,15 @@ pub mod Search
 pub mod Walks
 pub mod Resolved
 pub mod Indexed
+pub mod Behind
+pub mod Growing
+pub mod Listed
+pub mod PackageFirst
+pub mod PathFaults
+pub mod FilesAsked
+pub mod Turned
+pub mod CycleFaults
+pub mod Resolving
+pub mod ImportGraph
+pub mod ImportFaults
+pub mod SeenFiles

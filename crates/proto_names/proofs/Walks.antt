@@ -89,7 +89,7 @@ pub record IsPart (next : List (List ℕ)) (start : ℕ) (seen : List Bool) (tod
   pub closed : (f : ℕ) → IsMarked seen f → Contains todo f ⊎ ((g : ℕ) → Contains (get_or next f []) g → IsMarked seen g)
   pub waiting : (f : ℕ) → Contains todo f → IsMarked seen f
 
-walk_on : (next : List (List ℕ)) {f g h : ℕ} → Walks next f g → Contains (get_or next g []) h → Walks next f h
+pub walk_on : (next : List (List ℕ)) {f g h : ℕ} → Walks next f g → Contains (get_or next g []) h → Walks next f h
 walk_on next stays c = goes _ c stays
 walk_on next (goes i d w) c = goes i d (walk_on next w c)
 

@@ -14,3 +14,6 @@ pub mod Tables
 pub mod Search
 pub mod Walks
 pub mod Resolved
+pub mod Listing
+pub mod Importing
+pub mod ImportSteps

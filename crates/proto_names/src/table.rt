@@ -55,7 +55,8 @@ impl Row {
     }
 }
 
-fn sees(seen: &[bool], file: u32) -> bool
+/// Whether a file is marked.
+pub(crate) fn sees(seen: &[bool], file: u32) -> bool
     ensures { result ≡ slice_index_or seen.now file false }
 {
     match seen.get(file as usize) {

@@ -1,0 +1,113 @@
+//! A list of what a file declares, each entry below one before it, and of its references.
+
+ghost use Rattle.std.specs.Prelude.{◌≡◌, ◌<◌, ◌≤◌, length, [], ◌∷◌, IfOk, OnOk, Some};
+ghost use Rattle.proto_names.specs.FromTree.{used_as};
+ghost use Rattle.proto_names.specs.Listing.{Adds, last_token, needs, path_at, read, seen, whole};
+ghost use Rattle.proto_names.specs.declared.listing.Above.TheVariants.{Below};
+ghost use Rattle.proto_names.specs.Skeleton.{Token};
+ghost use Rattle.proto_names.specs.Tree.{place};
+
+use crate::kind::Kind;
+use proto_tree::Reference;
+use std::alloc::{AllocError, Global};
+
+/// What an entry stands right below: nothing, or the entry with an index.
+#[derive(Clone, Copy)]
+pub(crate) enum Above {
+    Outermost,
+    Below(usize),
+}
+
+/// The last word of a name.
+#[derive(Clone, Copy)]
+pub(crate) enum LastWord {
+    /// The text of its token.
+    Text,
+    /// The entry's name that is made of the text.
+    EntryName,
+    /// `key`
+    Key,
+    /// `value`
+    Value,
+}
+
+/// A declaration, by the token that it stands at.
+#[derive(Clone, Copy)]
+pub(crate) struct Listed {
+    pub(crate) above: Above,
+    pub(crate) word: LastWord,
+    pub(crate) token: u32,
+    pub(crate) kind: Kind,
+}
+
+/// A reference in the message or service with an index.
+#[derive(Clone, Copy)]
+pub(crate) struct Use<'a> {
+    pub(crate) scope: usize,
+    pub(crate) is_method: bool,
+    pub(crate) reference: &'a Reference,
+}
+
+/// What a file declares and refers to, in order.
+#[derive(Drop)]
+pub(crate) struct Listing<'a> {
+    pub(crate) declared: Vec<Listed>,
+    pub(crate) used: Vec<Use<'a>>,
+}
+
+impl<'a> Listing<'a> {
+    pub(crate) fn new(alloc: Global) -> Listing<'a>
+        ensures declared { result.declared.items ≡ [] }
+        ensures used { result.used.items ≡ [] }
+    {
+        Listing {
+            declared: Vec::new(alloc),
+            used: Vec::new(alloc),
+        }
+    }
+
+    /// Adds an entry; answers its index.
+    pub(crate) fn add(&mut self, entry: Listed) -> Result<usize, AllocError>
+        requires within { needs entry.above ≤ length self.old.declared.items }
+        requires token { last_token (whole (seen (path_at (read self.old.declared.items) entry.above) entry)) ≡ Some entry.token }
+        ensures index { IfOk result (λ k. (k ≡ length self.old.declared.items) × (k < length self.new.declared.items)) }
+        ensures adds { OnOk result (Adds self.old self.new entry.above (λ path. seen path entry ∷ []) (λ path. [])) }
+    {
+        let index = self.declared.len();
+        self.declared.push(entry)?;
+        Ok(index)
+    }
+
+    /// Adds a declaration whose last word is the text of its token; answers its index.
+    pub(crate) fn name(&mut self, above: Above, token: u32, kind: Kind) -> Result<usize, AllocError>
+        requires { needs above ≤ length self.old.declared.items }
+        ensures index { IfOk result (λ k. (k ≡ length self.old.declared.items) × (k < length self.new.declared.items)) }
+        ensures adds { OnOk result (Adds self.old self.new above (λ path. place path (Token token) kind ∷ []) (λ path. [])) }
+    {
+        let word = LastWord::Text;
+        self.add(Listed {
+            above,
+            word,
+            token,
+            kind,
+        })
+    }
+
+    /// Adds a reference.
+    pub(crate) fn refer(
+        &mut self,
+        scope: usize,
+        is_method: bool,
+        reference: &'a Reference,
+    ) -> Result<(), AllocError>
+        requires { scope < length self.old.declared.items }
+        ensures { OnOk result (Adds self.old self.new (Below scope) (λ path. []) (λ path. used_as path is_method reference.now ∷ [])) }
+    {
+        self.used.push(Use {
+            scope,
+            is_method,
+            reference,
+        })?;
+        Ok(())
+    }
+}

@@ -1,0 +1,4 @@
+//! Worked examples.
+
+mod imports;
+mod listing;
