@@ -17,8 +17,6 @@ mod repeats;
 mod sentences;
 mod shape;
 mod target;
-#[cfg(test)]
-mod tests;
 mod words;
 mod workspace;
 

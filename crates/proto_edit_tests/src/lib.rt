@@ -1,0 +1,17 @@
+//! Tests of the workspace and its edits, through its public calls alone.
+#![tactic(auto)]
+
+#[cfg(test)]
+mod allocations;
+#[cfg(test)]
+mod calls;
+#[cfg(test)]
+mod entries;
+#[cfg(test)]
+mod generated;
+#[cfg(test)]
+mod opening;
+#[cfg(test)]
+mod renames;
+#[cfg(test)]
+mod runs;
