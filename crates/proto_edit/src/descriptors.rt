@@ -10,11 +10,11 @@ ghost use Rattle.proto_edit.specs.Plain.{plain_type, plain_type_name, plain_fiel
 use crate::json::json_name;
 use crate::number::field_number;
 use crate::shape::{FieldAt, MessageAt};
-use crate::words::Words;
 use proto_desc::{
     FieldDescriptor, FieldOptions, FieldType, FileDescriptor, FileOptions, Label,
     MessageDescriptor, MessageOptions, Syntax,
 };
+use proto_files::Words;
 use std::alloc::{AllocError, Global};
 
 fn scalar_type(word: &str) -> FieldType

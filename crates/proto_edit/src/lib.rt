@@ -17,7 +17,6 @@ mod repeats;
 mod sentences;
 mod shape;
 mod target;
-mod words;
 mod workspace;
 
 pub use edit::Edit;

@@ -16,7 +16,7 @@ use crate::refusal::Refusal;
 use crate::rename_cases::renamed_field;
 use crate::shape::{FieldAt, plain_file};
 use crate::target::{Target, target_named};
-use crate::words::Words;
+use proto_files::Words;
 use proto_text::{Source, Token};
 use proto_tree::File;
 use std::alloc::{AllocError, Global};

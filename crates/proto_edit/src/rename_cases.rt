@@ -11,7 +11,7 @@ use crate::json::json_name;
 use crate::refusal::Refusal;
 use crate::shape::{FieldAt, MessageAt};
 use crate::target::{Target, target_named};
-use crate::words::Words;
+use proto_files::Words;
 use proto_text::is_word;
 use std::alloc::{AllocError, Global};
 

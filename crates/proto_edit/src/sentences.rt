@@ -12,9 +12,8 @@ use crate::json::json_name;
 use crate::number::field_number;
 use crate::repeats::repeats;
 use crate::shape::{FieldAt, MessageAt};
-use crate::words::Words;
 use indexmap::IndexSet;
-use proto_files::FaultKind;
+use proto_files::{FaultKind, Words};
 use std::alloc::{AllocError, Global};
 
 /// A fault past the grammar, at the token with an index.

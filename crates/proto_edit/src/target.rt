@@ -8,7 +8,7 @@ ghost use Rattle.proto_edit.specs.Renames.{Target as Aim, field_target, target_i
 ghost use Rattle.proto_edit.specs.Targets.{target_of, found_or};
 
 use crate::shape::{FieldAt, MessageAt};
-use crate::words::Words;
+use proto_files::Words;
 
 /// What a name stands for in a file.
 #[derive(Clone, Copy)]

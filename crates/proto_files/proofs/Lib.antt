@@ -11,3 +11,4 @@ pub mod LeastOfFiles
 pub mod OneLeast
 mod Rows
 pub mod OneOrder
+pub mod WordsAt

@@ -3,8 +3,8 @@ use Rattle.proto_text.specs.declared.lexer.Token.{Token}
 use Rattle.proto_text.specs.SourceFacts.{text_at}
 use Rattle.proto_text.specs.Texts.{word_at}
 use Rattle.proto_text.specs.Tokens.{Lexeme}
-use Rattle.proto_edit.proofs.WordsAt.{word_there, word_past}
-use Rattle.proto_edit.proofs.words.Words.get.Goals as goal
+use Rattle.proto_files.proofs.WordsAt.{word_there, word_past}
+use Rattle.proto_files.proofs.words.Words.get.Goals as goal
 
 pub returns-in-Some : goal.returns-in-Some
 returns-in-Some c =
