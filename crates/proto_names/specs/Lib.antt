@@ -17,3 +17,15 @@ pub mod Resolved
 pub mod Listing
 pub mod Importing
 pub mod ImportSteps
+pub mod Spelled
+pub mod LastWords
+pub mod Written
+pub mod Naming
+pub mod Links
+pub mod Referring
+pub mod Filling
+pub mod LinkErrors
+pub mod FileReferences
+pub mod Linking
+pub mod LinkOfFiles
+pub mod Scopes

@@ -3,6 +3,7 @@
 ghost use Rattle.std.specs.Prelude.{◌≡◌, ◌≢◌, ℕ, List, if◌then◌else◌, slice_get, slice_set, ◌+◌, ◌<◌, ◌≤◌, length, get_or, map, ◌++◌, ◌∷◌, [], OnOk, IfOk, IfSome, IfNone, option_map, slice_index_or, true, MatchOption, ◌==◌, false, None, Some, string_bytes};
 ghost use Rattle.std.specs.List.{list_any};
 ghost use Rattle.std.specs.Str.{IsUtf8, bytes_eq};
+ghost use Rattle.proto_names.specs.Filling.{IsRowOf};
 ghost use Rattle.proto_names.specs.Forest.{under, front};
 ghost use Rattle.proto_names.specs.Joined.{joined, ArePlain, IsPlain};
 ghost use Rattle.proto_names.specs.Names.{Reference, Workspace, meaning};
@@ -239,6 +240,7 @@ impl Table {
         requires plain { IsPlain word.now }
         ensures table { OnOk result (IsTable self.new) }
         ensures index { IfOk result (λ o. IfSome o (λ _. IsDeclared self.old self.new (under (front (names_of self.old) above) word.now) symbol)) }
+        ensures row { IfOk result (λ o. IfSome o (IsRowOf self.old self.new (under (front (names_of self.old) above) word.now) symbol)) }
         ensures clash { IfOk result (λ o. IfNone o (IsTaken self.old (under (front (names_of self.old) above) word.now) symbol)) }
     {
         match self.find(above, word) {
@@ -338,7 +340,7 @@ fn push_empty(alloc: Global, below: &mut Vec<IndexMap<String, usize>>) -> Result
 }
 
 /// A text before and after its first point.
-fn cut(text: &str) -> Option<(&str, &str)>
+pub(crate) fn cut(text: &str) -> Option<(&str, &str)>
     ensures cases { MatchOption result (list_any (λ b. b == 46) text.now ≡ false) (λ x. (text.now ≡ x.0.now ++ 46 ∷ x.1.now) × (list_any (λ b. b == 46) x.0.now ≡ false)) }
     ensures utf8 { IfSome result (λ x. IsUtf8 x.0.now × IsUtf8 x.1.now) }
 {

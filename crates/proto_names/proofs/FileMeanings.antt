@@ -1,0 +1,200 @@
+-- The references of a file by its listing are those of its tree.
+use Rattle.std.proofs.Common.{◌≡◌, ℕ, ◌+◌, ◌<◌, Bool, List, [], ◌∷◌, ◌++◌, length, get_or, map, refl, sym, ◌∙◌, ap, subst, inl, inr, arith}
+use Rattle.std.specs.Global.{Vec}
+use Rattle.std.specs.List.{All, Contains}
+use Rattle.std.proofs.lemmas.Bool.{cases_eq}
+use Rattle.std.proofs.lemmas.List.{map-append, length-append, get_or-map as get_or-map_within}
+use Rattle.std.proofs.lemmas.List.Elements.{All-map, Contains-get_or}
+use Rattle.std.proofs.Math.ListN.{get_or-append, get_or-map}
+use Rattle.std.proofs.Math.Seq.{get_or-append_seam}
+use Rattle.proto_text.proofs.Once.{one_token_list}
+use Rattle.proto_tree.specs.Tree.{Spells}
+use Rattle.proto_tree.specs.Reads.{Reads, classed}
+use Rattle.proto_tree.proofs.Faults.{one_tree}
+use Rattle.proto_text.specs.declared.lexer.Token.{Token}
+use Rattle.proto_text.specs.Texts.{words, word_at}
+use Rattle.proto_text.specs.Tokens.{Lexeme, lexeme_at, AreTokens}
+use Rattle.proto_files.specs.GivenFiles.{FileOf, file_at}
+use Rattle.proto_names.specs.EntryNames.{entry_name}
+use Rattle.proto_names.specs.FileReferences.{declared_names, uses_of, AreFileMeant, AreLinked, IsFileLinked, IsFirstFlawed, IsFileError}
+use Rattle.proto_names.specs.FromTree.{dotted}
+use Rattle.proto_names.specs.Grown.{At, at}
+use Rattle.proto_names.specs.Joined.{ArePlain}
+use Rattle.proto_names.specs.Links.{ReadOf, AreRead, read_at, text_of, names_of_files, IsListing}
+use Rattle.proto_names.specs.Listing.{read, whole, path_of, used_by}
+use Rattle.proto_names.specs.Names.{Reference, Workspace}
+use Rattle.proto_names.specs.Naming.{used_named}
+use Rattle.proto_names.specs.Referring.{reference_by, first_token, IsFaultless, IsFlawed, IsFirstBad, IsReferenceError, AreMeant}
+use Rattle.proto_names.specs.Skeleton.{Source, Token as TokenOf, EntryOf, Given, Used, name_of, shifted_source}
+use Rattle.proto_names.specs.Tree.{Placed}
+use Rattle.proto_names.specs.declared.listing.Listing.{Listing}
+use Rattle.proto_names.specs.declared.listing.Use.{Use}
+use Rattle.proto_names.specs.declared.references.BadReference.{BadReference}
+use Rattle.proto_names.specs.declared.references.Meant.{Meant}
+use Rattle.proto_names.specs.declared.references.ReferenceError.{ReferenceError}
+use Rattle.proto_names.specs.declared.references.ReferenceError.TheVariants.{Bad, NoMemory}
+use Rattle.proto_names.specs.declared.table.Table.{Table}
+use Rattle.proto_names.proofs.Basics.{contains_map}
+use Rattle.proto_names.proofs.Edited.{map_agree, map_map}
+use Rattle.proto_names.proofs.ReadTrees.{uses_plain}
+
+-- ---- what is read of a file
+
+abbrev pub IsReadOf : List FileOf → ℕ → ReadOf → Type 0
+IsReadOf files file r = Reads (file_at files file).bytes r.tokens r.tree
+
+-- a file is read in one way
+pub one_read : (bytes : List ℕ) (r s : ReadOf) → Reads bytes r.tokens r.tree → Reads bytes s.tokens s.tree → r ≡ s
+one_read bytes r s x y =
+    let tokens = one_token_list bytes r.tokens s.tokens x.tokens_are y.tokens_are in
+    let tree = one_tree r.tree s.tree (classed bytes s.tokens) (subst (λ (z : List Token). Spells r.tree (classed bytes z)) tokens x.spells) y.spells in
+    ap (λ (z : List Token). let o : ReadOf = record { tokens = z; tree = r.tree } in o) tokens
+    ∙ ap (λ z. let o : ReadOf = record { tokens = s.tokens; tree = z } in o) tree
+
+-- what is read of the files up to a number
+pub record AreReadTo (files : List FileOf) (n : ℕ) : Type 0 where
+  pub reads : List ReadOf
+  pub len : length reads ≡ n
+  pub each : (k : ℕ) → k < n → IsReadOf files k (read_at reads k)
+
+pub read_none : (files : List FileOf) → AreReadTo files 0
+read_none files = record { reads = []; len = refl; each = λ k l. absurd (omega (arith, l)) }
+
+pub read_more : (files : List FileOf) (n : ℕ) (r : ReadOf) → AreReadTo files n → IsReadOf files n r → AreReadTo files (n + 1)
+read_more files n r before here = record {
+  reads = before.reads ++ r ∷ [];
+  len = omega (arith, before.len, length-append before.reads (r ∷ []));
+  each = λ k l. elim (cases_eq k n) [
+    | inl e ↦
+        let z : length before.reads ≡ k = before.len ∙ sym e in
+        subst (IsReadOf files k) (sym (ap (λ j. read_at (before.reads ++ r ∷ []) j) (sym z) ∙ get_or-append_seam before.reads r [] (record { tokens = []; tree = _ }))) (subst (λ j. IsReadOf files j r) (sym e) here)
+    | inr ne ↦
+        let z : k < n = omega (arith, l, ne) in
+        subst (IsReadOf files k) (sym (get_or-append before.reads (r ∷ []) (record { tokens = []; tree = _ }) k (omega (arith, z, before.len)))) (before.each k z)
+  ];
+}
+
+pub are_read : (files : List FileOf) (n : ℕ) → n ≡ length files → AreReadTo files n → (reads : List ReadOf) × AreRead files reads
+are_read files n e r = (
+  r.reads,
+  record {
+    same = r.len ∙ e;
+    tokens = λ k l. (r.each k (omega (arith, l, e))).tokens_are;
+    trees = λ k l. r.each k (omega (arith, l, e));
+  },
+)
+
+-- ---- the references of a file
+
+pub name_in : (text : At → List ℕ) (n : ℕ) (path : List (Source ℕ)) → name_of text entry_name (map (shifted_source (at n)) path) ≡ name_of (λ i. text (at n i)) entry_name path
+name_in text n [] = refl
+name_in text n (TokenOf t ∷ rest) = ap (λ (ws : List (List ℕ)). text (at n t) ∷ ws) (name_in text n rest)
+name_in text n (EntryOf t ∷ rest) = ap (λ (ws : List (List ℕ)). entry_name (text (at n t)) ∷ ws) (name_in text n rest)
+name_in text n (Given w ∷ rest) = ap (λ (ws : List (List ℕ)). w ∷ ws) (name_in text n rest)
+
+module _ (text : At → List ℕ) (file : ℕ) (ds : List Placed) where
+  abbrev own : ℕ → List ℕ
+  own i = text (at file i)
+
+  abbrev full : List (Source ℕ) → List (List ℕ)
+  full path = name_of own entry_name path
+
+  scope_is : (k : ℕ) → get_or (map (λ p. full (whole p)) ds) k [] ≡ name_of text entry_name (map (shifted_source (at file)) (path_of ds k))
+  scope_is k =
+      ap (λ (z : List (List (List ℕ))). get_or z k []) (sym (map_map whole full ds))
+      ∙ get_or-map full (map whole ds) k []
+      ∙ sym (name_in text file (path_of ds k))
+
+  -- a reference by the list is the one by the tree
+  pub same_reference : (u : Use) → reference_by file (map (λ p. full (whole p)) ds) own u ≡ used_named text file (used_by ds u)
+  same_reference u =
+      let r = used_named text file (used_by ds u) in
+      ap (λ z. let o : Reference = record { file = file; scope = z; is_absolute = r.is_absolute; is_method = r.is_method; words = map own (dotted u.reference.now.words) } in o) (scope_is u.scope)
+      ∙ ap (λ z. let o : Reference = record { file = file; scope = r.scope; is_absolute = r.is_absolute; is_method = r.is_method; words = z } in o) (sym (map_map (at file) text (dotted u.reference.now.words)))
+
+module _ (files : List FileOf) (reads : List ReadOf) (file : ℕ) (l : Listing) (is : IsListing (read_at reads file) l) where
+  abbrev w : Workspace
+  w = names_of_files files reads
+
+  abbrev text : At → List ℕ
+  text = text_of files reads
+
+  abbrev ds : List Placed
+  ds = read l.declared.items
+
+  abbrev by : Use → Reference
+  by = reference_by file (declared_names files reads file) (λ i. text (at file i))
+
+  abbrev named : Used ℕ → Reference
+  named = used_named text file
+
+  same : (u : Use) → by u ≡ named (used_by ds u)
+  same u =
+      ap (λ (z : List Placed). reference_by file (map (λ p. name_of (λ i. text (at file i)) entry_name (whole p)) z) (λ i. text (at file i)) u) (sym is.declared)
+      ∙ same_reference text file ds u
+
+  all_same : map by l.used.items ≡ map named (uses_of reads file)
+  all_same = map_agree by (λ u. named (used_by ds u)) l.used.items (λ u c. same u) ∙ sym (map_map (used_by ds) named l.used.items) ∙ ap (map named) is.used
+
+  all_tokens : map first_token l.used.items ≡ map (λ u. u.first) (uses_of reads file)
+  all_tokens = sym (map_map (used_by ds) (λ u. u.first) l.used.items) ∙ ap (map (λ u. u.first)) is.used
+
+  pub file_meant : (t : Table) (ms : List Meant) → AreMeant t w (map by l.used.items) (map first_token l.used.items) ms → AreFileMeant t files reads file ms
+  file_meant t ms a = subst (λ (z : List ℕ). AreMeant t w (map named (uses_of reads file)) z ms) all_tokens (subst (λ (z : List Reference). AreMeant t w z (map first_token l.used.items) ms) all_same a)
+
+  first_flawed : (bad : BadReference) → IsFirstBad w by file l.used.items bad → IsFirstFlawed w text file (uses_of reads file) bad
+  first_flawed bad b = record {
+    before = map (used_by ds) b.before;
+    faulty = used_by ds b.faulty;
+    behind = map (used_by ds) b.behind;
+    parts = sym is.used ∙ ap (map (used_by ds)) b.parts ∙ map-append (used_by ds) b.before (b.faulty ∷ b.behind);
+    file_is = b.file_is;
+    token_is = b.token_is;
+    flawed = subst (λ (r : Reference). IsFlawed w r bad.flaw) (same b.faulty) b.flawed;
+    faultless = All-map (λ u. IsFaultless w (named u)) (used_by ds) b.before (λ k d m. subst (IsFaultless w) (same (get_or b.before k d)) (b.faultless k d m));
+  }
+
+  pub file_error : (e : ReferenceError) → IsReferenceError w by file l.used.items e → IsFileError files reads file e
+  file_error (Bad bad) h = first_flawed bad h
+  file_error NoMemory h = tt
+
+-- the words of a listing's references are plain
+pub words_plain : (bytes : List ℕ) (r : ReadOf) (l : Listing) → Reads bytes r.tokens r.tree → IsListing r l → All (λ u. ArePlain (map (words bytes r.tokens) (dotted u.reference.now.words))) l.used.items
+words_plain bytes r l x is = λ k d m.
+    (let u = get_or l.used.items k d in
+    (uses_plain bytes r.tokens r.tree x (used_by (read l.declared.items) u)
+    (subst (λ (z : List (Used ℕ)). Contains z (used_by (read l.declared.items) u)) is.used (contains_map (used_by (read l.declared.items)) l.used.items u (Contains-get_or l.used.items k d m)))).0)
+
+-- with the words of the tokens as another read of the file has them
+module _ (files : List FileOf) (reads : List ReadOf) (are : AreRead files reads) (file : ℕ) (within : file < length files) (r : ReadOf) (reading : IsReadOf files file r) (l : Listing) (is : IsListing r l)
+    (source : List ℕ) (tokens : List Token) (source_is : source ≡ (file_at files file).bytes) (tokens_are : AreTokens (file_at files file).bytes tokens) (ls : List Lexeme) (words_are : ls ≡ map (lexeme_at source) tokens) where
+  abbrev reference : List Lexeme → Use → Reference
+  reference z = reference_by file (declared_names files reads file) (word_at z)
+
+  same_listing : IsListing (read_at reads file) l
+  same_listing = subst (λ (z : ReadOf). IsListing z l) (one_read (file_at files file).bytes r (read_at reads file) reading (are.trees file within)) is
+
+  same_words : ls ≡ map (lexeme_at (file_at files file).bytes) (read_at reads file).tokens
+  same_words = words_are ∙ ap (λ (z : List ℕ). map (lexeme_at z) tokens) source_is
+      ∙ ap (map (lexeme_at (file_at files file).bytes)) (one_token_list (file_at files file).bytes tokens (read_at reads file).tokens tokens_are (are.tokens file within))
+
+  pub listed_meant : (t : Table) (us : List Use) (ms : List Meant) → us ≡ l.used.items → AreMeant t (names_of_files files reads) (map (reference ls) us) (map first_token us) ms → AreFileMeant t files reads file ms
+  listed_meant t us ms e a =
+      file_meant files reads file l same_listing t ms
+      (subst (λ z. AreMeant t (names_of_files files reads) (map (reference z) l.used.items) (map first_token l.used.items) ms) same_words
+      (subst (λ z. AreMeant t (names_of_files files reads) (map (reference ls) z) (map first_token z) ms) e a))
+
+  pub listed_error : (us : List Use) (e : ReferenceError) → us ≡ l.used.items → IsReferenceError (names_of_files files reads) (reference ls) file us e → IsFileError files reads file e
+  listed_error us error e a =
+      file_error files reads file l same_listing error
+      (subst (λ z. IsReferenceError (names_of_files files reads) (reference z) file l.used.items error) same_words
+      (subst (λ z. IsReferenceError (names_of_files files reads) (reference ls) file z error) e a))
+
+-- what is said of each file is said of one by its marks and its rows
+pub linked_at : (t : Table) (seen : List (Vec Bool)) (rows : List (Vec ℕ)) (files : List FileOf) (reads : List ReadOf) → AreLinked t seen rows files reads → (file : ℕ) → file < length files → length seen ≡ length files → length rows ≡ length files
+    → (v : Vec Bool) → v ≡ get_or seen file v → (r : Vec ℕ) → r ≡ get_or rows file r → (marks : List Bool) → marks ≡ v.items → (own : List ℕ) → own ≡ r.items → IsFileLinked t marks own files reads file
+linked_at t seen rows files reads linked file l n m v v_is r r_is marks marks_are own own_are =
+    let marks_at = get_or-map_within (λ z. z.items) seen file v [] (omega (arith, l, n)) ∙ ap (λ z. z.items) (sym v_is) ∙ sym marks_are in
+    let rows_at = get_or-map_within (λ z. z.items) rows file r [] (omega (arith, l, m)) ∙ ap (λ z. z.items) (sym r_is) ∙ sym own_are in
+    subst (λ z. IsFileLinked t marks z files reads file) rows_at
+    (subst (λ z. IsFileLinked t z (get_or (map (λ z. z.items) rows) file []) files reads file) marks_at (linked file l))

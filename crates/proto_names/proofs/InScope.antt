@@ -1,0 +1,121 @@
+-- What a reference means in a scope, word by word of its tokens.
+use Rattle.std.proofs.Common.{◌≡◌, ◌≢◌, ℕ, zero, suc, ◌+◌, ◌<◌, ◌≤◌, Bool, false, List, [], ◌∷◌, ◌++◌, length, get_or, take, drop, map, Bor, Option, Some, None, option_map, if◌then◌else◌, refl, sym, ◌∙◌, ap, subst, inl, inr, arith}
+use Rattle.std.specs.Prelude.{◌==◌}
+use Rattle.std.proofs.lemmas.Bool.{cases_eq, cond-false, false_from_ne_true}
+use Rattle.std.proofs.lemmas.List.{take-append-drop, length-take-le, length-map}
+use Rattle.std.proofs.lemmas.Simd.{map-map}
+use Rattle.proto_text.specs.Texts.{word_at}
+use Rattle.proto_text.specs.Tokens.{Lexeme}
+use Rattle.proto_tree.specs.declared.tree.Behind.{Behind}
+use Rattle.proto_names.specs.Forest.{under, front}
+use Rattle.proto_names.specs.Joined.{joined, ArePlain}
+use Rattle.proto_names.specs.Names.{Reference, Workspace, fits, greatest, hits_at, hit, shows, meaning, meaning_at, typed}
+use Rattle.proto_names.specs.Resolved.{IsIndexOf, MarksSeen, under_all, IsAsked, IsTypeAt}
+use Rattle.proto_names.specs.Scopes.{IsScopeFront}
+use Rattle.proto_names.specs.Search.{HitsAt, IsHit}
+use Rattle.proto_names.specs.Tables.{names_of, IsTable}
+use Rattle.proto_names.specs.declared.table.Table.{Table}
+use Rattle.proto_names.proofs.Basics.{greatest_is}
+use Rattle.proto_names.proofs.Resolved.{Step, one_step, shows_to, under_all_named, is_empty_list, empty_is, relative_is, relative_none}
+use Rattle.proto_names.proofs.Scopes.{plain_parts}
+use Rattle.proto_names.proofs.Search.{joined_more, plain_take, outermost}
+
+-- ---- the words behind the first
+
+abbrev pub no_word : Behind ℕ
+no_word = record { separator = 0; item = 0 }
+
+abbrev pub words_by : List Lexeme → List (Behind ℕ) → List (List ℕ)
+words_by ls bs = map (λ b. word_at ls b.item) bs
+
+pub drop_behind : (ls : List Lexeme) (bs : List (Behind ℕ)) (i : ℕ) → i < length bs → drop i (words_by ls bs) ≡ word_at ls (get_or bs i no_word).item ∷ drop (i + 1) (words_by ls bs)
+drop_behind ls [] i l = absurd (omega (arith, l))
+drop_behind ls (b ∷ bs) zero l = refl
+drop_behind ls (b ∷ bs) (suc i) l =
+    let e : suc i + 1 ≡ suc (i + 1) = omega arith in
+    drop_behind ls bs i (omega (arith, l)) ∙ ap (λ k. word_at ls (get_or bs i no_word).item ∷ drop k (words_by ls (b ∷ bs))) (sym e)
+
+pub behind_step : (t : Table) → IsTable t → (row : ℕ) → row < length t.rows.items → (ls : List Lexeme) (bs : List (Behind ℕ)) (i : ℕ) → i < length bs → ArePlain (words_by ls bs) → Step t row (word_at ls (get_or bs i no_word).item) (drop (i + 1) (words_by ls bs))
+behind_step t ok row l ls bs i li plain =
+    one_step t ok row l (word_at ls (get_or bs i no_word).item) (drop (i + 1) (words_by ls bs))
+    (subst ArePlain (drop_behind ls bs i li) (plain_parts (take i (words_by ls bs)) (drop i (words_by ls bs)) (subst ArePlain (sym (take-append-drop i (words_by ls bs))) plain)).1)
+
+abbrev text_behind : List Lexeme → Behind ℕ → Bor (List ℕ)
+text_behind ls b = record { ref_ptr = (0, 0); now = word_at ls b.item }
+
+pub empty_behind : (ls : List Lexeme) (bs : List (Behind ℕ)) → (length bs == 0) ≡ is_empty_list (words_by ls bs)
+empty_behind ls bs = ap (λ n. n == 0) (sym (length-map bs (text_behind ls))) ∙ empty_is (map (text_behind ls) bs) ∙ ap is_empty_list (map-map (λ w. w.now) (text_behind ls) bs)
+
+-- ---- the scope's longest front that is a name
+
+greatest_same : (p q : ℕ → Bool) (n : ℕ) → ((j : ℕ) → j ≤ n → p j ≡ q j) → greatest p n ≡ greatest q n
+greatest_same p q zero same = ap (λ b. if b then Some 0 else None) (same 0 (omega arith))
+greatest_same p q (suc n) same =
+    ap (λ b. if b then Some (suc n) else greatest p n) (same (suc n) (omega arith))
+    ∙ ap (λ o. if q (suc n) then Some (suc n) else o) (greatest_same p q n (λ j l. same j (omega (arith, l))))
+
+greatest_cut : (p q : ℕ → Bool) (k n : ℕ) → k ≤ n → ((j : ℕ) → j ≤ k → p j ≡ q j) → ((j : ℕ) → k < j → j ≤ n → p j ≡ false) → greatest p n ≡ greatest q k
+greatest_cut p q k zero l same none =
+    let e : k ≡ 0 = omega (arith, l) in
+    subst (λ m. greatest p m ≡ greatest q k) e (greatest_same p q k same)
+greatest_cut p q k (suc n) l same none = elim (cases_eq k (suc n)) [
+  | inl e ↦ subst (λ m. greatest p m ≡ greatest q k) e (greatest_same p q k same)
+  | inr ne ↦
+      cond-false (p (suc n)) (Some (suc n)) (greatest p n) (none (suc n) (omega (arith, l, ne)) (omega arith))
+      ∙ greatest_cut p q k n (omega (arith, l, ne)) same (λ j a b. none j a (omega (arith, b)))
+]
+
+take_within : {X : Type 0} (xs : List X) (j k : ℕ) → j ≤ k → take j (take k xs) ≡ take j xs
+take_within xs zero k l = refl
+take_within xs (suc j) zero l = absurd (omega (arith, l))
+take_within [] (suc j) (suc k) l = refl
+take_within (x ∷ xs) (suc j) (suc k) l = ap (λ z. x ∷ z) (take_within xs j k (omega (arith, l)))
+
+-- the reference in the front of k words of its scope
+abbrev pub in_front : Reference → ℕ → Reference
+in_front r k = record { file = r.file; scope = take k r.scope; is_absolute = r.is_absolute; is_method = r.is_method; words = r.words }
+
+module _ (t : Table) (ok : IsTable t) (seen : List Bool) (w : Workspace) (r : Reference) (index : IsIndexOf t w.symbols) (marks : MarksSeen w r.file seen)
+    (first : List ℕ) (ws : List (List ℕ)) (pw : ArePlain (first ∷ ws)) (words : r.words ≡ first ∷ ws) (plain : ArePlain r.scope) (number : ℕ) (f : IsScopeFront t r.scope number) (relative : r.is_absolute ≡ false) where
+  -- a longer front is no name, so no name stands below it
+  none_below : (j : ℕ) → f.words < j → j ≤ length r.scope → hits_at w r j ≡ false
+  none_below j a b = false_from_ne_true (hits_at w r j) (λ q.
+      let s = shows_to t ok seen w r.file index marks (fits r.words) (take j r.scope ++ take 1 r.words) q in
+      let name : get_or (names_of t) s.0 [] ≡ under (joined (take j r.scope)) first =
+      s.2 ∙ ap (λ z. joined (take j r.scope ++ take 1 z)) words ∙ joined_more (take j r.scope) first (plain_take r.scope j plain) in
+      let some : joined (take j r.scope) ≢ [] = λ e. (let z = outermost r.scope j plain b (sym e) in absurd (omega (arith, a, z))) in
+      let x = under_all_named t ok (first ∷ []) (pw.0, tt) (joined (take j r.scope)) some s.0 s.1 name in
+      f.longest j x.0 a b x.1 x.2)
+
+  shorter : length (take f.words r.scope) ≡ f.words
+  shorter = length-take-le f.words r.scope f.within
+
+  same_hit : hit w r ≡ greatest (hits_at w (in_front r f.words)) f.words
+  same_hit =
+      cond-false r.is_absolute None (greatest (hits_at w r) (length r.scope)) relative
+      ∙ greatest_cut (hits_at w r) (hits_at w (in_front r f.words)) f.words (length r.scope) f.within
+      (λ j l. ap (λ z. shows w r.file (fits r.words) (z ++ take 1 r.words)) (sym (take_within r.scope j f.words l))) none_below
+
+  same_meaning : meaning w r ≡ meaning w (in_front r f.words)
+  same_meaning =
+      ap (meaning_at w r) same_hit ∙ go (greatest (hits_at w (in_front r f.words)) f.words) refl
+      ∙ ap (meaning_at w (in_front r f.words)) (sym (cond-false r.is_absolute None (greatest (hits_at w (in_front r f.words)) (length (take f.words r.scope))) relative ∙ ap (greatest (hits_at w (in_front r f.words))) shorter))
+    where
+      go : (o : Option ℕ) → greatest (hits_at w (in_front r f.words)) f.words ≡ o → meaning_at w r o ≡ meaning_at w (in_front r f.words) o
+      go None e = refl
+      go (Some k) e = let g = greatest_is (hits_at w (in_front r f.words)) f.words k e in ap (λ z. typed w r.file (z ++ r.words)) (sym (take_within r.scope k f.words g.within))
+
+  asked : IsAsked t seen number w (in_front r f.words)
+  asked = record { index = index; marks = marks; scope_plain = plain_take r.scope f.words plain; scope_is = f.front_is }
+
+  module _ (b : Bool) (last : b ≡ is_empty_list ws) where
+    pub scoped_is : (start : ℕ) → ((path : List (List ℕ)) → ArePlain path → front (names_of t) number ≡ joined path → IsHit t seen b path first start) → (o : Option ℕ) → IsTypeAt t seen (under_all (get_or (names_of t) start []) ws) o
+        → option_map (λ k. get_or (names_of t) k []) o ≡ option_map joined (meaning w r)
+    scoped_is start found o h =
+        relative_is t ok seen number w (in_front r f.words) asked first ws b last pw words relative start (found (take f.words r.scope) asked.scope_plain f.front_is) o h
+        ∙ ap (option_map joined) (sym same_meaning)
+
+    pub scoped_none : ((path : List (List ℕ)) → ArePlain path → front (names_of t) number ≡ joined path → (k row : ℕ) → k ≤ length path → HitsAt t seen b path first k row → ⊥) → None ≡ option_map joined (meaning w r)
+    scoped_none none =
+        relative_none t ok seen number w (in_front r f.words) asked first ws b last pw words relative (none (take f.words r.scope) asked.scope_plain f.front_is)
+        ∙ ap (option_map joined) (sym same_meaning)

@@ -1,0 +1,67 @@
+-- The errors of the imports and of the references are the least fault of the files; and what references are read by.
+use Rattle.std.proofs.Common.{◌≡◌, ℕ, ◌<◌, Bool, List, [], length, get_or, map, subst}
+use Rattle.std.specs.Global.{Vec}
+use Rattle.proto_files.specs.declared.fault.FaultKind.{FaultKind}
+use Rattle.proto_files.specs.FaultTable.{number_of as number_of_kind}
+use Rattle.proto_files.specs.GivenFiles.{FileOf, paths_of, AreWorkspaceFiles}
+use Rattle.proto_names.specs.Faults.{Fault, fault, Asked, IsLeast, ImportFault, ReferenceFault}
+use Rattle.proto_names.specs.FileReferences.{AreLinked, flaw_number}
+use Rattle.proto_names.specs.Grown.{at}
+use Rattle.proto_names.specs.Importing.{fault_of, number_of}
+use Rattle.proto_names.specs.LinkErrors.{IsAtToken, IsLinkError}
+use Rattle.proto_names.specs.LinkOfFiles.{AreNamesOf, HasNoImportFault, HasNoNameFault}
+use Rattle.proto_names.specs.Links.{ReadOf, AreRead, StandsAt, all_wanted, link_skeleton, names_of_files, text_of}
+use Rattle.proto_names.specs.Resolved.{MarksSeen}
+use Rattle.proto_names.specs.declared.import.BadImport.{BadImport}
+use Rattle.proto_names.specs.declared.link_fault.LinkFault.{LinkFault}
+use Rattle.proto_names.specs.declared.references.BadReference.{BadReference}
+use Rattle.proto_names.specs.declared.table.Table.{Table}
+use Rattle.proto_names.proofs.FaultPlaces.{import_found, reference_found}
+use Rattle.proto_names.proofs.LeastLinkFault.{least_import, least_reference, link_error}
+
+module _ (files : List FileOf) (reads : List ReadOf) (are_read : AreRead files reads) where
+  abbrev Imports : Fault → Type 0
+  Imports = ImportFault (paths_of files) (all_wanted (text_of files reads) 0 reads)
+
+  abbrev References : Fault → Type 0
+  References = ReferenceFault (text_of files reads) (link_skeleton files reads)
+
+  -- the least fault of the imports as they were written is that of the imports as they are read
+  pub least_as_read : (paths : List (List ℕ)) (asked : List Asked) (f : Fault)
+      → paths ≡ paths_of files → asked ≡ all_wanted (text_of files reads) 0 reads → IsLeast (ImportFault paths asked) f → IsLeast Imports f
+  least_as_read paths asked f same_paths same_asked least =
+      subst (λ (ps : List (List ℕ)). IsLeast (ImportFault ps (all_wanted (text_of files reads) 0 reads)) f) same_paths
+      (subst (λ (xs : List Asked). IsLeast (ImportFault paths xs) f) same_asked least)
+
+  pub import_file : (b : BadImport) → IsLeast Imports (fault_of b) → b.file < length files
+  import_file b least = (import_found files reads are_read (fault_of b) least.holds).there.0
+
+  pub import_error : AreWorkspaceFiles files → (b : BadImport) (kind : FaultKind) (e : LinkFault) → IsLeast Imports (fault_of b)
+      → number_of_kind kind ≡ number_of b.flaw → IsAtToken files b.file b.token kind e → IsLinkError files e
+  import_error are_files b kind e least n h =
+      link_error files are_files reads are_read b.file b.token kind e h
+      (λ x s. least_import files are_files reads are_read (fault_of b) x least (subst (λ (k : ℕ). StandsAt files reads (fault (at b.file b.token) k) x) n s))
+
+  abbrev flawed_at : BadReference → Fault
+  flawed_at b = fault (at b.file b.token) (flaw_number b.flaw)
+
+  pub reference_file : (b : BadReference) → IsLeast References (flawed_at b) → b.file < length files
+  reference_file b least = (reference_found files reads are_read (flawed_at b) least.holds).there.0
+
+  pub reference_error : AreWorkspaceFiles files → HasNoImportFault files → HasNoNameFault files → (b : BadReference) (kind : FaultKind) (e : LinkFault)
+      → IsLeast References (flawed_at b) → number_of_kind kind ≡ flaw_number b.flaw → IsAtToken files b.file b.token kind e → IsLinkError files e
+  reference_error are_files no_import no_name b kind e least n h =
+      link_error files are_files reads are_read b.file b.token kind e h
+      (λ x s. least_reference files are_files reads are_read (no_import reads are_read) (no_name reads are_read) (flawed_at b) x least
+      (subst (λ (k : ℕ). StandsAt files reads (fault (at b.file b.token) k) x) n s))
+
+-- what the table, the marks and the rows are says that the references can be read by them
+pub are_linked : (files : List FileOf) (reads : List ReadOf) (t : Table) (seen : List (Vec Bool)) (rows : List (Vec ℕ))
+    → ((k : ℕ) → k < length files → MarksSeen (names_of_files files reads) k (get_or (map (λ v. v.items) seen) k [])) → AreNamesOf files reads t rows → AreLinked t seen rows files reads
+are_linked files reads t seen rows marks names k l = record {
+  index = names.index;
+  marks = marks k l;
+  paired = names.counts k l;
+  plain = names.plain k l;
+  named = λ j m. names.named k j l m;
+}

@@ -1,0 +1,138 @@
+-- The names of a link are those of its table.
+use Rattle.std.proofs.Common.{◌≡◌, ◌≢◌, ◌⊎◌, ℕ, zero, suc, ◌<◌, Bool, true, false, ◌&&◌, ◌||◌, List, [], ◌∷◌, length, get_or, map, slice_get, option_map, Some, refl, sym, ◌∙◌, ap, subst, inl, inr, arith, string_bytes}
+use Rattle.std.specs.List.{list_any, All, Contains}
+use Rattle.std.specs.Str.{bytes_eq}
+use Rattle.std.proofs.lemmas.Bool.{cases_Bool, false_from_ne_true, both_ways, and_parts, and_from}
+use Rattle.std.proofs.lemmas.List.{get_or-map, get_or_default, length-map}
+use Rattle.std.proofs.lemmas.List.Folds.{list_any_at}
+use Rattle.std.proofs.lemmas.Option.{slice_get-get_or, none-some, same_Some}
+use Rattle.proto_names.specs.Joined.{joined, ArePlain}
+use Rattle.proto_names.specs.Names.{Symbol, Workspace, shows}
+use Rattle.proto_names.specs.Resolved.{IsIndexOf, MarksSeen}
+use Rattle.proto_names.specs.Linking.{NameOf, LinkOf, name_of_row, text_at, sees_one, shows_text, is_visible}
+use Rattle.proto_names.specs.Search.{is_seen}
+use Rattle.proto_names.specs.Tables.{names_of, aboves_of, look, IsTable}
+use Rattle.proto_names.specs.declared.table.Row.{Row}
+use Rattle.proto_names.specs.declared.table.Table.{Table}
+use Rattle.proto_names.proofs.Basics.{any_to, any_map, word_from_same, same_from_word}
+use Rattle.proto_names.proofs.Forest.{names_apart}
+use Rattle.proto_names.proofs.Resolved.{shows_from, shows_to}
+use Rattle.proto_names.proofs.Search.{pick}
+
+text_row : (rows : List Row) (row : ℕ) → option_map (λ n. n.text) (slice_get (map name_of_row rows) row) ≡ slice_get (map (λ r. string_bytes r.name) rows) row
+text_row [] row = refl
+text_row (r ∷ rows) zero = refl
+text_row (r ∷ rows) (suc row) = text_row rows row
+
+-- each name has a file
+pub declared_all : (rows : List Row) (names : List NameOf) → map name_of_row rows ≡ names → All (λ n. 0 < length n.files) names
+declared_all rows names same = subst (All (λ n. 0 < length n.files)) same (go rows)
+  where
+    go : (rows : List Row) (k : ℕ) (d : NameOf) → k < length (map name_of_row rows) → 0 < length (get_or (map name_of_row rows) k d).files
+    go [] k d l = absurd (omega (arith, l))
+    go (r ∷ rows) zero d l = omega arith
+    go (r ∷ rows) (suc k) d l = go rows k d (omega (arith, l))
+
+there : (xs : List (List ℕ)) (i : ℕ) (x : List ℕ) → slice_get xs i ≡ Some x → (i < length xs) × (get_or xs i [] ≡ x)
+there [] i x h = absurd (none-some x h)
+there (y ∷ xs) zero x h = (omega arith, same_Some y x h)
+there (y ∷ xs) (suc i) x h = let r = there xs i x h in (omega (arith, r.0), r.1)
+
+module _ (t : Table) (ok : IsTable t) where
+  sized : length (names_of t) ≡ length t.rows.items
+  sized = length-map t.rows.items (λ r. string_bytes r.name)
+
+  apart : (i j : ℕ) → i < length t.rows.items → j < length t.rows.items → get_or (names_of t) i [] ≡ get_or (names_of t) j [] → i ≡ j
+  apart i j li lj e = names_apart (names_of t) (aboves_of t) (look t) ok.forest i j (omega (arith, li, sized)) (omega (arith, lj, sized)) e
+
+  module _ (l : LinkOf) (same : map name_of_row t.rows.items ≡ l.names) where
+    text_is : (row : ℕ) → text_at l row ≡ slice_get (names_of t) row
+    text_is row = ap (λ (ns : List NameOf). option_map (λ n. n.text) (slice_get ns row)) (sym same) ∙ text_row t.rows.items row
+
+    pub text_from : (row : ℕ) (text : List ℕ) → row < length t.rows.items → get_or (names_of t) row [] ≡ text → text_at l row ≡ Some text
+    text_from row text lr e = text_is row ∙ slice_get-get_or (names_of t) row [] (omega (arith, lr, sized)) ∙ ap Some e
+
+    text_to : (row : ℕ) (text : List ℕ) → text_at l row ≡ Some text → (row < length t.rows.items) × (get_or (names_of t) row [] ≡ text)
+    text_to row text h = let r = there (names_of t) row text (sym (text_is row) ∙ h) in (omega (arith, r.0, sized), r.1)
+
+    pub text_none : (text : List ℕ) → ((k : ℕ) → k < length t.rows.items → get_or (names_of t) k [] ≢ text) → (row : ℕ) → text_at l row ≢ Some text
+    text_none text none row h = let r = text_to row text h in none row r.0 r.1
+
+    pub text_once : (i j : ℕ) (text : List ℕ) → text_at l i ≡ Some text → text_at l j ≡ Some text → i ≡ j
+    text_once i j text hi hj = let a = text_to i text hi in let b = text_to j text hj in apart i j a.0 b.0 (a.1 ∙ sym b.1)
+
+  module _ (seen : List Bool) (text : List ℕ) where
+    test : Row → Bool
+    test r = bytes_eq (string_bytes r.name) text && is_seen seen r
+
+    -- a row that passes has the text, and one of its files is marked
+    passing : list_any test t.rows.items ≡ true → (k : ℕ) × (k < length t.rows.items) × (get_or (names_of t) k [] ≡ text) × ((d : Row) → is_seen seen (get_or t.rows.items k d) ≡ true)
+    unfolding test
+    passing h =
+        let x = any_to test t.rows.items h in
+        let p = and_parts (bytes_eq (string_bytes x.0.name) text) (is_seen seen x.0) x.2 in
+        let k = x.1.0 in (
+          k,
+          x.1.1,
+          get_or-map (λ r. string_bytes r.name) t.rows.items k x.0 [] x.1.1 ∙ ap (λ (r : Row). string_bytes r.name) x.1.2 ∙ word_from_same (string_bytes x.0.name) text p.0,
+          λ d. ap (is_seen seen) (get_or_default t.rows.items k d x.0 x.1.1 ∙ x.1.2) ∙ p.1,
+        )
+
+    pub shows_row : (row : ℕ) (d : Row) → row < length t.rows.items → get_or (names_of t) row [] ≡ text → is_seen seen (get_or t.rows.items row d) ≡ shows_text seen text (map name_of_row t.rows.items)
+    unfolding test
+    shows_row row d lr e = sym (any_map (λ n. bytes_eq n.text text && sees_one seen n.files) name_of_row t.rows.items ∙ go (cases_Bool (is_seen seen (get_or t.rows.items row d))))
+      where
+        go : (is_seen seen (get_or t.rows.items row d) ≡ true) ⊎ (is_seen seen (get_or t.rows.items row d) ≡ false) → list_any test t.rows.items ≡ is_seen seen (get_or t.rows.items row d)
+        go (inl h) =
+            list_any_at test t.rows.items row d lr
+            (and_from _ _ (same_from_word (string_bytes (get_or t.rows.items row d).name) text (sym (get_or-map (λ r. string_bytes r.name) t.rows.items row d [] lr) ∙ e)) h) ∙ sym h
+        go (inr h) =
+            false_from_ne_true (list_any test t.rows.items) (λ q.
+            let p = passing q in
+            let here : p.0 ≡ row = apart p.0 row p.1 lr (p.2 ∙ sym e) in
+            both_ways (is_seen seen (get_or t.rows.items row d)) h (ap (λ i. is_seen seen (get_or t.rows.items i d)) (sym here) ∙ p.3 d)) ∙ sym h
+
+    pub row_shown : shows_text seen text (map name_of_row t.rows.items) ≡ true → (k : ℕ) × (k < length t.rows.items) × (get_or (names_of t) k [] ≡ text) × ((d : Row) → is_seen seen (get_or t.rows.items k d) ≡ true)
+    unfolding test
+    row_shown h = passing (sym (any_map (λ n. bytes_eq n.text text && sees_one seen n.files) name_of_row t.rows.items) ∙ h)
+
+    pub shows_none : ((k : ℕ) → k < length t.rows.items → get_or (names_of t) k [] ≢ text) → false ≡ shows_text seen text (map name_of_row t.rows.items)
+    unfolding test
+    shows_none none =
+        sym (any_map (λ n. bytes_eq n.text text && sees_one seen n.files) name_of_row t.rows.items ∙ false_from_ne_true (list_any test t.rows.items) (λ q. let p = passing q in none p.0 p.1 p.2))
+
+sees_nothing : (files : List ℕ) → sees_one [] files ≡ false
+sees_nothing [] = refl
+sees_nothing (f ∷ files) = sees_nothing files
+
+and_false : (a b : Bool) → b ≡ false → (a && b) ≡ false
+and_false true b h = h
+and_false false b h = refl
+
+-- where nothing is marked, nothing is shown
+pub shows_nothing : (text : List ℕ) (names : List NameOf) → shows_text [] text names ≡ false
+shows_nothing text [] = refl
+shows_nothing text (n ∷ names) =
+    ap (λ (b : Bool). b || shows_text [] text names) (and_false (bytes_eq n.text text) (sees_one [] n.files) (sees_nothing n.files)) ∙ shows_nothing text names
+
+-- A link of the names of a workspace: a name is visible where the workspace shows it.
+module _ (t : Table) (ok : IsTable t) (l : LinkOf) (same : map name_of_row t.rows.items ≡ l.names) (w : Workspace) (file : ℕ) (index : IsIndexOf t w.symbols) (marks : MarksSeen w file (get_or l.seen file [])) where
+  abbrev seen : List Bool
+  seen = get_or l.seen file []
+
+  pub visible_is : (x : List (List ℕ)) → ArePlain x → is_visible l file (joined x) ≡ shows w file (λ k. true) x
+  visible_is x px = ap (shows_text seen (joined x)) (sym same) ∙ go (cases_Bool (shows w file (λ k. true) x))
+    where
+      go : (shows w file (λ k. true) x ≡ true) ⊎ (shows w file (λ k. true) x ≡ false) → shows_text seen (joined x) (map name_of_row t.rows.items) ≡ shows w file (λ k. true) x
+      go (inl h) =
+          let r = shows_to t ok seen w file index marks (λ k. true) x h in
+          let d = pick t.rows.items r.0 r.1 in
+          sym (shows_row t ok seen (joined x) r.0 d r.1 r.2) ∙ r.3 d ∙ sym h
+      go (inr h) =
+          false_from_ne_true (shows_text seen (joined x) (map name_of_row t.rows.items)) (λ q.
+          let r = row_shown t ok seen (joined x) q in
+          both_ways (shows w file (λ k. true) x) h (shows_from t ok seen w file index marks (λ k. true) x px r.0 r.1 r.2 r.3)) ∙ sym h
+
+pub visible_shows : (t : Table) → IsTable t → (l : LinkOf) → map name_of_row t.rows.items ≡ l.names → (symbols : List Symbol) → IsIndexOf t symbols → (w : Workspace) → w.symbols ≡ symbols → (file : ℕ) → MarksSeen w file (get_or l.seen file [])
+    → (s : Symbol) → Contains symbols s → is_visible l file (joined s.name) ≡ shows w file (λ k. true) s.name
+visible_shows t ok l same symbols index w e file marks s c = visible_is t ok l same w file (subst (IsIndexOf t) (sym e) index) marks s.name (index.plain s c)

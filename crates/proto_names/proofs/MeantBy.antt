@@ -1,0 +1,33 @@
+-- References by the names that they mean, file by file.
+use Rattle.std.proofs.Common.{◌≡◌, ℕ, suc, ◌+◌, ◌<◌, List, [], ◌∷◌, ◌++◌, length, get_or, map, take, sym, ◌∙◌, ap, arith, append_assoc}
+use Rattle.std.specs.Prelude.{◌==◌}
+use Rattle.std.specs.List.{filter}
+use Rattle.std.proofs.lemmas.List.{map-append, append-nil, length-take-le}
+use Rattle.std.proofs.lemmas.List.Elements.{filter-append}
+use Rattle.proto_names.specs.Linking.{MeantBy, meant_by, all_meant, references_to}
+use Rattle.proto_names.specs.declared.link.RefId.{RefId}
+use Rattle.proto_names.specs.declared.references.Meant.{Meant}
+use Rattle.proto_names.proofs.Turned.{take_more}
+
+all_meant_more : (n : ℕ) (fs : List (List Meant)) (x : List Meant) → all_meant n (fs ++ x ∷ []) ≡ all_meant n fs ++ map (meant_by (n + length fs)) x
+all_meant_more n [] x = let z : n ≡ n + 0 = omega arith in append-nil (map (meant_by n) x) ∙ ap (λ k. map (meant_by k) x) z
+all_meant_more n (y ∷ fs) x =
+    let z : suc n + length fs ≡ n + suc (length fs) = omega arith in
+    ap (λ t. map (meant_by n) y ++ t) (all_meant_more (suc n) fs x ∙ ap (λ k. all_meant (suc n) fs ++ map (meant_by k) x) z)
+    ∙ sym (append_assoc (map (meant_by n) y) (all_meant (suc n) fs) (map (meant_by (n + suc (length fs))) x))
+
+references_more : (row : ℕ) (xs ys : List MeantBy) → references_to row (xs ++ ys) ≡ references_to row xs ++ references_to row ys
+references_more row xs ys =
+    ap (map (λ m. m.reference)) (filter-append (λ m. m.row == row) xs ys) ∙ map-append (λ m. m.reference) (filter (λ m. m.row == row) xs) (filter (λ m. m.row == row) ys)
+
+-- one file more
+pub more_meant : (fs : List (List Meant)) (file row : ℕ) (old new : List RefId) → file < length fs → old ≡ references_to row (all_meant 0 (take file fs)) → new ≡ old ++ references_to row (map (meant_by file) (get_or fs file []))
+    → new ≡ references_to row (all_meant 0 (take (file + 1) fs))
+more_meant fs file row old new l was is =
+    let n : 0 + length (take file fs) ≡ file = let t = length-take-le file fs (omega (arith, l)) in omega (arith, t) in
+    let x = get_or fs file [] in
+    is
+    ∙ ap (λ z. z ++ references_to row (map (meant_by file) x)) was
+    ∙ sym (ap (λ z. references_to row (all_meant 0 z)) (take_more fs file [] l)
+    ∙ ap (references_to row) (all_meant_more 0 (take file fs) x ∙ ap (λ k. all_meant 0 (take file fs) ++ map (meant_by k) x) n)
+    ∙ references_more row (all_meant 0 (take file fs)) (map (meant_by file) x))

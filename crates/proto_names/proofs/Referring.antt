@@ -1,0 +1,167 @@
+-- What a reference means by its row, and what is wrong with it.
+use Rattle.std.proofs.Common.{◌≡◌, ◌⊎◌, ℕ, suc, ◌+◌, ◌<◌, Bool, true, false, List, [], ◌∷◌, ◌++◌, length, get_or, slice_get, take, drop, map, Option, Some, None, option_map, refl, sym, ◌∙◌, ap, subst, inl, inr, arith, string_bytes}
+use Rattle.std.specs.List.{All, Contains}
+use Rattle.std.proofs.lemmas.Bool.{cases_Bool, cases_lt, cond-true, cond-false}
+use Rattle.std.proofs.lemmas.Option.{none-some, same_Some, slice_get_cases}
+use Rattle.std.proofs.lemmas.List.{length-map, map-append, get_or_past, get_or-map, take-append-drop}
+use Rattle.std.proofs.lemmas.List.Elements.{All-append, All-cons, All-nil}
+use Rattle.std.proofs.Math.Seq.{drop-cons}
+use Rattle.proto_names.specs.Names.{Kind, Package, Message, Entry, Enum, Service, Field, EntryField, Oneof, Value, Method, Symbol, Reference, Workspace, is_type, meaning, meaning_at, hit, typed}
+use Rattle.proto_names.specs.Joined.{joined}
+use Rattle.proto_names.specs.declared.table.Row.{Row}
+use Rattle.proto_names.specs.declared.table.Table.{Table}
+use Rattle.proto_names.specs.Tables.{names_of, aboves_of, look, IsTable}
+use Rattle.proto_names.specs.Resolved.{IsIndexOf, IsAsked}
+use Rattle.proto_names.specs.Referring.{reference_by, first_token, IsReadBy, IsFlawed, IsFaultless, AreMeant, IsFirstBad, kind_flaw, found_flaw, row_flaw}
+use Rattle.proto_names.specs.declared.listing.Use.{Use}
+use Rattle.proto_names.specs.declared.references.BadReference.{BadReference}
+use Rattle.proto_names.specs.declared.references.Meant.{Meant}
+use Rattle.proto_names.specs.declared.references.ReferenceFlaw.{ReferenceFlaw}
+use Rattle.proto_names.specs.declared.references.ReferenceFlaw.TheVariants.{Unresolved, WrongKind, MapEntry}
+use Rattle.proto_names.proofs.Forest.{names_apart, name_some}
+use Rattle.proto_names.proofs.Rename.{typed_is}
+use Rattle.proto_names.proofs.Symbols.{shown}
+use Rattle.proto_names.proofs.Turned.{take_more}
+
+-- the words of a reference by its first and the others
+pub same_words : {ws rest rest' : List (List ℕ)} {first first' : List ℕ} → ws ≡ first ∷ rest → first ≡ first' → rest ≡ rest' → ws ≡ first' ∷ rest'
+same_words {rest = rest} {first' = first'} h e e' = h ∙ ap (λ z. z ∷ rest) e ∙ ap (λ z. first' ∷ z) e'
+
+-- what is meant is the name of a symbol
+pub meant_symbol : (w : Workspace) (r : Reference) (m : List (List ℕ)) → meaning w r ≡ Some m → (s : Symbol) × Contains w.symbols s × (s.name ≡ m)
+meant_symbol w r m h = go (hit w r) h
+  where
+    of_typed : (x : List (List ℕ)) → typed w r.file x ≡ Some m → (s : Symbol) × Contains w.symbols s × (s.name ≡ m)
+    of_typed x h =
+        let t = typed_is w r.file x m h in
+        let s = shown w r.file is_type x t.0 in
+        (s.0, s.1, s.2 ∙ t.1)
+
+    go : (o : Option ℕ) → meaning_at w r o ≡ Some m → (s : Symbol) × Contains w.symbols s × (s.name ≡ m)
+    go (Some k) h = of_typed (take k r.scope ++ r.words) h
+    go None h = elim (cases_Bool r.is_absolute) [
+      | inl abs ↦ of_typed r.words (sym (cond-true r.is_absolute (typed w r.file r.words) None abs) ∙ h)
+      | inr rel ↦ absurd (none-some m (sym (cond-false r.is_absolute (typed w r.file r.words) None rel) ∙ h))
+    ]
+
+-- a kind that is wrong
+kind_flawed : (kind : Kind) (is_method : Bool) (flaw : ReferenceFlaw) → kind_flaw kind is_method ≡ Some flaw → ((kind ≡ Entry) × (flaw ≡ MapEntry)) ⊎ ((kind ≡ Enum) × (is_method ≡ true) × (flaw ≡ WrongKind))
+kind_flawed Entry is_method flaw h = inl (refl, sym (same_Some MapEntry flaw h))
+kind_flawed Enum true flaw h = inr (refl, refl, sym (same_Some WrongKind flaw h))
+kind_flawed Enum false flaw h = absurd (none-some flaw h)
+kind_flawed Package is_method flaw h = absurd (none-some flaw h)
+kind_flawed Message is_method flaw h = absurd (none-some flaw h)
+kind_flawed Service is_method flaw h = absurd (none-some flaw h)
+kind_flawed Field is_method flaw h = absurd (none-some flaw h)
+kind_flawed EntryField is_method flaw h = absurd (none-some flaw h)
+kind_flawed Oneof is_method flaw h = absurd (none-some flaw h)
+kind_flawed Value is_method flaw h = absurd (none-some flaw h)
+kind_flawed Method is_method flaw h = absurd (none-some flaw h)
+
+-- the row of what a reference means, where there is one
+module _ (t : Table) (ok : IsTable t) (w : Workspace) (index : IsIndexOf t w.symbols) (r : Reference) where
+  abbrev pub name_at : ℕ → List ℕ
+  name_at k = get_or (names_of t) k []
+
+  sized : length (names_of t) ≡ length t.rows.items
+  sized = length-map t.rows.items (λ z. string_bytes z.name)
+
+  -- the row is that of each symbol with its name
+  pub row_kind : (k : ℕ) (s : Symbol) → Contains w.symbols s → name_at k ≡ joined s.name → (k < length t.rows.items) × ((d : Row) → (get_or t.rows.items k d).symbol.kind ≡ s.kind)
+  row_kind k s c e =
+      let i = index.row s c in
+      let li : i.0 < length (names_of t) = omega (arith, i.1, sized) in
+      elim (cases_lt k (length t.rows.items)) [
+        | inl l ↦
+            let same : i.0 ≡ k = names_apart (names_of t) (aboves_of t) (look t) ok.forest i.0 k li (omega (arith, l, sized)) (i.2 ∙ sym e) in
+            (l, λ d. ap (λ z. (get_or t.rows.items z d).symbol.kind) (sym same) ∙ (i.3 d).0)
+        | inr past ↦ absurd (name_some (names_of t) (aboves_of t) (look t) ok.forest i.0 li (i.2 ∙ sym e ∙ get_or_past (names_of t) k [] (omega (arith, past, sized))))
+      ]
+
+  -- what is meant, where the row is that of its name
+  pub row_symbol : (k : ℕ) → Some (name_at k) ≡ option_map joined (meaning w r) → (s : Symbol) × Contains w.symbols s × (meaning w r ≡ Some s.name) × (name_at k ≡ joined s.name)
+  row_symbol k is = go (meaning w r) refl
+    where
+      go : (o : Option (List (List ℕ))) → meaning w r ≡ o → (s : Symbol) × Contains w.symbols s × (meaning w r ≡ Some s.name) × (name_at k ≡ joined s.name)
+      go None e = absurd (none-some (name_at k) (sym (is ∙ ap (option_map joined) e)))
+      go (Some m) e =
+          let s = meant_symbol w r m e in
+          (s.0, s.1, e ∙ ap Some (sym s.2), same_Some (name_at k) (joined s.0.name) (is ∙ ap (option_map joined) (e ∙ ap Some (sym s.2))))
+
+  -- what is wrong with the row is what is wrong with the symbol
+  found_kind : (k : ℕ) (s : Symbol) → Contains w.symbols s → name_at k ≡ joined s.name → found_flaw (slice_get t.rows.items k) r.is_method ≡ kind_flaw s.kind r.is_method
+  found_kind k s c e =
+      let i = row_kind k s c e in
+      elim (slice_get_cases t.rows.items k).1 [
+        | inl h ↦ ap (λ o. found_flaw o r.is_method) h.2 ∙ ap (λ z. kind_flaw z r.is_method) (ap (λ z. z.symbol.kind) (sym h.3) ∙ i.1 h.0)
+        | inr h ↦ absurd (omega (arith, h.0, i.0))
+      ]
+
+  -- what is wrong with the row is wrong with the reference
+  pub row_flawed : (o : Option ℕ) (flaw : ReferenceFlaw) → option_map name_at o ≡ option_map joined (meaning w r) → row_flaw t o r.is_method ≡ Some flaw → IsFlawed w r flaw
+  row_flawed None flaw is f = subst (IsFlawed w r) (same_Some Unresolved flaw f) (go (meaning w r) refl)
+    where
+      go : (o : Option (List (List ℕ))) → meaning w r ≡ o → meaning w r ≡ None
+      go None e = e
+      go (Some m) e = absurd (none-some (joined m) (is ∙ ap (option_map joined) e))
+  row_flawed (Some k) flaw is f =
+      let s = row_symbol k is in
+      elim (kind_flawed s.0.kind r.is_method flaw (sym (found_kind k s.0 s.1 s.3) ∙ f)) [
+        | inl h ↦ subst (IsFlawed w r) (sym h.1) (s.0, s.1, s.2, h.0)
+        | inr h ↦ subst (IsFlawed w r) (sym h.2) (s.0, s.1, s.2, h.1, h.0)
+      ]
+
+  -- nothing is wrong with the row, nor with the reference
+  pub row_faultless : (k : ℕ) → Some (name_at k) ≡ option_map joined (meaning w r) → row_flaw t (Some k) r.is_method ≡ None → (k < length t.rows.items) × IsFaultless w r
+  row_faultless k is f =
+      let s = row_symbol k is in
+      ((row_kind k s.0 s.1 s.3).0, go)
+    where
+      none : (s : Symbol) → Contains w.symbols s → meaning w r ≡ Some s.name → kind_flaw s.kind r.is_method ≡ None
+      none s c e = sym (found_kind k s c (same_Some (name_at k) (joined s.name) (is ∙ ap (option_map joined) e))) ∙ f
+
+      go : IsFaultless w r
+      go Unresolved h = none-some (name_at k) (sym (is ∙ ap (option_map joined) h))
+      go WrongKind h = none-some WrongKind (sym (none h.0 h.1 h.2) ∙ ap (λ z. kind_flaw z r.is_method) h.4 ∙ cond-true r.is_method (Some WrongKind) None h.3)
+      go MapEntry h = none-some MapEntry (sym (none h.0 h.1 h.2) ∙ ap (λ z. kind_flaw z r.is_method) h.3)
+
+-- a reference of the file is one that the table can be asked for
+pub asked_in : (t : Table) (seen : List Bool) (rows : List ℕ) (names : List (List (List ℕ))) (file : ℕ) (w : Workspace) → IsReadBy t seen rows names file w → (text : ℕ → List ℕ) (u : Use) → u.scope < length rows → IsAsked t seen (get_or rows u.scope 0 + 1) w (reference_by file names text u)
+asked_in t seen rows names file w read text u l = record { index = read.index; marks = read.marks; scope_plain = read.plain u.scope [] (omega (arith, l, read.paired)); scope_is = read.named u.scope l }
+
+module _ (t : Table) (w : Workspace) (f : Use → Reference) where
+  abbrev said : Meant → Option (List ℕ)
+  said m = Some (get_or (names_of t) m.row [])
+
+  abbrev told : Reference → Option (List ℕ)
+  told r = option_map joined (meaning w r)
+
+  -- one reference more
+  pub meant_more : (us : List Use) (ms : List Meant) (u : Use) (m : Meant) → AreMeant t w (map f us) (map first_token us) ms → m.token ≡ first_token u → Some (get_or (names_of t) m.row []) ≡ option_map joined (meaning w (f u))
+      → (m.row < length t.rows.items) × IsFaultless w (f u) → AreMeant t w (map f (us ++ u ∷ [])) (map first_token (us ++ u ∷ [])) (ms ++ m ∷ [])
+  meant_more us ms u m a token is sound = record {
+    places = map-append (λ m. m.token) ms (m ∷ []) ∙ ap (λ z. z ++ m.token ∷ []) a.places ∙ ap (λ z. map first_token us ++ z ∷ []) token ∙ sym (map-append first_token us (u ∷ []));
+    within = All-append (λ m. m.row < length t.rows.items) ms (m ∷ []) a.within (All-cons (λ m. m.row < length t.rows.items) m [] sound.0 (All-nil (λ m. m.row < length t.rows.items)));
+    names = map-append said ms (m ∷ []) ∙ ap (λ z. z ++ said m ∷ []) a.names ∙ ap (λ z. map told (map f us) ++ z ∷ []) is
+        ∙ sym (map-append told (map f us) (f u ∷ [])) ∙ ap (map told) (sym (map-append f us (u ∷ [])));
+    faultless = subst (All (IsFaultless w)) (sym (map-append f us (u ∷ []))) (All-append (IsFaultless w) (map f us) (f u ∷ []) a.faultless (All-cons (IsFaultless w) (f u) [] sound.1 (All-nil (IsFaultless w))));
+  }
+
+  pub meant_step : (uses : List Use) (i : ℕ) (ms : List Meant) (u : Use) (m : Meant) → i < length uses → u ≡ get_or uses i u → AreMeant t w (map f (take i uses)) (map first_token (take i uses)) ms → m.token ≡ first_token u → Some (get_or (names_of t) m.row []) ≡ option_map joined (meaning w (f u))
+      → (m.row < length t.rows.items) × IsFaultless w (f u) → AreMeant t w (map f (take (i + 1) uses)) (map first_token (take (i + 1) uses)) (ms ++ m ∷ [])
+  meant_step uses i ms u m l here a token is sound =
+      let more : take (i + 1) uses ≡ take i uses ++ u ∷ [] = take_more uses i u l ∙ ap (λ z. take i uses ++ z ∷ []) (sym here) in
+      subst (λ us. AreMeant t w (map f us) (map first_token us) (ms ++ m ∷ [])) (sym more) (meant_more (take i uses) ms u m a token is sound)
+
+  -- a faulty one behind those
+  pub first_bad : (file : ℕ) (uses : List Use) (i : ℕ) (ms : List Meant) (u : Use) (bad : BadReference) → i < length uses → u ≡ get_or uses i u → AreMeant t w (map f (take i uses)) (map first_token (take i uses)) ms → bad.file ≡ file → bad.token ≡ first_token u → IsFlawed w (f u) bad.flaw → IsFirstBad w f file uses bad
+  first_bad file uses i ms u bad l here a at token flawed = record {
+    before = take i uses;
+    faulty = u;
+    behind = drop (suc i) uses;
+    parts = sym (take-append-drop i uses) ∙ ap (λ z. take i uses ++ z) (drop-cons uses i u l ∙ ap (λ z. z ∷ drop (suc i) uses) (sym here));
+    file_is = at;
+    token_is = token;
+    flawed = flawed;
+    faultless = λ k d b. subst (IsFaultless w) (get_or-map f (take i uses) k d (f d) b) (a.faultless k (f d) (omega (arith, b, length-map (take i uses) f)));
+  }

@@ -1,0 +1,41 @@
+use Rattle.std.proofs.Common.{[], get_or, option_map, refl, sym, ◌∙◌, ap}
+use Rattle.std.specs.Option.{option_and_then}
+use Rattle.std.proofs.lemmas.Option.{none-some}
+use Rattle.proto_names.specs.Joined.{joined}
+use Rattle.proto_names.specs.Linking.{text_at}
+use Rattle.proto_names.specs.Tables.{names_of}
+use Rattle.proto_names.proofs.LinkIndex.{marks_at, meant_in, none_meant}
+use Rattle.proto_names.proofs.Linking.{text_from}
+use Rattle.proto_names.proofs.link.Link.resolve.Goals as goal
+
+pub returns-in_err-row-clause-meant : goal.returns-in_err-row-clause-meant
+returns-in_err-row-clause-meant c = λ reads are path plain e. (
+    let look_up = c.in_ok-seen.ensures.lookup in
+    let marks = marks_at c.args.self.now c.self.inside.seen.items (ap (λ l. l.seen) c.self.view_is) c.deref.result.now c.deref.ensures.value c.args.file look_up.3.0 c.in_ok-seen.seen.now look_up.1 c.deref-2.result.now c.deref-2.ensures.value in
+    let meant = meant_in c.self.inside.table c.args.self.now (ap (λ l. l.names) c.self.view_is) c.args.files.now reads are c.args.file c.requires.file (c.requires.link reads are) c.deref-2.result.now marks
+    c.source.result.now c.tokens.result.now c.new-words.result c.new-words.ensures c.source.ensures c.tokens.ensures.tokens c.args.scope.now c.args.reference.now c.row_in_scope.result c.row_in_scope.ensures.meant path plain e in
+    ap (option_and_then (λ id. text_at c.args.self.now id.row)) c.from_residual-in_err-row.ensures ∙ ap (option_map (λ k. get_or (names_of c.self.inside.table) k [])) (sym c.in_err-row.was) ∙ meant)
+
+pub returns-clause-meant : goal.returns-clause-meant
+returns-clause-meant c = λ reads are path plain e. (
+    let look_up = c.in_ok-seen.ensures.lookup in
+    let marks = marks_at c.args.self.now c.self.inside.seen.items (ap (λ l. l.seen) c.self.view_is) c.deref.result.now c.deref.ensures.value c.args.file look_up.3.0 c.in_ok-seen.seen.now look_up.1 c.deref-2.result.now c.deref-2.ensures.value in
+    let meant = meant_in c.self.inside.table c.args.self.now (ap (λ l. l.names) c.self.view_is) c.args.files.now reads are c.args.file c.requires.file (c.requires.link reads are) c.deref-2.result.now marks
+    c.source.result.now c.tokens.result.now c.new-words.result c.new-words.ensures c.source.ensures c.tokens.ensures.tokens c.args.scope.now c.args.reference.now c.row_in_scope.result c.row_in_scope.ensures.meant path plain e in
+    text_from c.self.inside.table c.self.invariant.0 c.args.self.now (ap (λ l. l.names) c.self.view_is) c.in_ok-row.row (get_or (names_of c.self.inside.table) c.in_ok-row.row []) c.in_ok-row.ensures.within refl
+    ∙ ap (option_map (λ k. get_or (names_of c.self.inside.table) k [])) (sym c.in_ok-row.was) ∙ meant)
+
+pub returns-in_err-row-clause-none : goal.returns-in_err-row-clause-none
+returns-in_err-row-clause-none c = λ reads are path plain e. (
+  λ h. none_meant _ (sym (ap (option_and_then (λ id. text_at c.args.self.now id.row)) c.from_residual-in_err-row.ensures) ∙ returns-in_err-row-clause-meant c reads are path plain e),
+  λ h. c.from_residual-in_err-row.ensures,
+)
+
+pub returns-clause-none : goal.returns-clause-none
+returns-clause-none c = λ reads are path plain e. (
+  λ h. absurd (none-some _ (sym h)),
+  λ h.
+      let text = get_or (names_of c.self.inside.table) c.in_ok-row.row [] in
+      let named = text_from c.self.inside.table c.self.invariant.0 c.args.self.now (ap (λ l. l.names) c.self.view_is) c.in_ok-row.row (get_or (names_of c.self.inside.table) c.in_ok-row.row []) c.in_ok-row.ensures.within refl in
+      absurd (none-some text (sym (sym named ∙ returns-clause-meant c reads are path plain e ∙ ap (option_map joined) h))),
+)

@@ -1,0 +1,17 @@
+use Rattle.std.proofs.Common.{◌≡◌, List, length, map}
+use Rattle.std.specs.List.{All}
+use Rattle.proto_names.specs.FromTree.{items_in}
+use Rattle.proto_names.specs.Grown.{at}
+use Rattle.proto_names.specs.LastWords.{named_as}
+use Rattle.proto_names.specs.Links.{ReadOf, AreRead, Each, read_at, text_of}
+use Rattle.proto_names.specs.Listing.{package_first}
+use Rattle.proto_names.specs.Spelled.{AreSpelled, named_in}
+use Rattle.proto_names.proofs.read_files.all_spelled.Given as goal
+
+abbrev pub invariant-loop-file : goal.invariant-loop-file
+invariant-loop-file l = record {
+  len : length l.all.items ≡ l.file;
+  spelled : All (λ v. AreSpelled v.items) l.all.items;
+  each : (reads : List ReadOf) → AreRead l.files reads
+      → Each (λ k v. named_in k v.items ≡ map (named_as k (λ i. text_of l.files reads (at k i))) (package_first (items_in (read_at reads k).tree))) l.all.items;
+}

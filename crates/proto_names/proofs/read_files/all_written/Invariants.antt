@@ -1,0 +1,13 @@
+use Rattle.std.proofs.Common.{◌≡◌, List, length, map}
+use Rattle.std.specs.List.{All}
+use Rattle.proto_names.specs.FromTree.{imports_in}
+use Rattle.proto_names.specs.Importing.{asked_by, AreRising}
+use Rattle.proto_names.specs.Links.{ReadOf, AreRead, Each, asked_as, read_at, text_of}
+use Rattle.proto_names.proofs.read_files.all_written.Given as goal
+
+abbrev pub invariant-loop-file : goal.invariant-loop-file
+invariant-loop-file l = record {
+  len : length l.all.items ≡ l.file;
+  rising : All (λ v. AreRising v.items) l.all.items;
+  asked : (reads : List ReadOf) → AreRead l.files reads → Each (λ k v. map (asked_by k) v.items ≡ map (asked_as (text_of l.files reads) k) (imports_in (read_at reads k).tree)) l.all.items;
+}

@@ -1,0 +1,9 @@
+use Rattle.std.proofs.Common.{◌≡◌, List, length}
+use Rattle.proto_names.specs.Links.{ReadOf, AreRead, Each, IsListing, read_at}
+use Rattle.proto_names.proofs.read_files.listings.Given as goal
+
+abbrev pub invariant-loop-file : goal.invariant-loop-file
+invariant-loop-file l = record {
+  len : length l.listings.items ≡ l.file;
+  each : (reads : List ReadOf) → AreRead l.files reads → Each (λ k x. IsListing (read_at reads k) x) l.listings.items;
+}

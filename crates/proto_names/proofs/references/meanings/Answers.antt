@@ -1,0 +1,36 @@
+use Rattle.std.proofs.Common.{◌<◌, ◌+◌, take, ◌∷◌, ◌++◌, [], length, get_or, map, option_map, refl, sym, ◌∙◌, ap, subst}
+use Rattle.std.specs.Prelude.{is_ok}
+use Rattle.std.proofs.lemmas.Bool.{cond-true}
+use Rattle.std.proofs.lemmas.List.{take_all}
+use Rattle.proto_text.specs.Texts.{word_at}
+use Rattle.proto_names.specs.Tables.{names_of}
+use Rattle.proto_names.specs.Referring.{first_token, reference_by, row_flaw, AreMeant}
+use Rattle.proto_names.proofs.Referring.{asked_in, row_flawed, row_faultless, meant_step, first_bad}
+use Rattle.proto_names.proofs.references.meanings.Goals as goal
+
+pub returns-in-Err-clause-fault : goal.returns-in-Err-clause-fault
+returns-in-Err-clause-fault c = λ w names read. (
+    let within = subst (λ u. u.scope < length c.args.rows.now) (sym c.used-item.is) (c.requires.scopes c.loop-used.used-index c.used-item.result c.loop-used-test.true) in
+    let f = reference_by c.args.file names (word_at c.args.words.now) in
+    let asked = asked_in c.args.table.now c.args.seen.now c.args.rows.now names c.args.file w read (word_at c.args.words.now) c.used-item.result within in
+    let is = c.in_ok-row.ensures w (f c.used-item.result) asked refl refl in
+    first_bad c.args.table.now w f c.args.file c.args.uses.now c.loop-used.used-index c.loop-used.meant.items c.used-item.result (record { file = c.args.file; token = c.token_of-token.result; flaw = c.in-Err.flaw })
+    c.loop-used-test.true c.used-item.is (c.loop-used.invariant w names read) refl c.token_of-token.ensures
+    (row_flawed c.args.table.now c.requires.table w read.index (f c.used-item.result) c.in_ok-row.row c.in-Err.flaw is c.in-Err.ensures.flaw))
+
+pub loop-used-preserved : goal.loop-used-preserved
+loop-used-preserved c = λ w names read. (
+    let within = subst (λ u. u.scope < length c.args.rows.now) (sym c.used-item.is) (c.requires.scopes c.loop-used.used-index c.used-item.result c.loop-used-test.true) in
+    let f = reference_by c.args.file names (word_at c.args.words.now) in
+    let asked = asked_in c.args.table.now c.args.seen.now c.args.rows.now names c.args.file w read (word_at c.args.words.now) c.used-item.result within in
+    let is = ap (option_map (λ k. get_or (names_of c.args.table.now) k [])) (sym c.in-Ok.ensures.row.0) ∙ c.in_ok-row.ensures w (f c.used-item.result) asked refl refl in
+    let sound = ap (λ o. row_flaw c.args.table.now o c.used-item.result.is_method) (sym c.in-Ok.ensures.row.0) ∙ c.in-Ok.ensures.row.1 in
+    let items = c.push.ensures.items ∙ cond-true (is_ok c.push.result) (c.loop-used.meant.items ++ record { token = c.token_of-token.result; row = c.in-Ok.row } ∷ []) c.loop-used.meant.items (sym c.map_err.ensures.variant ∙ ap is_ok c.in_ok-map_err-in-Ok.was) in
+    subst (AreMeant c.args.table.now w (map f (take (c.loop-used.used-index + 1) c.args.uses.now)) (map first_token (take (c.loop-used.used-index + 1) c.args.uses.now))) (sym items)
+    (meant_step c.args.table.now w f c.args.uses.now c.loop-used.used-index c.loop-used.meant.items c.used-item.result (record { token = c.token_of-token.result; row = c.in-Ok.row }) c.loop-used-test.true c.used-item.is
+    (c.loop-used.invariant w names read) c.token_of-token.ensures is (row_faultless c.args.table.now c.requires.table w read.index (f c.used-item.result) c.in-Ok.row is sound)))
+
+pub returns-clause-meant : goal.returns-clause-meant
+returns-clause-meant c = λ w names read. (
+    let f = reference_by c.args.file names (word_at c.args.words.now) in
+    subst (λ us. AreMeant c.args.table.now w (map f us) (map first_token us) c.loop-used.meant.items) (take_all c.loop-used.used-index c.args.uses.now c.loop-used-test.false) (c.loop-used.invariant w names read))

@@ -1,0 +1,76 @@
+-- The names of linked files: what is known of each, which files see it, and which references mean it.
+use Rattle.std.specs.Prelude.{ℕ, suc, Bool, false, ◌&&◌, ◌==◌, if◌then◌else◌, List, [], ◌∷◌, ◌++◌, map, get_or, slice_get, slice_index_or, Option, Some, None, option_map, string_bytes}
+use Rattle.std.specs.List.{filter, list_any}
+use Rattle.std.specs.Option.{option_and_then}
+use Rattle.std.specs.Str.{bytes_eq}
+use Rattle.proto_names.specs.Names.{Kind}
+use Rattle.proto_names.specs.Linked.{is_package}
+use Rattle.proto_names.specs.Resolved.{files_of}
+use Rattle.proto_names.specs.declared.link.RefId.{RefId}
+use Rattle.proto_names.specs.declared.references.Meant.{Meant}
+use Rattle.proto_names.specs.declared.table.Row.{Row}
+
+-- what a link has of a name: its text, its kind, the files that declare it, and its first declaration's token
+pub record NameOf : Type 0 where
+  pub text : List ℕ
+  pub kind : Kind
+  pub files : List ℕ
+  pub token : ℕ
+
+abbrev pub name_of_row : Row → NameOf
+name_of_row r = record { text = string_bytes r.name; kind = r.symbol.kind; files = files_of r; token = r.symbol.token }
+
+-- the names; for each file, the marks of the files that it sees; for each name, the references that mean it
+pub record LinkOf : Type 0 where
+  pub names : List NameOf
+  pub seen : List (List Bool)
+  pub references : List (List RefId)
+
+-- the name with this number, if there is one
+abbrev pub name_at : LinkOf → ℕ → Option NameOf
+name_at l row = slice_get l.names row
+
+abbrev pub text_at : LinkOf → ℕ → Option (List ℕ)
+text_at l row = option_map (λ n. n.text) (name_at l row)
+
+-- the file that declares it (a package is of no file alone)
+abbrev pub own_file : NameOf → Option ℕ
+own_file n = if is_package n.kind then None else Some (get_or n.files 0 0)
+
+abbrev pub own_token : NameOf → Option ℕ
+own_token n = if is_package n.kind then None else Some n.token
+
+abbrev pub file_at : LinkOf → ℕ → Option ℕ
+file_at l row = option_and_then own_file (name_at l row)
+
+abbrev pub token_at : LinkOf → ℕ → Option ℕ
+token_at l row = option_and_then own_token (name_at l row)
+
+-- one of these files is marked
+abbrev pub sees_one : List Bool → List ℕ → Bool
+sees_one seen files = list_any (λ f. slice_index_or seen f false) files
+
+-- a name has this text, and one of its files is marked
+abbrev pub shows_text : List Bool → List ℕ → List NameOf → Bool
+shows_text seen text names = list_any (λ n. bytes_eq n.text text && sees_one seen n.files) names
+
+-- from the file a name is visible that has this text
+abbrev pub is_visible : LinkOf → ℕ → List ℕ → Bool
+is_visible l file text = shows_text (get_or l.seen file []) text l.names
+
+-- a reference, and the number of the name that it means
+pub record MeantBy : Type 0 where
+  pub reference : RefId
+  pub row : ℕ
+
+abbrev pub meant_by : ℕ → Meant → MeantBy
+meant_by file m = record { reference = record { file = file; token = m.token }; row = m.row }
+
+-- the references of all files from this number on, file after file
+abbrev pub all_meant : ℕ → List (List Meant) → List MeantBy
+all_meant file [] = []
+all_meant file (ms ∷ rest) = map (meant_by file) ms ++ all_meant (suc file) rest
+
+-- those that mean this name
+abbrev pub references_to : ℕ → List MeantBy → List RefId
+references_to row ms = map (λ m. m.reference) (filter (λ m. m.row == row) ms)

@@ -1,0 +1,83 @@
+//! What the references of all files mean, or the least that is faulty.
+
+ghost use Rattle.std.specs.Prelude.{◌≡◌, ◌<◌, ℕ, List, [], length, get_or, map, IfOk, IfErr};
+ghost use Rattle.std.specs.List.{All};
+ghost use Rattle.proto_files.specs.GivenFiles.{file_at};
+ghost use Rattle.proto_tree.specs.Reads.{Reads};
+ghost use Rattle.proto_names.specs.Faults.{Fault, ReferenceFault};
+ghost use Rattle.proto_names.specs.FileReferences.{AreFileMeant, AreLinked, IsFileError, IsFileLinked, IsLeastBad};
+ghost use Rattle.proto_names.specs.Links.{ReadOf, AreRead, AreListings, Each, IsListing, link_skeleton, text_of};
+ghost use Rattle.proto_names.specs.Tables.{IsTable};
+
+use crate::listing::Listing;
+use crate::read_files::are_read;
+use crate::references::{Meant, ReferenceError, meanings};
+use crate::table::Table;
+use proto_files::{Files, Words};
+use std::alloc::{AllocError, Global};
+
+/// What the references of each file mean, in order; else the least that is faulty, by file, token and number.
+pub(crate) fn all_meanings(
+    alloc: Global,
+    files: &Files,
+    table: &Table,
+    seen: &[Vec<bool>],
+    rows: &[Vec<usize>],
+    listings: &[Listing],
+) -> Result<Vec<Vec<Meant>>, ReferenceError>
+    requires table { IsTable table.now }
+    requires listings { AreListings files.now listings.now }
+    requires seen { length seen.now ≡ length files.now }
+    requires paired { length rows.now ≡ length files.now }
+    requires rows { Each (λ k v. (d : Listing) → length v.items ≡ length (get_or listings.now k d).declared.items) rows.now }
+    requires within { All (λ v. All (λ r. r < length table.now.rows.items) v.items) rows.now }
+    ensures len { IfOk result (λ ms. length ms.items ≡ length files.now) }
+    ensures within { IfOk result (λ ms. ((reads : List ReadOf) → AreRead files.now reads → AreLinked table.now seen.now rows.now files.now reads)
+        → All (λ v. All (λ m. m.row < length table.now.rows.items) v.items) ms.items) }
+    ensures meant { IfOk result (λ ms. (reads : List ReadOf) → AreRead files.now reads → AreLinked table.now seen.now rows.now files.now reads
+        → (k : ℕ) → k < length files.now → AreFileMeant table.now files.now reads k (get_or (map (λ v. v.items) ms.items) k [])) }
+    ensures clean { IfOk result (λ _. (reads : List ReadOf) → AreRead files.now reads → AreLinked table.now seen.now rows.now files.now reads
+        → (f : Fault) → ReferenceFault (text_of files.now reads) (link_skeleton files.now reads) f → ⊥) }
+    ensures fault { IfErr result (λ e. (reads : List ReadOf) → AreRead files.now reads → AreLinked table.now seen.now rows.now files.now reads
+        → IsLeastBad files.now reads e) }
+{
+    are_read(files);
+    let mut meant = Vec::new(alloc);
+    for file in 0..files.len() {
+        let own = file_meanings(
+            alloc,
+            files,
+            file as u32,
+            table,
+            &seen[file],
+            &rows[file],
+            &listings[file],
+        )?;
+        meant.push(own).map_err(AllocError::from)?;
+    }
+    Ok(meant)
+}
+
+/// What the references of one file mean, in order; else the first that is faulty.
+fn file_meanings(
+    alloc: Global,
+    files: &Files,
+    file: u32,
+    table: &Table,
+    seen: &[bool],
+    rows: &[usize],
+    listing: &Listing,
+) -> Result<Vec<Meant>, ReferenceError>
+    requires file { file < length files.now }
+    requires table { IsTable table.now }
+    requires listing { (r : ReadOf) × Reads (file_at files.now file).bytes r.tokens r.tree × IsListing r listing.now }
+    requires rows { length rows.now ≡ length listing.now.declared.items }
+    requires within { All (λ r. r < length table.now.rows.items) rows.now }
+    ensures meant { IfOk result (λ ms. (reads : List ReadOf) → AreRead files.now reads → IsFileLinked table.now seen.now rows.now files.now reads file
+        → AreFileMeant table.now files.now reads file ms.items) }
+    ensures fault { IfErr result (λ e. (reads : List ReadOf) → AreRead files.now reads → IsFileLinked table.now seen.now rows.now files.now reads file
+        → IsFileError files.now reads file e) }
+{
+    let words = Words::new(files.source(file as usize), files.tokens(file as usize));
+    meanings(alloc, table, seen, &words, file, rows, &listing.used)
+}

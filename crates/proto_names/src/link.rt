@@ -1,0 +1,191 @@
+//! The names of linked files, which files see them, and the references that mean them.
+
+ghost use Rattle.std.specs.Prelude.{◌≡◌, ◌≢◌, ◌↔◌, ℕ, ◌<◌, List, [], length, map, get_or, slice_get, option_map, option_and_then, Some, None, IfSome, IfNone, if◌then◌else◌};
+ghost use Rattle.std.specs.List.{All};
+ghost use Rattle.proto_files.specs.GivenFiles.{file_at as file_at_place};
+ghost use Rattle.proto_text.specs.Texts.{words};
+ghost use Rattle.proto_text.specs.Tokens.{AreTokens};
+ghost use Rattle.proto_text.specs.declared.lexer.Token.{Token};
+ghost use Rattle.proto_names.specs.FromTree.{dotted};
+ghost use Rattle.proto_names.specs.Joined.{joined, ArePlain};
+ghost use Rattle.proto_names.specs.LinkOfFiles.{IsLinkOf};
+ghost use Rattle.proto_names.specs.Linked.{is_package};
+ghost use Rattle.proto_names.specs.Linking.{name_of_row, name_at, text_at, file_at, token_at, shows_text, is_visible};
+ghost use Rattle.proto_names.specs.Links.{ReadOf, AreRead, names_of_files};
+ghost use Rattle.proto_names.specs.Names.{meaning};
+ghost use Rattle.proto_names.specs.Scopes.{reference_in};
+ghost use Rattle.proto_names.specs.Tables.{IsTable};
+
+use crate::kind::Kind;
+use crate::resolve::row_in_scope;
+use crate::table::{Row, Table};
+use proto_files::{Files, Words};
+use proto_tree::Reference;
+use std::marker::Model;
+
+/// A name of a link.
+#[derive(Clone, Copy, PartialEq, Eq)]
+pub struct SymbolId {
+    row: usize,
+}
+
+/// A reference: its file, and its first token (the dot, where it begins with one).
+#[derive(Clone, Copy)]
+pub struct RefId {
+    pub file: u32,
+    pub token: u32,
+}
+
+/// The names of files without faults.
+#[derive(Drop)]
+pub struct Link {
+    table: Table,
+    /// For each file, the marks of the files that it sees.
+    seen: Vec<Vec<bool>>,
+    /// For each name, the references that mean it.
+    references: Vec<Vec<RefId>>,
+}
+
+impl Model for Link {
+    ghost use Rattle.std.specs.Prelude.{◌≡◌, length, map};
+    ghost use Rattle.proto_names.specs.Linking.{LinkOf, name_of_row};
+    ghost use Rattle.proto_names.specs.Tables.{IsTable};
+
+    ghost Value = { LinkOf };
+
+    ghost view = { λ l. record { names = map name_of_row l.table.rows.items; seen = map (λ v. v.items) l.seen.items; references = map (λ v. v.items) l.references.items } };
+
+    ghost invariant = { λ l. IsTable l.table × (length l.references.items ≡ length l.table.rows.items) };
+}
+
+/// The row with this index, but for a package's.
+fn declared(rows: &[Row], index: usize) -> Option<&Row>
+    ensures { option_map (λ r. r.now) result ≡ option_and_then (λ r. if is_package r.symbol.kind then None else Some r) (slice_get rows.now index) }
+{
+    let row = rows.get(index)?;
+    if row.symbol.kind.is_package() {
+        None
+    } else {
+        Some(row)
+    }
+}
+
+/// Whether a name of the table has this text, in a file that is marked.
+#[tactic(auto, using(crate::proofs::Linking::shows_row, crate::proofs::Linking::shows_none))]
+fn shows(table: &Table, seen: &[bool], name: &str) -> bool
+    requires { IsTable table.now }
+    ensures { result ≡ shows_text seen.now name.now (map name_of_row table.now.rows.items) }
+{
+    match table.named(name) {
+        Some(row) => table.rows[row].is_seen(seen),
+        None => false,
+    }
+}
+
+impl Link {
+    /// A link of its parts.
+    pub(crate) fn from_parts(
+        table: Table,
+        seen: Vec<Vec<bool>>,
+        references: Vec<Vec<RefId>>,
+    ) -> Link
+        requires table { IsTable table }
+        requires paired { length references.items ≡ length table.rows.items }
+        ensures { result ≡ record { names = map name_of_row table.rows.items; seen = map (λ v. v.items) seen.items; references = map (λ v. v.items) references.items } }
+    {
+        Link {
+            table,
+            seen,
+            references,
+        }
+    }
+
+    /// The name with this text, if there is one. Takes no memory.
+    pub fn symbol(&self, name: &str) -> Option<SymbolId>
+        ensures some { IfSome result (λ id. text_at self.now id.row ≡ Some name.now) }
+        ensures none { IfNone result ((row : ℕ) → text_at self.now row ≢ Some name.now) }
+        ensures once { (i j : ℕ) (text : List ℕ) → text_at self.now i ≡ Some text → text_at self.now j ≡ Some text → i ≡ j }
+    {
+        let row = self.table.named(name)?;
+        Some(SymbolId { row })
+    }
+
+    /// Its text; none where this link has no such name.
+    pub fn name_of(&self, id: SymbolId) -> Option<&str>
+        ensures { option_map (λ text. text.now) result ≡ text_at self.now id.row }
+    {
+        let row = self.table.rows.get(id.row)?;
+        Some(row.name.as_str())
+    }
+
+    /// Its kind; none where this link has no such name.
+    pub fn kind_of(&self, id: SymbolId) -> Option<Kind>
+        ensures { result ≡ option_map (λ n. n.kind) (name_at self.now id.row) }
+    {
+        let row = self.table.rows.get(id.row)?;
+        Some(row.symbol.kind)
+    }
+
+    /// The file that declares it; none where this link has no such name, and for a package, which many may declare.
+    pub fn file_of(&self, id: SymbolId) -> Option<u32>
+        ensures exact { result ≡ file_at self.now id.row }
+        ensures declared { All (λ n. 0 < length n.files) self.now.names }
+    {
+        let row = declared(&self.table.rows, id.row)?;
+        Some(row.symbol.file)
+    }
+
+    /// The token that it is declared at; none where `file_of` answers none.
+    pub fn token_of(&self, id: SymbolId) -> Option<u32>
+        ensures { result ≡ token_at self.now id.row }
+    {
+        let row = declared(&self.table.rows, id.row)?;
+        Some(row.symbol.token)
+    }
+
+    /// The references that mean it, by file and in order; empty where this link has no such name.
+    pub fn references(&self, id: SymbolId) -> &[RefId]
+        ensures exact { result.now ≡ get_or self.now.references id.row [] }
+        ensures paired { length self.now.references ≡ length self.now.names }
+    {
+        match self.references.get(id.row) {
+            Some(references) => references.as_slice(),
+            None => &[],
+        }
+    }
+
+    /// Whether the file sees a name with this text. Takes no memory.
+    pub fn visible(&self, file: u32, name: &str) -> bool
+        ensures { result ≡ is_visible self.now file name.now }
+    {
+        match self.seen.get(file as usize) {
+            Some(seen) => shows(&self.table, seen, name),
+            None => false,
+        }
+    }
+
+    /// What a reference of a file means in a scope; none where it means nothing that is visible. The scope is the full
+    /// name of what stands around it, empty for none; it need not be declared. Takes no memory.
+    pub fn resolve(
+        &self,
+        files: &Files,
+        file: u32,
+        scope: &str,
+        reference: &Reference,
+    ) -> Option<SymbolId>
+        requires link { IsLinkOf files.now self.now }
+        requires file { file < length files.now }
+        requires scope { (path : List (List ℕ)) × ArePlain path × (scope.now ≡ joined path) }
+        requires words { (tokens : List Token) → AreTokens (file_at_place files.now file).bytes tokens → ArePlain (map (words (file_at_place files.now file).bytes tokens) (dotted reference.now.words)) }
+        ensures within { IfSome result (λ id. id.row < length self.now.names) }
+        ensures meant { (reads : List ReadOf) → AreRead files.now reads → (path : List (List ℕ)) → ArePlain path → scope.now ≡ joined path
+            → option_and_then (λ id. text_at self.now id.row) result ≡ option_map joined (meaning (names_of_files files.now reads) (reference_in files.now reads file path reference.now)) }
+        ensures none { (reads : List ReadOf) → AreRead files.now reads → (path : List (List ℕ)) → ArePlain path → scope.now ≡ joined path
+            → (result ≡ None) ↔ (meaning (names_of_files files.now reads) (reference_in files.now reads file path reference.now) ≡ None) }
+    {
+        let seen = self.seen.get(file as usize)?;
+        let words = Words::new(files.source(file as usize), files.tokens(file as usize));
+        let row = row_in_scope(&self.table, seen, &words, scope, reference)?;
+        Some(SymbolId { row })
+    }
+}

@@ -1,0 +1,166 @@
+//! What the references of a file mean, by the table of names, or the first that is faulty.
+
+ghost use Rattle.std.specs.Prelude.{◌≡◌, ◌<◌, ◌≤◌, ℕ, List, [], length, get_or, map, option_map, is_some, Some, None, IfOk, IfErr};
+ghost use Rattle.std.specs.List.{All};
+ghost use Rattle.proto_text.specs.Texts.{word_at};
+ghost use Rattle.proto_names.specs.FromTree.{dotted, first_of};
+ghost use Rattle.proto_names.specs.Joined.{joined, ArePlain};
+ghost use Rattle.proto_names.specs.Names.{Reference as NameReference, Workspace, meaning};
+ghost use Rattle.proto_names.specs.Referring.{first_token, reference_by, kind_flaw, row_flaw, AreMeant, IsReadBy, IsReferenceError};
+ghost use Rattle.proto_names.specs.Resolved.{IsAsked};
+ghost use Rattle.proto_names.specs.Tables.{names_of, IsTable};
+
+use crate::kind::Kind;
+use crate::listing::Use;
+use crate::table::Table;
+use proto_files::Words;
+use proto_tree::{Dotted, Reference};
+use std::alloc::{AllocError, Global};
+
+/// What is wrong with a reference.
+#[derive(Clone, Copy)]
+pub(crate) enum ReferenceFlaw {
+    /// It means nothing.
+    Unresolved,
+    /// A method's means an enum.
+    WrongKind,
+    /// It means a map field's generated entry.
+    MapEntry,
+}
+
+/// A faulty reference: its file, its first token, and what is wrong.
+#[derive(Clone, Copy)]
+pub(crate) struct BadReference {
+    pub(crate) file: u32,
+    pub(crate) token: u32,
+    pub(crate) flaw: ReferenceFlaw,
+}
+
+/// Why the references of a file have no meanings: the first that is faulty, or want of memory.
+#[derive(Drop)]
+pub(crate) enum ReferenceError {
+    Bad(BadReference),
+    NoMemory,
+}
+
+impl From<AllocError> for ReferenceError {
+    ghost use Rattle.proto_names.specs.declared.references.ReferenceError.TheVariants.{NoMemory};
+
+    ghost from_gives = { λ _ e. e ≡ NoMemory };
+
+    fn from(_e: AllocError) -> ReferenceError {
+        ReferenceError::NoMemory
+    }
+}
+
+/// A reference by its first token, and the row of the name that it means.
+#[derive(Clone, Copy)]
+pub(crate) struct Meant {
+    pub(crate) token: u32,
+    pub(crate) row: usize,
+}
+
+/// What the references of a file mean, in order; else the first that is faulty. The scopes are indices of the file's
+/// declarations, and `rows` has the row of each.
+pub(crate) fn meanings(
+    alloc: Global,
+    table: &Table,
+    seen: &[bool],
+    words: &Words,
+    file: u32,
+    rows: &[usize],
+    uses: &[Use],
+) -> Result<Vec<Meant>, ReferenceError>
+    requires table { IsTable table.now }
+    requires rows { All (λ r. r < length table.now.rows.items) rows.now }
+    requires scopes { All (λ u. u.scope < length rows.now) uses.now }
+    requires plain { All (λ u. ArePlain (map (word_at words.now) (dotted u.reference.now.words))) uses.now }
+    ensures meant { IfOk result (λ ms. (w : Workspace) (names : List (List (List ℕ))) → IsReadBy table.now seen.now rows.now names file w
+        → AreMeant table.now w (map (reference_by file names (word_at words.now)) uses.now) (map first_token uses.now) ms.items) }
+    ensures fault { IfErr result (λ e. (w : Workspace) (names : List (List (List ℕ))) → IsReadBy table.now seen.now rows.now names file w
+        → IsReferenceError w (reference_by file names (word_at words.now)) file uses.now e) }
+{
+    let mut meant = Vec::new(alloc);
+    for used in uses {
+        let scope = rows[used.scope] + 1;
+        let row = row_meant(alloc, table, seen, words, scope, used.reference)?;
+        let token = token_of(used.reference);
+        match sound_row(table, row, used.is_method) {
+            Ok(row) => meant.push(Meant { token, row }).map_err(AllocError::from)?,
+            Err(flaw) => return Err(ReferenceError::Bad(BadReference { file, token, flaw })),
+        }
+    }
+    Ok(meant)
+}
+
+/// The row of the name that a reference means, in a scope by its number.
+fn row_meant(
+    alloc: Global,
+    table: &Table,
+    seen: &[bool],
+    words: &Words,
+    scope: usize,
+    reference: &Reference,
+) -> Result<Option<usize>, AllocError>
+    requires table { IsTable table.now }
+    requires within { scope ≤ length table.now.rows.items }
+    requires plain { ArePlain (map (word_at words.now) (dotted reference.now.words)) }
+    ensures { IfOk result (λ o. (w : Workspace) (r : NameReference) → IsAsked table.now seen.now scope w r → r.words ≡ map (word_at words.now) (dotted reference.now.words) → r.is_absolute ≡ is_some reference.now.dot
+        → option_map (λ k. get_or (names_of table.now) k []) o ≡ option_map joined (meaning w r)) }
+{
+    let first = words.get(reference.words.first);
+    let rest = words_behind(alloc, words, &reference.words)?;
+    Ok(match reference.dot {
+        Some(_) => table.absolute(first, &rest, seen),
+        None => table.relative(scope, first, &rest, seen),
+    })
+}
+
+/// The texts of the words behind the first.
+fn words_behind<'a>(
+    alloc: Global,
+    words: &Words<'a>,
+    tokens: &Dotted,
+) -> Result<Vec<&'a str>, AllocError>
+    ensures { IfOk result (λ texts. map (λ t. t.now) texts.items ≡ map (λ b. word_at words.now b.item) tokens.now.rest) }
+{
+    let mut texts = Vec::new(alloc);
+    for behind in tokens.rest.as_slice() {
+        texts.push(words.get(behind.item))?;
+    }
+    Ok(texts)
+}
+
+/// The token that a reference begins with.
+fn token_of(reference: &Reference) -> u32
+    ensures { result ≡ first_of reference.now.dot reference.now.words }
+{
+    match reference.dot {
+        Some(dot) => dot,
+        None => reference.words.first,
+    }
+}
+
+/// The row that a reference means, else what is wrong with it.
+fn sound_row(table: &Table, row: Option<usize>, is_method: bool) -> Result<usize, ReferenceFlaw>
+    ensures row { IfOk result (λ k. (row ≡ Some k) × (row_flaw table.now row is_method ≡ None)) }
+    ensures flaw { IfErr result (λ flaw. row_flaw table.now row is_method ≡ Some flaw) }
+{
+    let row = row.ok_or(ReferenceFlaw::Unresolved)?;
+    let found = table.rows.get(row).ok_or(ReferenceFlaw::Unresolved)?;
+    match flaw_of(found.symbol.kind, is_method) {
+        Some(flaw) => Err(flaw),
+        None => Ok(row),
+    }
+}
+
+/// What is wrong with a reference that means a name of this kind.
+fn flaw_of(kind: Kind, is_method: bool) -> Option<ReferenceFlaw>
+    ensures { result ≡ kind_flaw kind is_method }
+{
+    match kind {
+        Kind::Entry => Some(ReferenceFlaw::MapEntry),
+        Kind::Enum if is_method => Some(ReferenceFlaw::WrongKind),
+        _ => None,
+    }
+}

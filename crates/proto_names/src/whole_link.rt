@@ -1,0 +1,173 @@
+//! The link of files, from their trees.
+
+ghost use Rattle.std.specs.Prelude.{◌≡◌, ℕ, ◌<◌, List, [], length, get_or, map, IfOk, IfErr};
+ghost use Rattle.std.specs.List.{All};
+ghost use Rattle.proto_files.specs.Faults.{HasNoFault};
+ghost use Rattle.proto_files.specs.FaultTable.{number_of as number_of_kind};
+ghost use Rattle.proto_files.specs.GivenFiles.{paths_of};
+ghost use Rattle.proto_names.specs.Faults.{Fault as FaultAtToken, ReferenceFault};
+ghost use Rattle.proto_names.specs.FileReferences.{AreFileMeant, flaw_number};
+ghost use Rattle.proto_names.specs.Importing.{all_imports, number_of};
+ghost use Rattle.proto_names.specs.LinkErrors.{IsLinkError};
+ghost use Rattle.proto_names.specs.LinkOfFiles.{AreNamesOf, HasNoImportFault, HasNoNameFault, IsLinkOf};
+ghost use Rattle.proto_names.specs.Links.{AreListings, AreRead, Each, LinkFaults, ReadOf, link_imports, link_skeleton, names_of_files, text_of};
+ghost use Rattle.proto_names.specs.Resolved.{MarksSeen};
+ghost use Rattle.proto_names.specs.Tables.{IsTable};
+ghost use Rattle.proto_names.specs.declared.listing.Listing.{Listing};
+
+use crate::all_references::all_meanings;
+use crate::backlinks::references_by_name;
+use crate::filling::{NameError, declare_all};
+use crate::import::{FileImport, ImportError, ImportFlaw, resolve_imports};
+use crate::link::Link;
+use crate::link_fault::{LinkFault, fault_at_token};
+use crate::listing::Listing;
+use crate::read_files::{all_spelled, all_written, are_read, listings};
+use crate::references::{Meant, ReferenceError, ReferenceFlaw};
+use crate::sight::all_seen;
+use crate::table::Table;
+use proto_files::{FaultKind, Files};
+use std::alloc::{AllocError, Global};
+
+fn paths_of<'a>(alloc: Global, files: &'a Files) -> Result<Vec<&'a str>, AllocError>
+    ensures { IfOk result (λ paths. map (λ p. p.now) paths.items ≡ paths_of files.now) }
+{
+    let mut paths = Vec::new(alloc);
+    for file in 0..files.len() {
+        paths.push(files.path(file))?;
+    }
+    Ok(paths)
+}
+
+fn import_kind(flaw: ImportFlaw) -> FaultKind
+    ensures { number_of_kind result ≡ number_of flaw }
+{
+    match flaw {
+        ImportFlaw::Unknown => FaultKind::UnknownImport,
+        ImportFlaw::Double => FaultKind::DoubleImport,
+        ImportFlaw::Cycle => FaultKind::ImportCycle,
+    }
+}
+
+/// The imports of each file, by the numbers of the files that they name; else the least fault.
+fn linked_imports(alloc: Global, files: &Files) -> Result<Vec<Vec<FileImport>>, LinkFault>
+    ensures len { IfOk result (λ imports. length imports.items ≡ length files.now) }
+    ensures within { IfOk result (λ imports. All (λ v. All (λ i. i.to < length files.now) v.items) imports.items) }
+    ensures imports { IfOk result (λ imports. (reads : List ReadOf) → AreRead files.now reads → all_imports 0 (map (λ v. v.items) imports.items) ≡ link_imports files.now reads) }
+    ensures clean { IfOk result (λ _. HasNoImportFault files.now) }
+    ensures fault { IfErr result (IsLinkError files.now) }
+{
+    // The contracts of these say that each file is read, and that the files are those of a workspace.
+    are_read(files);
+    files.len();
+    let written = all_written(alloc, files)?;
+    let paths = paths_of(alloc, files)?;
+    match resolve_imports(alloc, &paths, &written) {
+        Ok(imports) => Ok(imports),
+        Err(ImportError::Bad(bad)) => {
+            let kind = import_kind(bad.flaw);
+            Err(fault_at_token(alloc, files, bad.file, bad.token, kind))
+        }
+        Err(ImportError::NoMemory) => Err(LinkFault::NoMemory),
+    }
+}
+
+/// The table of the names of the files, and for each file the rows of its declarations; else the least clash of names.
+fn linked_names(
+    alloc: Global,
+    files: &Files,
+    listings: &[Listing],
+) -> Result<(Table, Vec<Vec<usize>>), LinkFault>
+    requires listings { AreListings files.now listings.now }
+    requires imports { HasNoImportFault files.now }
+    ensures table { IfOk result (λ x. IsTable x.0) }
+    ensures names { IfOk result (λ x. (reads : List ReadOf) → AreRead files.now reads → AreNamesOf files.now reads x.0 x.1.items) }
+    ensures paired { IfOk result (λ x. length x.1.items ≡ length files.now) }
+    ensures rows { IfOk result (λ x. Each (λ k v. (d : Listing) → length v.items ≡ length (get_or listings.now k d).declared.items) x.1.items) }
+    ensures within { IfOk result (λ x. All (λ v. All (λ r. r < length x.0.rows.items) v.items) x.1.items) }
+    ensures clean { IfOk result (λ _. HasNoNameFault files.now) }
+    ensures fault { IfErr result (IsLinkError files.now) }
+{
+    // The contracts of these say that each file is read, and that the files are those of a workspace.
+    are_read(files);
+    let _count = files.len();
+    let spelled = all_spelled(alloc, files, listings)?;
+    match declare_all(alloc, &spelled) {
+        Ok(names) => Ok(names),
+        Err(NameError::Clash { file, token }) => {
+            let kind = FaultKind::DuplicateName;
+            Err(fault_at_token(alloc, files, file, token, kind))
+        }
+        Err(NameError::NoMemory) => Err(LinkFault::NoMemory),
+    }
+}
+
+fn reference_kind(flaw: ReferenceFlaw) -> FaultKind
+    ensures { number_of_kind result ≡ flaw_number flaw }
+{
+    match flaw {
+        ReferenceFlaw::Unresolved => FaultKind::Unresolved,
+        ReferenceFlaw::WrongKind => FaultKind::WrongKind,
+        ReferenceFlaw::MapEntry => FaultKind::MapEntryRef,
+    }
+}
+
+/// What the references of each file mean; else the least fault.
+fn linked_references(
+    alloc: Global,
+    files: &Files,
+    table: &Table,
+    seen: &[Vec<bool>],
+    rows: &[Vec<usize>],
+    listings: &[Listing],
+) -> Result<Vec<Vec<Meant>>, LinkFault>
+    requires table { IsTable table.now }
+    requires listings { AreListings files.now listings.now }
+    requires seen { length seen.now ≡ length files.now }
+    requires marks { (reads : List ReadOf) → AreRead files.now reads → (k : ℕ) → k < length files.now → MarksSeen (names_of_files files.now reads) k (get_or (map (λ v. v.items) seen.now) k []) }
+    requires paired { length rows.now ≡ length files.now }
+    requires rows { Each (λ k v. (d : Listing) → length v.items ≡ length (get_or listings.now k d).declared.items) rows.now }
+    requires within { All (λ v. All (λ r. r < length table.now.rows.items) v.items) rows.now }
+    requires names { (reads : List ReadOf) → AreRead files.now reads → AreNamesOf files.now reads table.now rows.now }
+    requires no_import_fault { HasNoImportFault files.now }
+    requires no_name_fault { HasNoNameFault files.now }
+    ensures len { IfOk result (λ ms. length ms.items ≡ length files.now) }
+    ensures within { IfOk result (λ ms. All (λ v. All (λ m. m.row < length table.now.rows.items) v.items) ms.items) }
+    ensures meant { IfOk result (λ ms. (reads : List ReadOf) → AreRead files.now reads → (k : ℕ) → k < length files.now → AreFileMeant table.now files.now reads k (get_or (map (λ v. v.items) ms.items) k [])) }
+    ensures clean { IfOk result (λ _. (reads : List ReadOf) → AreRead files.now reads → (f : FaultAtToken) → ReferenceFault (text_of files.now reads) (link_skeleton files.now reads) f → ⊥) }
+    ensures fault { IfErr result (IsLinkError files.now) }
+{
+    // The contracts of these say that each file is read, and that the files are those of a workspace.
+    are_read(files);
+    files.len();
+    match all_meanings(alloc, files, table, seen, rows, listings) {
+        Ok(meant) => Ok(meant),
+        Err(ReferenceError::Bad(bad)) => {
+            let kind = reference_kind(bad.flaw);
+            Err(fault_at_token(alloc, files, bad.file, bad.token, kind))
+        }
+        Err(ReferenceError::NoMemory) => Err(LinkFault::NoMemory),
+    }
+}
+
+impl Link {
+    /// The link of the files, where their imports, names and references have no fault; else the least fault by phase,
+    /// path, offset and number.
+    pub fn new(alloc: Global, files: &Files) -> Result<Link, LinkFault>
+        ensures link { IfOk result (IsLinkOf files.now) }
+        ensures clean { IfOk result (λ _. HasNoFault (LinkFaults files.now)) }
+        ensures read { IfOk result (λ _. (reads : List ReadOf) × AreRead files.now reads) }
+        ensures fault { IfErr result (IsLinkError files.now) }
+    {
+        // Each file has tokens and a tree, and there are at most 4,096.
+        are_read(files);
+        let _count = files.len();
+        let imports = linked_imports(alloc, files)?;
+        let seen = all_seen(alloc, &imports)?;
+        let listings = listings(alloc, files)?;
+        let (table, rows) = linked_names(alloc, files, &listings)?;
+        let meant = linked_references(alloc, files, &table, &seen, &rows, &listings)?;
+        let references = references_by_name(alloc, table.rows.len(), &meant)?;
+        Ok(Link::from_parts(table, seen, references))
+    }
+}
