@@ -14,4 +14,6 @@ mod meanings;
 #[cfg(test)]
 mod readers;
 #[cfg(test)]
+mod resolving;
+#[cfg(test)]
 mod sight;
