@@ -22,7 +22,6 @@ pub mod Lists
 pub mod Clean
 pub mod Joined
 pub mod Placed
-pub mod Camel
 pub mod Known
 pub mod Found
 pub mod Meanings

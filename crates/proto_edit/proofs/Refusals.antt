@@ -101,9 +101,3 @@ none_to_rename name to = record { is = unknown_target; least = λ k lt c. (let s
 
 pub none_to_delete : (name : List ℕ) → IsLeastCase [] (delete_field name) 1
 none_to_delete name = record { is = refl; least = λ k lt c. (let same : k ≡ 1 = c in omega (arith, same, lt)) }
-
-pub none_to_add : (file path : List ℕ) → IsLeastCase [] (add_import file path) 2
-none_to_add file path = record { is = refl; least = λ k lt c. (let same : k ≡ 2 = c in omega (arith, same, lt)) }
-
-pub none_to_drop : (file path : List ℕ) → IsLeastCase [] (drop_import file path) 2
-none_to_drop file path = record { is = refl; least = λ k lt c. (let same : k ≡ 2 = c in omega (arith, same, lt)) }

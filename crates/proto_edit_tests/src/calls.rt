@@ -4,13 +4,16 @@ use proto_edit::*;
 use std::alloc::{AllocError, Global};
 use std::test::Fail;
 
-pub const ROW: &str = "syntax = \"proto3\"; message A { string b_c = 1; }";
+pub(crate) const ROW: &str = "syntax = \"proto3\"; message A { string b_c = 1; }";
 
 /// A refusal's number and name, or 0 and `done`.
-pub type Said = (u32, &'static str);
+pub(crate) type Said = (u32, &'static str);
 
 /// Files for a workspace: paths and texts.
-pub fn given(alloc: Global, texts: &[(&str, &str)]) -> Result<Vec<(String, Vec<u8>)>, AllocError> {
+pub(crate) fn given(
+    alloc: Global,
+    texts: &[(&str, &str)],
+) -> Result<Vec<(String, Vec<u8>)>, AllocError> {
     let mut files = Vec::new(alloc);
     for &(path, text) in texts {
         let path = String::from_str(alloc, path)?;
@@ -20,31 +23,31 @@ pub fn given(alloc: Global, texts: &[(&str, &str)]) -> Result<Vec<(String, Vec<u
 }
 
 /// The workspace of one file, `a.proto`.
-pub fn opened(alloc: Global, text: &str) -> Result<Workspace, OpenFault> {
+pub(crate) fn opened(alloc: Global, text: &str) -> Result<Workspace, OpenFault> {
     Workspace::open(alloc, given(alloc, &[("a.proto", text)])?)
 }
 
-pub fn workspace_of(alloc: Global, text: &str) -> Result<Workspace, Fail> {
+pub(crate) fn workspace_of(alloc: Global, text: &str) -> Result<Workspace, Fail> {
     Ok(opened(alloc, text)?)
 }
 
-pub fn json_of(alloc: Global, workspace: &Workspace) -> Result<String, AllocError> {
+pub(crate) fn json_of(alloc: Global, workspace: &Workspace) -> Result<String, AllocError> {
     to_json(alloc, workspace.descriptors())
 }
 
-pub fn is_text(workspace: &Workspace, text: &str) -> bool {
+pub(crate) fn is_text(workspace: &Workspace, text: &str) -> bool {
     let files = workspace.files();
     files.len() == 1 && files.source(0).as_bytes() == text.as_bytes()
 }
 
-pub fn rename(alloc: Global, name: &str, to: &str) -> Result<Edit, AllocError> {
+pub(crate) fn rename(alloc: Global, name: &str, to: &str) -> Result<Edit, AllocError> {
     Ok(Edit::Rename {
         name: String::from_str(alloc, name)?,
         to: String::from_str(alloc, to)?,
     })
 }
 
-pub fn apply(
+pub(crate) fn apply(
     alloc: Global,
     workspace: &mut Workspace,
     name: &str,
@@ -53,11 +56,11 @@ pub fn apply(
     workspace.apply(alloc, rename(alloc, name, to)?)
 }
 
-pub fn undo(alloc: Global, workspace: &mut Workspace, entry: &Entry) -> Result<(), Refusal> {
+pub(crate) fn undo(alloc: Global, workspace: &mut Workspace, entry: &Entry) -> Result<(), Refusal> {
     workspace.undo(alloc, entry)
 }
 
-pub fn said<T: Drop>(answer: Result<T, Refusal>) -> Said {
+pub(crate) fn said<T: Drop>(answer: Result<T, Refusal>) -> Said {
     match answer {
         Ok(_) => (0, "done"),
         Err(refusal) => (refusal.number(), refusal.name()),
@@ -65,16 +68,21 @@ pub fn said<T: Drop>(answer: Result<T, Refusal>) -> Said {
 }
 
 /// What a rename, or the undoing of one, answers.
-pub fn said_of_rename(alloc: Global, workspace: &mut Workspace, name: &str, to: &str) -> Said {
+pub(crate) fn said_of_rename(
+    alloc: Global,
+    workspace: &mut Workspace,
+    name: &str,
+    to: &str,
+) -> Said {
     said(apply(alloc, workspace, name, to))
 }
 
-pub fn said_of_undo(alloc: Global, workspace: &mut Workspace, entry: &Entry) -> Said {
+pub(crate) fn said_of_undo(alloc: Global, workspace: &mut Workspace, entry: &Entry) -> Said {
     said(undo(alloc, workspace, entry))
 }
 
 /// An entry's changes as `path before after (at old new)..`.
-pub fn changes_of(alloc: Global, entry: &Entry) -> Result<String, Fail> {
+pub(crate) fn changes_of(alloc: Global, entry: &Entry) -> Result<String, Fail> {
     let mut out = String::new(alloc);
     for change in entry.changes() {
         out.push_str(lengths_of(alloc, change)?.as_str())?;

@@ -1,16 +1,12 @@
 -- The references of a file by its listing are those of its tree.
-use Rattle.std.proofs.Common.{◌≡◌, ℕ, ◌+◌, ◌<◌, Bool, List, [], ◌∷◌, ◌++◌, length, get_or, map, refl, sym, ◌∙◌, ap, subst, inl, inr, arith}
+use Rattle.std.proofs.Common.{◌≡◌, ℕ, ◌<◌, Bool, List, [], ◌∷◌, length, get_or, map, refl, sym, ◌∙◌, ap, subst, arith}
 use Rattle.std.specs.Global.{Vec}
 use Rattle.std.specs.List.{All, Contains}
-use Rattle.std.proofs.lemmas.Bool.{cases_eq}
-use Rattle.std.proofs.lemmas.List.{map-append, length-append, get_or-map as get_or-map_within}
+use Rattle.std.proofs.lemmas.List.{map-append, get_or-map as get_or-map_within}
 use Rattle.std.proofs.lemmas.List.Elements.{All-map, Contains-get_or}
-use Rattle.std.proofs.Math.ListN.{get_or-append, get_or-map}
-use Rattle.std.proofs.Math.Seq.{get_or-append_seam}
+use Rattle.std.proofs.Math.ListN.{get_or-map}
 use Rattle.proto_text.proofs.Once.{one_token_list}
-use Rattle.proto_tree.specs.Tree.{Spells}
-use Rattle.proto_tree.specs.Reads.{Reads, classed}
-use Rattle.proto_tree.proofs.Faults.{one_tree}
+use Rattle.proto_tree.specs.Reads.{Reads}
 use Rattle.proto_text.specs.declared.lexer.Token.{Token}
 use Rattle.proto_text.specs.Texts.{words, word_at}
 use Rattle.proto_text.specs.Tokens.{Lexeme, lexeme_at, AreTokens}
@@ -36,53 +32,13 @@ use Rattle.proto_names.specs.declared.references.ReferenceError.TheVariants.{Bad
 use Rattle.proto_names.specs.declared.table.Table.{Table}
 use Rattle.proto_names.proofs.Basics.{contains_map}
 use Rattle.proto_names.proofs.Edited.{map_agree, map_map}
+use Rattle.proto_names.proofs.ReadOnce.{one_reading}
 use Rattle.proto_names.proofs.ReadTrees.{uses_plain}
 
 -- ---- what is read of a file
 
 abbrev pub IsReadOf : List FileOf → ℕ → ReadOf → Type 0
 IsReadOf files file r = Reads (file_at files file).bytes r.tokens r.tree
-
--- a file is read in one way
-pub one_read : (bytes : List ℕ) (r s : ReadOf) → Reads bytes r.tokens r.tree → Reads bytes s.tokens s.tree → r ≡ s
-one_read bytes r s x y =
-    let tokens = one_token_list bytes r.tokens s.tokens x.tokens_are y.tokens_are in
-    let tree = one_tree r.tree s.tree (classed bytes s.tokens) (subst (λ (z : List Token). Spells r.tree (classed bytes z)) tokens x.spells) y.spells in
-    ap (λ (z : List Token). let o : ReadOf = record { tokens = z; tree = r.tree } in o) tokens
-    ∙ ap (λ z. let o : ReadOf = record { tokens = s.tokens; tree = z } in o) tree
-
--- what is read of the files up to a number
-pub record AreReadTo (files : List FileOf) (n : ℕ) : Type 0 where
-  pub reads : List ReadOf
-  pub len : length reads ≡ n
-  pub each : (k : ℕ) → k < n → IsReadOf files k (read_at reads k)
-
-pub read_none : (files : List FileOf) → AreReadTo files 0
-read_none files = record { reads = []; len = refl; each = λ k l. absurd (omega (arith, l)) }
-
-pub read_more : (files : List FileOf) (n : ℕ) (r : ReadOf) → AreReadTo files n → IsReadOf files n r → AreReadTo files (n + 1)
-read_more files n r before here = record {
-  reads = before.reads ++ r ∷ [];
-  len = omega (arith, before.len, length-append before.reads (r ∷ []));
-  each = λ k l. elim (cases_eq k n) [
-    | inl e ↦
-        let z : length before.reads ≡ k = before.len ∙ sym e in
-        subst (IsReadOf files k) (sym (ap (λ j. read_at (before.reads ++ r ∷ []) j) (sym z) ∙ get_or-append_seam before.reads r [] (record { tokens = []; tree = _ }))) (subst (λ j. IsReadOf files j r) (sym e) here)
-    | inr ne ↦
-        let z : k < n = omega (arith, l, ne) in
-        subst (IsReadOf files k) (sym (get_or-append before.reads (r ∷ []) (record { tokens = []; tree = _ }) k (omega (arith, z, before.len)))) (before.each k z)
-  ];
-}
-
-pub are_read : (files : List FileOf) (n : ℕ) → n ≡ length files → AreReadTo files n → (reads : List ReadOf) × AreRead files reads
-are_read files n e r = (
-  r.reads,
-  record {
-    same = r.len ∙ e;
-    tokens = λ k l. (r.each k (omega (arith, l, e))).tokens_are;
-    trees = λ k l. r.each k (omega (arith, l, e));
-  },
-)
 
 -- ---- the references of a file
 
@@ -172,7 +128,7 @@ module _ (files : List FileOf) (reads : List ReadOf) (are : AreRead files reads)
   reference z = reference_by file (declared_names files reads file) (word_at z)
 
   same_listing : IsListing (read_at reads file) l
-  same_listing = subst (λ (z : ReadOf). IsListing z l) (one_read (file_at files file).bytes r (read_at reads file) reading (are.trees file within)) is
+  same_listing = subst (λ (z : ReadOf). IsListing z l) (one_reading (file_at files file).bytes r (read_at reads file) reading (are.trees file within)) is
 
   same_words : ls ≡ map (lexeme_at (file_at files file).bytes) (read_at reads file).tokens
   same_words = words_are ∙ ap (λ (z : List ℕ). map (lexeme_at z) tokens) source_is

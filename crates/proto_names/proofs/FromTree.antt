@@ -172,9 +172,6 @@ picked_within p g gp gg (Block h i within j rest) n num v c =
 
 -- ---- spans
 
-abbrev Lies : ℕ → ℕ → ℕ → Type 0
-Lies lo hi t = (lo ≤ t) × (t < hi)
-
 lies_all : (lo hi t mid : ℕ) (vs : List ℕ) → ((v : ℕ) → Contains vs v → (lo ≤ v) × (v < hi)) → t < lo → hi ≤ mid → All (λ v. (t < v) × (v < mid)) vs
 lies_all lo hi t mid vs f a b = λ k d l. let r = f (get_or vs k d) (Contains-get_or vs k d l) in (omega (arith, r.0, a), omega (arith, r.1, b))
 

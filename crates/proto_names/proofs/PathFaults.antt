@@ -51,13 +51,6 @@ pub record IsFresh (look : WrittenImport → Option ℕ) (has : ℕ → Bool) (w
   pub named : (to : ℕ) → has to ≡ true → (j : ℕ) × (j < i) × ((d : WrittenImport) → look (get_or ws j d) ≡ Some to)
   pub single : (j k : ℕ) (d : WrittenImport) → j < k → k < i → look (get_or ws j d) ≡ look (get_or ws k d) → ⊥
 
-pub fresh_first : (look : WrittenImport → Option ℕ) (has : ℕ → Bool) (ws : List WrittenImport) → ((to : ℕ) → has to ≡ false) → IsFresh look has ws 0
-fresh_first look has ws none = record {
-  known = λ j d l. absurd (omega (arith, l));
-  named = λ to h. absurd (both_ways (has to) (none to) h);
-  single = λ j k d l m. absurd (omega (arith, m));
-}
-
 pub fresh_more : (look : WrittenImport → Option ℕ) (has has' : ℕ → Bool) (ws : List WrittenImport) (i to : ℕ) → IsFresh look has ws i → ((d : WrittenImport) → look (get_or ws i d) ≡ Some to) → has to ≡ false
     → ((q : ℕ) → has q ≡ true → has' q ≡ true) → has' to ≡ true → ((q : ℕ) → has' q ≡ true → (q ≡ to) ⊎ (has q ≡ true)) → IsFresh look has' ws (i + 1)
 fresh_more look has has' ws i to fr here new kept put only = record {

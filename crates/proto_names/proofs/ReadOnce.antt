@@ -15,7 +15,7 @@ offset_past [] i h = refl
 offset_past (t ∷ ts) zero h = absurd (omega (arith, h))
 offset_past (t ∷ ts) (suc i) h = offset_past ts i (omega (arith, h))
 
-one_reading : (text : List ℕ) (a b : ReadOf) → Reads text a.tokens a.tree → Reads text b.tokens b.tree → a ≡ b
+pub one_reading : (text : List ℕ) (a b : ReadOf) → Reads text a.tokens a.tree → Reads text b.tokens b.tree → a ≡ b
 one_reading text a b x y =
     let same = one_token_list text a.tokens b.tokens x.tokens_are y.tokens_are in
     let tree = one_tree a.tree b.tree (classed text b.tokens) (subst (λ (z : List Token). Spells a.tree (classed text z)) same x.spells) y.spells in

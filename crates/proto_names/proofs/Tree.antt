@@ -16,9 +16,6 @@ none_left p c = absurd (omega (arith, c.1))
 pub token_is : (p q : Placed) (d t : ℕ) → p ≡ q → token_of p.last ≡ Some t → token_of q.last ≡ Some d → t ≡ d
 token_is p q d t e a b = same_Some t d (sym a ∙ ap (λ z. token_of z.last) e ∙ b)
 
-no_token : (p q : Placed) (d : ℕ) → p ≡ q → token_of p.last ≡ None → token_of q.last ≡ Some d → ⊥
-no_token p q d e a b = none-some d (sym a ∙ ap (λ z. token_of z.last) e ∙ b)
-
 abbrev value_only : List (Source ℕ) → ℕ → List Placed
 value_only path t = place (path ++ EntryOf t ∷ []) (Given value_word) EntryField ∷ []
 

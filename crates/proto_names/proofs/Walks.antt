@@ -8,18 +8,6 @@ use Rattle.std.proofs.Math.Seq.{take-suc}
 use Rattle.proto_names.specs.Walks.{Walks, stays, goes, unseen, IsMarked, Visits}
 use Rattle.proto_names.proofs.Basics.{contains_head, contains_cases}
 
-pub visits_none : (seen : List Bool) (todo : List ℕ) → Visits [] seen todo seen todo
-visits_none seen todo = record {
-  sized = refl;
-  kept = λ g h. h;
-  marked = λ g c. absurd (omega (arith, c.1));
-  only = λ g h. inl h;
-  waits = λ g h. inl h;
-  stay = λ g c. c;
-  from = λ g c. inl c;
-  work = omega arith;
-}
-
 -- what is marked already is passed over
 pub visits_old : (done : List ℕ) (x : ℕ) (seen : List Bool) (todo : List ℕ) (seen' : List Bool) (todo' : List ℕ) → Visits done seen todo seen' todo' → IsMarked seen' x → Visits (done ++ x ∷ []) seen todo seen' todo'
 visits_old done x seen todo seen' todo' v h = record {

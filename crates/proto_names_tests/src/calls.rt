@@ -6,7 +6,10 @@ use std::alloc::{AllocError, Global};
 use std::test::Fail;
 
 /// Files for a workspace: paths and texts.
-pub fn given(alloc: Global, texts: &[(&str, &str)]) -> Result<Vec<(String, Vec<u8>)>, AllocError> {
+pub(crate) fn given(
+    alloc: Global,
+    texts: &[(&str, &str)],
+) -> Result<Vec<(String, Vec<u8>)>, AllocError> {
     let mut files = Vec::new(alloc);
     for &(path, text) in texts {
         let path = String::from_str(alloc, path)?;
@@ -16,7 +19,7 @@ pub fn given(alloc: Global, texts: &[(&str, &str)]) -> Result<Vec<(String, Vec<u
 }
 
 /// The files of a workspace, read.
-pub fn read(alloc: Global, given: Vec<(String, Vec<u8>)>) -> Result<Files, FilesFault> {
+pub(crate) fn read(alloc: Global, given: Vec<(String, Vec<u8>)>) -> Result<Files, FilesFault> {
     let paths = Paths::new(alloc, given)?;
     Files::read(alloc, paths)
 }
@@ -43,7 +46,7 @@ fn link_fault(alloc: Global, fault: LinkFault) -> Result<String, AllocError> {
 }
 
 /// `links`, or the fault of the link.
-pub fn answer_of_files(alloc: Global, files: &Files) -> Result<String, AllocError> {
+pub(crate) fn answer_of_files(alloc: Global, files: &Files) -> Result<String, AllocError> {
     match Link::new(alloc, files) {
         Ok(_) => String::from_str(alloc, "links"),
         Err(fault) => link_fault(alloc, fault),
@@ -51,27 +54,30 @@ pub fn answer_of_files(alloc: Global, files: &Files) -> Result<String, AllocErro
 }
 
 /// `links`, or the fault.
-pub fn answer_of(alloc: Global, given: Vec<(String, Vec<u8>)>) -> Result<String, AllocError> {
+pub(crate) fn answer_of(
+    alloc: Global,
+    given: Vec<(String, Vec<u8>)>,
+) -> Result<String, AllocError> {
     match read(alloc, given) {
         Ok(files) => answer_of_files(alloc, &files),
         Err(fault) => files_fault(alloc, fault),
     }
 }
 
-pub fn answer(alloc: Global, texts: &[(&str, &str)]) -> Result<String, AllocError> {
+pub(crate) fn answer(alloc: Global, texts: &[(&str, &str)]) -> Result<String, AllocError> {
     answer_of(alloc, given(alloc, texts)?)
 }
 
 /// Of one file, `a.proto`.
-pub fn answer_of_text(alloc: Global, text: &str) -> Result<String, AllocError> {
+pub(crate) fn answer_of_text(alloc: Global, text: &str) -> Result<String, AllocError> {
     answer(alloc, &[("a.proto", text)])
 }
 
-pub fn read_texts(alloc: Global, texts: &[(&str, &str)]) -> Result<Files, Fail> {
+pub(crate) fn read_texts(alloc: Global, texts: &[(&str, &str)]) -> Result<Files, Fail> {
     Ok(read(alloc, given(alloc, texts)?)?)
 }
 
-pub fn link(alloc: Global, files: &Files) -> Result<Link, Fail> {
+pub(crate) fn link(alloc: Global, files: &Files) -> Result<Link, Fail> {
     Ok(Link::new(alloc, files)?)
 }
 
@@ -124,7 +130,7 @@ fn place_of_token(
 }
 
 /// What a link says of a name: `name kind path:offset`.
-pub fn told_of_name(
+pub(crate) fn told_of_name(
     alloc: Global,
     link: &Link,
     files: &Files,
@@ -153,7 +159,7 @@ fn told_of_id(
 }
 
 /// The references of a name: `path:offset` each, joined by commas.
-pub fn references_of(
+pub(crate) fn references_of(
     alloc: Global,
     link: &Link,
     files: &Files,

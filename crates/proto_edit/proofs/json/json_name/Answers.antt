@@ -4,7 +4,7 @@ use Rattle.std.specs.Str.Iter.{chars_rest}
 use Rattle.std.specs.String.{string_bytes}
 use Rattle.std.proofs.lemmas.Bool.{cond-true, cond-false}
 use Rattle.proto_names.specs.EntryNames.{camel_from}
-use Rattle.proto_edit.proofs.Camel.{letter_step, letter_end}
+use Rattle.proto_names.proofs.Camel.{letter_step, letter_end}
 use Rattle.proto_edit.proofs.json.json_name.Goals.{then-up, else-up}
 use Rattle.proto_edit.proofs.json.json_name.Goals as goal
 
