@@ -8,8 +8,21 @@ import sys
 from google.protobuf import descriptor_pb2, descriptor_pool, json_format
 
 
+def with_synthetic_oneofs(message):
+    """Puts each proto3 `optional` field into a oneof of its own, which our descriptors leave out and a pool wants."""
+    for field in message.field:
+        if field.proto3_optional:
+            message.oneof_decl.add(name="_" + field.name)
+            field.oneof_index = len(message.oneof_decl) - 1
+    for nested in message.nested_type:
+        with_synthetic_oneofs(nested)
+
+
 def load(text):
     files = json_format.Parse(text, descriptor_pb2.FileDescriptorSet()).file
+    for file in files:
+        for message in file.message_type:
+            with_synthetic_oneofs(message)
     pool = descriptor_pool.DescriptorPool()
     waiting = list(files)
     while waiting:

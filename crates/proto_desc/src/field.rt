@@ -22,7 +22,7 @@ pub struct FieldDescriptor {
     /// The default as text: decimal, `true` or `false`, the string, or the name of an enum's value.
     pub default_value: Option<String>,
     /// The place of its oneof in the message's `oneof_decl`, from 0.
-    pub oneof_index: Option<u32>,
+    pub oneof_index: Option<usize>,
     pub json_name: Option<String>,
     /// Whether a proto3 field says `optional`.
     pub proto3_optional: bool,

@@ -28,7 +28,7 @@ pub struct FileDescriptor {
     /// The imported paths.
     pub dependency: Vec<String>,
     /// The places of the public imports in `dependency`, from 0.
-    pub public_dependency: Vec<u32>,
+    pub public_dependency: Vec<usize>,
     pub message_type: Vec<MessageDescriptor>,
     pub enum_type: Vec<EnumDescriptor>,
     pub service: Vec<ServiceDescriptor>,

@@ -40,6 +40,14 @@ impl Json {
         }
     }
 
+    pub(crate) fn index(index: usize) -> Json
+        ensures { result ≡ decimal index }
+    {
+        Json {
+            value: Value::from(index),
+        }
+    }
+
     pub(crate) fn integer(number: i32) -> Json
         ensures { result ≡ signed_decimal number }
     {

@@ -23,11 +23,11 @@ impl ToJson for String {
     }
 }
 
-impl ToJson for u32 {
+impl ToJson for usize {
     ghost text = { λ n. decimal n };
 
     fn to_json(&self, _alloc: Global) -> Result<Json, AllocError> {
-        Ok(Json::number(*self))
+        Ok(Json::index(*self))
     }
 }
 

@@ -44,3 +44,9 @@ pub mod EveryLanguage
 pub mod CleanCompiles
 pub mod PlainNames
 pub mod AimedAt
+pub mod BridgeTrees
+pub mod BridgeNames
+pub mod BridgeParts
+pub mod BridgeScene
+pub mod BridgeFlaws
+pub mod BridgeWhole

@@ -15,3 +15,4 @@ pub mod Answers
 pub mod Sentences
 pub mod Shaped
 pub mod Plain
+pub mod Bridge

@@ -1,5 +1,6 @@
 //! What holds of the definitions, for whoever builds on them. None of these does anything.
 
+ghost use Rattle.proto_edit.specs.Bridge.{FirstCompiles, WholeIsFirst};
 ghost use Rattle.proto_edit.specs.Laws.{AbsentIsNoSymbol, CleanIsCompiled, CollisionsAreOtherFields, CompiledIsClean, CompilesOnce, DescribedOnce, EditsAreMade, FieldsAreAimedAt, MessagesAreAimedAt, NoFaultComesIn, NoWordIsRewritten, NothingIsCaptured, PutsOnce, RenamesCompile, RenamesLeave, RunsAreUndone, SentencesStay, StepsAreUndone, StepsArePrinted, StepsCompile, StepsOnce, TreesStay, UndoneOnce};
 
 /// Words put in the places of words leave the tokens by index and the very same tree.
@@ -78,4 +79,10 @@ pub fn targets_are_symbols()
 /// No reference is written anew by the rename of a field.
 pub fn no_word_is_rewritten()
     ensures { NoWordIsRewritten }
+{}
+
+/// Files that compile have no fault of the whole language, and files of the first language that have none compile.
+pub fn whole_and_first_agree()
+    ensures compiled { FirstCompiles }
+    ensures whole { WholeIsFirst }
 {}

@@ -107,7 +107,7 @@ module _ (text : List ℕ) (tokens : List TextToken) (tree : Tree) (reads : Read
   known want.Text i l = l
   known _ i l = tt
 
-  as_long : length (flat tree) ≡ length tokens
+  pub as_long : length (flat tree) ≡ length tokens
   as_long = fit_length 0 (flat tree) (map (lexeme_at text) tokens) reads.spells.fits ∙ length_map (lexeme_at text) tokens
 
   are_marked : (n : ℕ) (ms : List Mark) → Numbered n ms → n + length ms ≤ length tokens → Are Here Here n ms

@@ -27,14 +27,14 @@ offset_rises text tokens i j lexed lt within =
     omega (arith, o.some i (omega (arith, lt, within)), o.rising (suc i) j (omega (arith, lt)) (omega (arith, within)), o.apart j within)
 
 -- one token is before another, by its offset
-token_before : (text : List ℕ) (tokens : List Token) (i j : ℕ) → AreTokens text tokens → i < length tokens → offset_at tokens i < offset_at tokens j → i < j
+pub token_before : (text : List ℕ) (tokens : List Token) (i j : ℕ) → AreTokens text tokens → i < length tokens → offset_at tokens i < offset_at tokens j → i < j
 token_before text tokens i j lexed within lt = elim (cases_order i j) [
   | inl e ↦ let same : offset_at tokens i ≡ offset_at tokens j = ap (offset_at tokens) e in absurd (omega (arith, lt, same))
   | inr (inl below) ↦ below
   | inr (inr above) ↦ absurd (omega (arith, lt, offset_rises text tokens j i lexed above within))
 ]
 
-one_token : (text : List ℕ) (tokens : List Token) (i j : ℕ) → AreTokens text tokens → i < length tokens → j < length tokens → offset_at tokens i ≡ offset_at tokens j → i ≡ j
+pub one_token : (text : List ℕ) (tokens : List Token) (i j : ℕ) → AreTokens text tokens → i < length tokens → j < length tokens → offset_at tokens i ≡ offset_at tokens j → i ≡ j
 one_token text tokens i j lexed li lj e = elim (cases_order i j) [
   | inl same ↦ same
   | inr (inl below) ↦ absurd (omega (arith, e, offset_rises text tokens i j lexed below lj))
@@ -45,14 +45,14 @@ module _ (files : List FileOf) (are_files : AreWorkspaceFiles files) where
   path_rises : (i j : ℕ) → i < j → j < length files → PathIsBefore (file_at files i).path (file_at files j).path
   path_rises i j lt within = are_files.ordered i j (record { path = []; bytes = [] }) lt within
 
-  file_before : (i j : ℕ) → i < length files → PathIsBefore (file_at files i).path (file_at files j).path → i < j
+  pub file_before : (i j : ℕ) → i < length files → PathIsBefore (file_at files i).path (file_at files j).path → i < j
   file_before i j within h = elim (cases_order i j) [
     | inl e ↦ absurd (never_before_itself (file_at files j).path (subst (λ (k : ℕ). PathIsBefore (file_at files k).path (file_at files j).path) e h))
     | inr (inl below) ↦ below
     | inr (inr above) ↦ absurd (never_before_itself (file_at files i).path (before_trans (file_at files i).path (file_at files j).path (file_at files i).path h (path_rises j i above within)))
   ]
 
-  one_file : (i j : ℕ) → i < length files → j < length files → (file_at files i).path ≡ (file_at files j).path → i ≡ j
+  pub one_file : (i j : ℕ) → i < length files → j < length files → (file_at files i).path ≡ (file_at files j).path → i ≡ j
   one_file i j li lj e = elim (cases_order i j) [
     | inl same ↦ same
     | inr (inl below) ↦ absurd (never_before_itself (file_at files j).path (subst (λ (p : List ℕ). PathIsBefore p (file_at files j).path) e (path_rises i j below lj)))

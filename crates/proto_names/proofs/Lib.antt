@@ -75,3 +75,6 @@ pub mod Scopes
 pub mod InScope
 pub mod PlainNames
 pub mod LinkIndex
+pub mod FirstTokens
+pub mod LinkMeanings
+pub mod MeantNames

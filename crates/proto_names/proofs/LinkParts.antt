@@ -1,5 +1,5 @@
 -- The parts of a link are those of its files: their names, what each file sees, and the references that mean each name.
-use Rattle.std.proofs.Common.{◌≡◌, ℕ, suc, ◌+◌, ◌<◌, Bool, true, false, List, [], ◌∷◌, ◌++◌, length, get_or, map, slice_get, option_map, Option, Some, None, refl, sym, ◌∙◌, ap, subst, inl, inr, arith, string_bytes, cond}
+use Rattle.std.proofs.Common.{◌≡◌, ℕ, suc, ◌+◌, ◌<◌, Bool, true, false, List, [], ◌∷◌, ◌++◌, length, get_or, map, slice_get, option_map, Option, Some, None, refl, sym, ◌∙◌, ap, subst, arith, string_bytes, cond}
 use Rattle.std.specs.Prelude.{◌==◌}
 use Rattle.std.specs.Global.{Vec}
 use Rattle.std.specs.Cmp.{both_ways}
@@ -7,13 +7,13 @@ use Rattle.std.specs.List.{All, Contains, filter}
 use Rattle.std.specs.Str.{bytes_eq}
 use Rattle.std.proofs.lemmas.Bool.{eqb-true, eq-eqb}
 use Rattle.std.proofs.lemmas.List.{get_or-map, length-map, map-append}
-use Rattle.std.proofs.lemmas.List.Elements.{Contains-append_cases, filter-append}
+use Rattle.std.proofs.lemmas.List.Elements.{filter-append}
 use Rattle.std.proofs.lemmas.Option.{slice_get-get_or, slice_get_within, get_or_from_slice_get, none-some, same_Some}
 use Rattle.proto_files.specs.GivenFiles.{FileOf}
 use Rattle.proto_names.specs.EntryNames.{entry_name}
-use Rattle.proto_names.specs.Faults.{place_from, place_of}
+use Rattle.proto_names.specs.Faults.{place_of}
 use Rattle.proto_names.specs.FileReferences.{AreFileMeant, uses_of}
-use Rattle.proto_names.specs.Grown.{At, at, FileNames, all_declared, all_used, declared_of, file_declared, used_in}
+use Rattle.proto_names.specs.Grown.{At, at, all_used, used_in}
 use Rattle.proto_names.specs.Importing.{all_imports}
 use Rattle.proto_names.specs.Joined.{joined}
 use Rattle.proto_names.specs.Linked.{AreFiles}
@@ -24,37 +24,18 @@ use Rattle.proto_names.specs.Names.{Workspace, meaning}
 use Rattle.proto_names.specs.Naming.{used_named}
 use Rattle.proto_names.specs.Referring.{AreMeant}
 use Rattle.proto_names.specs.Resolved.{IsIndexOf, MarksSeen}
-use Rattle.proto_names.specs.Skeleton.{Declared, EntryOf, Given, Source, Token, Used, reference_of, shifted_declared, shifted_source}
+use Rattle.proto_names.specs.Skeleton.{Used, reference_of}
 use Rattle.proto_names.specs.Tables.{IsTable, aboves_of, look, names_of}
-use Rattle.proto_names.specs.Tree.{file_placed}
 use Rattle.proto_names.specs.declared.import.FileImport.{FileImport}
 use Rattle.proto_names.specs.declared.link.RefId.{RefId}
 use Rattle.proto_names.specs.declared.references.Meant.{Meant}
 use Rattle.proto_names.specs.declared.table.Row.{Row}
 use Rattle.proto_names.specs.declared.table.Table.{Table}
-use Rattle.proto_names.proofs.Basics.{from_map, same_from_word, word_from_same}
+use Rattle.proto_names.proofs.Basics.{same_from_word, word_from_same}
 use Rattle.proto_names.proofs.Forest.{names_apart}
 use Rattle.proto_names.proofs.ImportGraph.{import_in}
 use Rattle.proto_names.proofs.Search.{pick}
 use Rattle.proto_names.proofs.SeenFiles.{imports_within}
-
--- ---- places
-
-place_file : (n x : ℕ) (path : List (Source ℕ)) → (place_from (at n x) (map (shifted_source (at n)) path)).file ≡ n
-place_file n x [] = refl
-place_file n x (Token t ∷ rest) = place_file n t rest
-place_file n x (EntryOf t ∷ rest) = place_file n t rest
-place_file n x (Given w ∷ rest) = place_file n x rest
-
--- a declaration stands in its file
-own_place : (n : ℕ) (fs : List FileNames) (d : Declared At) → Contains (all_declared n fs) d → (place_of d).file ≡ d.file
-own_place n [] d c = absurd (omega (arith, c.1))
-own_place n (f ∷ fs) d c = elim (Contains-append_cases (file_declared n f) (all_declared (suc n) fs) d c) [
-  | inl e ↦
-      let p = from_map (λ p. shifted_declared (at n) (declared_of n p)) (file_placed f.items) d e in
-      subst (λ (x : Declared At). (place_of x).file ≡ x.file) p.2 (place_file n 0 (declared_of n p.0).path)
-  | inr e ↦ own_place (suc n) fs d e
-]
 
 -- ---- rows and names
 
@@ -216,14 +197,13 @@ module _ (files : List FileOf) (reads : List ReadOf) (are : AreRead files reads)
       let sized : length (map names_in reads) ≡ length files = length-map reads names_in ∙ are.same in
       record {
         names = holds_names t ok l same w names.index;
-        tokens = λ d c other row n h e.
+        places = λ d c other row n h e.
             (let x = names.tokens d c other in
             let here : x.row ≡ row = one_row t ok l same row x.row n h x.within (x.name ∙ sym e) in
             let r = name_to t ok l same row n h in
             let r0 = pick t.rows.items row r.0 in
             let place = subst (λ (k : ℕ). at (get_or t.rows.items k r0).symbol.file (get_or t.rows.items k r0).symbol.token ≡ place_of d) here (x.place r0) in
-            let file : (get_or t.rows.items row r0).symbol.file ≡ d.file = ap (λ (a : At). a.file) place ∙ own_place 0 (map names_in reads) d c in
-            ap (λ (k : ℕ). at d.file k) (sym (ap (λ (y : NameOf). y.token) (r.1 r0))) ∙ ap (λ (k : ℕ). at k (get_or t.rows.items row r0).symbol.token) (sym file) ∙ place);
+            ap (λ (y : NameOf). at (get_or y.files 0 0) y.token) (sym (r.1 r0)) ∙ place);
         seen = λ file lt. subst (λ (s : List (List Bool)). MarksSeen w file (get_or s file [])) seen_is (marks file (omega (arith, lt, sized)));
         files = ap length (sym seen_is) ∙ seen_len ∙ sym sized;
         between = between;

@@ -1,23 +1,25 @@
--- When a link is that of files: it has their names, what each file sees, and the references that mean each name.
-use Rattle.std.specs.Prelude.{◌≡◌, ◌≢◌, ℕ, ◌+◌, ◌<◌, Bool, false, List, [], length, get_or, map, Option, Some, None}
+-- When a link is that of files: it has their names, what each file sees, what each reference means, and the references that mean each name.
+use Rattle.std.specs.Prelude.{◌≡◌, ◌≢◌, ℕ, ◌+◌, ◌<◌, Bool, false, List, [], length, get_or, map, Option, Some, None, option_map}
 use Rattle.std.specs.Global.{Vec}
-use Rattle.std.specs.List.{All, Contains, filter}
+use Rattle.std.specs.List.{All, AllPairs, Contains, filter}
 use Rattle.std.specs.Str.{bytes_eq}
 use Rattle.proto_files.specs.GivenFiles.{FileOf, paths_of}
 use Rattle.proto_names.specs.EntryNames.{entry_name}
 use Rattle.proto_names.specs.Faults.{Fault, ImportFault, NameFault, place_of}
-use Rattle.proto_names.specs.FileReferences.{declared_names}
+use Rattle.proto_names.specs.FileReferences.{declared_names, uses_of}
 use Rattle.proto_names.specs.Forest.{front}
 use Rattle.proto_names.specs.Grown.{At, at}
 use Rattle.proto_names.specs.Joined.{ArePlain, joined}
 use Rattle.proto_names.specs.Linked.{AreFiles}
-use Rattle.proto_names.specs.Linking.{LinkOf, NameOf, name_at}
+use Rattle.proto_names.specs.Linking.{LinkOf, NameOf, name_at, text_at}
 use Rattle.proto_names.specs.Links.{ReadOf, AreRead, all_wanted, link_skeleton, names_of_files, text_of}
 use Rattle.proto_names.specs.Names.{Package, Symbol, Workspace, meaning}
+use Rattle.proto_names.specs.Naming.{used_named}
 use Rattle.proto_names.specs.Resolved.{IsIndexOf, MarksSeen}
 use Rattle.proto_names.specs.Skeleton.{Declared, Used, Skeleton, name_of, reference_of, workspace_of}
 use Rattle.proto_names.specs.Tables.{names_of}
 use Rattle.proto_names.specs.declared.link.RefId.{RefId}
+use Rattle.proto_names.specs.declared.references.Meant.{Meant}
 use Rattle.proto_names.specs.declared.table.Row.{Row}
 use Rattle.proto_names.specs.declared.table.Table.{Table}
 
@@ -44,15 +46,38 @@ references_of text k name = map reference_at (filter (λ u. has_text name (meani
 
 pub record IsLinkBy (text : At → List ℕ) (k : Skeleton At) (l : LinkOf) : Type 0 where
   pub names : HoldsNames (workspace_of text entry_name k) l
-  pub tokens : (d : Declared At) → Contains k.declared d → d.kind ≢ Package → (row : ℕ) (n : NameOf) → name_at l row ≡ Some n → n.text ≡ joined (name_of text entry_name d.path) → at d.file n.token ≡ place_of d
+  pub places : (d : Declared At) → Contains k.declared d → d.kind ≢ Package → (row : ℕ) (n : NameOf) → name_at l row ≡ Some n → n.text ≡ joined (name_of text entry_name d.path) → at (get_or n.files 0 0) n.token ≡ place_of d
   pub seen : (file : ℕ) → file < k.files → MarksSeen (workspace_of text entry_name k) file (get_or l.seen file [])
   pub files : length l.seen ≡ k.files
   pub between : AreFiles (workspace_of text entry_name k)
   pub paired : length l.references ≡ length l.names
   pub references : (row : ℕ) (n : NameOf) → name_at l row ≡ Some n → get_or l.references row [] ≡ references_of text k n.text
 
+-- a reference by its first token, and the text of the name that it means
+pub record TextMeant : Type 0 where
+  pub token : ℕ
+  pub text : Option (List ℕ)
+
+abbrev pub meant_by_link : LinkOf → Meant → TextMeant
+meant_by_link l m = record { token = m.token; text = text_at l m.row }
+
+abbrev pub meant_by_use : List FileOf → List ReadOf → ℕ → Used ℕ → TextMeant
+meant_by_use files reads file u = record { token = u.first; text = option_map joined (meaning (names_of_files files reads) (used_named (text_of files reads) file u)) }
+
+-- what the link has of a file's references: what each means, in the order of their first tokens
+pub record IsMeantIn (files : List FileOf) (reads : List ReadOf) (l : LinkOf) (file : ℕ) : Type 0 where
+  pub texts : map (meant_by_link l) (get_or l.meant file []) ≡ map (meant_by_use files reads file) (uses_of reads file)
+  pub rising : AllPairs (λ m n. m.token < n.token) (get_or l.meant file [])
+  pub within : All (λ m. m.row < length l.names) (get_or l.meant file [])
+
+-- the link of files that are read so
+pub record IsLinkRead (files : List FileOf) (reads : List ReadOf) (l : LinkOf) : Type 0 where
+  pub by : IsLinkBy (text_of files reads) (link_skeleton files reads) l
+  pub lists : length l.meant ≡ length files
+  pub means : (file : ℕ) → file < length files → IsMeantIn files reads l file
+
 abbrev pub IsLinkOf : List FileOf → LinkOf → Type 0
-IsLinkOf files l = (reads : List ReadOf) → AreRead files reads → IsLinkBy (text_of files reads) (link_skeleton files reads) l
+IsLinkOf files l = (reads : List ReadOf) → AreRead files reads → IsLinkRead files reads l
 
 -- ---- its parts
 

@@ -1,6 +1,6 @@
--- The names of linked files: what is known of each, which files see it, and which references mean it.
+-- The names of linked files: what is known of each, which files see it, and which references mean it; and what each reference means.
 use Rattle.std.specs.Prelude.{ℕ, suc, Bool, false, ◌&&◌, ◌==◌, if◌then◌else◌, List, [], ◌∷◌, ◌++◌, map, get_or, slice_get, slice_index_or, Option, Some, None, option_map, string_bytes}
-use Rattle.std.specs.List.{filter, list_any}
+use Rattle.std.specs.List.{filter, find, list_any}
 use Rattle.std.specs.Option.{option_and_then}
 use Rattle.std.specs.Str.{bytes_eq}
 use Rattle.proto_names.specs.Names.{Kind}
@@ -20,10 +20,11 @@ pub record NameOf : Type 0 where
 abbrev pub name_of_row : Row → NameOf
 name_of_row r = record { text = string_bytes r.name; kind = r.symbol.kind; files = files_of r; token = r.symbol.token }
 
--- the names; for each file, the marks of the files that it sees; for each name, the references that mean it
+-- the names; for each file, the marks of the files that it sees, and what its references mean; for each name, the references that mean it
 pub record LinkOf : Type 0 where
   pub names : List NameOf
   pub seen : List (List Bool)
+  pub meant : List (List Meant)
   pub references : List (List RefId)
 
 -- the name with this number, if there is one
@@ -45,6 +46,14 @@ file_at l row = option_and_then own_file (name_at l row)
 
 abbrev pub token_at : LinkOf → ℕ → Option ℕ
 token_at l row = option_and_then own_token (name_at l row)
+
+-- the row of the name that the reference with this first token means
+abbrev pub row_at : List Meant → ℕ → Option ℕ
+row_at ms token = option_map (λ m. m.row) (find (λ m. m.token == token) ms)
+
+-- of a file's references
+abbrev pub meant_at : LinkOf → ℕ → ℕ → Option ℕ
+meant_at l file token = row_at (get_or l.meant file []) token
 
 -- one of these files is marked
 abbrev pub sees_one : List Bool → List ℕ → Bool

@@ -8,7 +8,7 @@ use std::alloc::{AllocError, Global};
 
 /// The name of the message that stands for a map field's pairs: the field's word without each `_`, what follows one in
 /// upper case, as is the first, and `Entry` behind it.
-pub(crate) fn entry_name(alloc: Global, word: &str) -> Result<String, AllocError>
+pub fn entry_name(alloc: Global, word: &str) -> Result<String, AllocError>
     ensures name { IfOk result (λ name. string_bytes name ≡ entry_name word.now) }
 {
     let mut name = String::new(alloc);

@@ -1,7 +1,7 @@
 //! The names of linked files, which files see them, and the references that mean them.
 
 ghost use Rattle.std.specs.Prelude.{◌≡◌, ◌≢◌, ◌↔◌, ℕ, ◌<◌, List, [], length, map, get_or, slice_get, option_map, option_and_then, Some, None, IfSome, IfNone, if◌then◌else◌};
-ghost use Rattle.std.specs.List.{All};
+ghost use Rattle.std.specs.List.{All, AllPairs};
 ghost use Rattle.proto_files.specs.GivenFiles.{file_at as file_at_place};
 ghost use Rattle.proto_text.specs.Texts.{words};
 ghost use Rattle.proto_text.specs.Tokens.{AreTokens};
@@ -10,13 +10,14 @@ ghost use Rattle.proto_names.specs.FromTree.{dotted};
 ghost use Rattle.proto_names.specs.Joined.{joined, ArePlain};
 ghost use Rattle.proto_names.specs.LinkOfFiles.{IsLinkOf};
 ghost use Rattle.proto_names.specs.Linked.{is_package};
-ghost use Rattle.proto_names.specs.Linking.{name_of_row, name_at, text_at, file_at, token_at, shows_text, is_visible};
+ghost use Rattle.proto_names.specs.Linking.{name_of_row, name_at, text_at, file_at, token_at, row_at, meant_at, shows_text, is_visible};
 ghost use Rattle.proto_names.specs.Links.{ReadOf, AreRead, names_of_files};
 ghost use Rattle.proto_names.specs.Names.{meaning};
 ghost use Rattle.proto_names.specs.Scopes.{reference_in};
 ghost use Rattle.proto_names.specs.Tables.{IsTable};
 
 use crate::kind::Kind;
+use crate::references::Meant;
 use crate::resolve::row_in_scope;
 use crate::table::{Row, Table};
 use proto_files::{Files, Words};
@@ -36,26 +37,45 @@ pub struct RefId {
     pub token: u32,
 }
 
-/// The names of files without faults.
+impl Meant {
+    /// The first token of the reference (the dot, where it begins with one).
+    pub fn token(self) -> u32
+        ensures { result ≡ self.token }
+    {
+        self.token
+    }
+
+    /// The name that it means.
+    pub fn symbol(self) -> SymbolId
+        ensures { result.row ≡ self.row }
+    {
+        SymbolId { row: self.row }
+    }
+}
+
+/// The names of files without faults, and what their references mean.
 #[derive(Drop)]
 pub struct Link {
     table: Table,
     /// For each file, the marks of the files that it sees.
     seen: Vec<Vec<bool>>,
+    /// For each file, its references by their first tokens, which rise, and the rows of the names that they mean.
+    meant: Vec<Vec<Meant>>,
     /// For each name, the references that mean it.
     references: Vec<Vec<RefId>>,
 }
 
 impl Model for Link {
-    ghost use Rattle.std.specs.Prelude.{◌≡◌, length, map};
+    ghost use Rattle.std.specs.Prelude.{◌≡◌, ◌<◌, length, map};
+    ghost use Rattle.std.specs.List.{All, AllPairs};
     ghost use Rattle.proto_names.specs.Linking.{LinkOf, name_of_row};
     ghost use Rattle.proto_names.specs.Tables.{IsTable};
 
     ghost Value = { LinkOf };
 
-    ghost view = { λ l. record { names = map name_of_row l.table.rows.items; seen = map (λ v. v.items) l.seen.items; references = map (λ v. v.items) l.references.items } };
+    ghost view = { λ l. record { names = map name_of_row l.table.rows.items; seen = map (λ v. v.items) l.seen.items; meant = map (λ v. v.items) l.meant.items; references = map (λ v. v.items) l.references.items } };
 
-    ghost invariant = { λ l. IsTable l.table × (length l.references.items ≡ length l.table.rows.items) };
+    ghost invariant = { λ l. IsTable l.table × (length l.references.items ≡ length l.table.rows.items) × All (λ v. AllPairs (λ m n. m.token < n.token) v.items) l.meant.items };
 }
 
 /// The row with this index, but for a package's.
@@ -82,20 +102,34 @@ fn shows(table: &Table, seen: &[bool], name: &str) -> bool
     }
 }
 
+/// The row of the name that the reference with this first token means, among references in order.
+fn row_of_token(meant: &[Meant], token: u32) -> Option<usize>
+    requires { AllPairs (λ m n. m.token < n.token) meant.now }
+    ensures { result ≡ row_at meant.now token }
+{
+    match meant.binary_search_by_key(&token, |m| m.token) {
+        Ok(place) => Some(meant[place].row),
+        Err(_) => None,
+    }
+}
+
 impl Link {
     /// A link of its parts.
     pub(crate) fn from_parts(
         table: Table,
         seen: Vec<Vec<bool>>,
+        meant: Vec<Vec<Meant>>,
         references: Vec<Vec<RefId>>,
     ) -> Link
         requires table { IsTable table }
+        requires rising { All (λ v. AllPairs (λ m n. m.token < n.token) v.items) meant.items }
         requires paired { length references.items ≡ length table.rows.items }
-        ensures { result ≡ record { names = map name_of_row table.rows.items; seen = map (λ v. v.items) seen.items; references = map (λ v. v.items) references.items } }
+        ensures { result ≡ record { names = map name_of_row table.rows.items; seen = map (λ v. v.items) seen.items; meant = map (λ v. v.items) meant.items; references = map (λ v. v.items) references.items } }
     {
         Link {
             table,
             seen,
+            meant,
             references,
         }
     }
@@ -150,6 +184,27 @@ impl Link {
     {
         match self.references.get(id.row) {
             Some(references) => references.as_slice(),
+            None => &[],
+        }
+    }
+
+    /// What the reference means that begins at this token of the file; none where none begins there. Takes no memory.
+    pub fn meant(&self, file: u32, token: u32) -> Option<SymbolId>
+        ensures { option_map (λ id. id.row) result ≡ meant_at self.now file token }
+    {
+        let meant = self.meant.get(file as usize)?;
+        let row = row_of_token(meant, token)?;
+        Some(SymbolId { row })
+    }
+
+    /// What the references of the file mean, in the order of their first tokens; empty where there is no such file.
+    /// Takes no memory.
+    pub fn meant_in(&self, file: u32) -> &[Meant]
+        ensures exact { result.now ≡ get_or self.now.meant file [] }
+        ensures rising { AllPairs (λ m n. m.token < n.token) result.now }
+    {
+        match self.meant.get(file as usize) {
+            Some(meant) => meant.as_slice(),
             None => &[],
         }
     }

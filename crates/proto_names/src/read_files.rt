@@ -22,7 +22,7 @@ use proto_files::{Files, Words};
 use std::alloc::{AllocError, Global};
 
 /// Answers nothing: its contract says that each file has tokens and a tree.
-pub(crate) fn are_read(files: &Files)
+pub fn are_read(files: &Files)
     ensures { (reads : List ReadOf) × AreRead files.now reads }
 {
     for file in 0..files.len() {

@@ -55,7 +55,7 @@ impl From<AllocError> for ReferenceError {
 
 /// A reference by its first token, and the row of the name that it means.
 #[derive(Clone, Copy)]
-pub(crate) struct Meant {
+pub struct Meant {
     pub(crate) token: u32,
     pub(crate) row: usize,
 }

@@ -11,9 +11,9 @@ use std::alloc::{AllocError, Global};
 
 /// An import: the token of its path, and whether it is public.
 #[derive(Clone, Copy)]
-pub(crate) struct Wanted {
-    pub(crate) path: u32,
-    pub(crate) is_public: bool,
+pub struct Wanted {
+    pub path: u32,
+    pub is_public: bool,
 }
 
 fn import(item: &Item) -> Option<Wanted>
@@ -30,7 +30,7 @@ fn import(item: &Item) -> Option<Wanted>
 
 /// The imports of a file, in order.
 #[tactic(auto, using(crate::proofs::Behind::imports_joined))]
-pub(crate) fn imports(alloc: Global, file: &File) -> Result<Vec<Wanted>, AllocError>
+pub fn imports(alloc: Global, file: &File) -> Result<Vec<Wanted>, AllocError>
     ensures { IfOk result (λ found. map wanted_of found.items ≡ imports_in (tree_of_file file.now)) }
 {
     let mut found = Vec::new(alloc);
@@ -65,7 +65,7 @@ pub(crate) fn tokens_of(alloc: Global, words: &Dotted) -> Result<Vec<u32>, Alloc
 
 /// The tokens of the words of a file's package.
 #[tactic(auto, using(crate::proofs::Behind::package_behind, crate::proofs::Behind::package_here))]
-pub(crate) fn package(alloc: Global, file: &File) -> Result<Vec<u32>, AllocError>
+pub fn package(alloc: Global, file: &File) -> Result<Vec<u32>, AllocError>
     ensures { IfOk result (λ tokens. tokens.items ≡ package_of (items_in (tree_of_file file.now))) }
 {
     for item in &file.items {

@@ -168,6 +168,6 @@ impl Link {
         let (table, rows) = linked_names(alloc, files, &listings)?;
         let meant = linked_references(alloc, files, &table, &seen, &rows, &listings)?;
         let references = references_by_name(alloc, table.rows.len(), &meant)?;
-        Ok(Link::from_parts(table, seen, references))
+        Ok(Link::from_parts(table, seen, meant, references))
     }
 }

@@ -3,11 +3,15 @@ use Rattle.std.proofs.Common.{◌≡◌, ℕ, ◌<◌, Bool, true, false, cond, 
 use Rattle.std.specs.Prelude.{IsSome, is_some}
 use Rattle.std.specs.Str.{bytes_eq}
 use Rattle.proto_files.specs.Faults.{FaultAt}
-use Rattle.proto_files.specs.GivenFiles.{FileOf}
+use Rattle.proto_files.specs.GivenFiles.{FileOf, file_at}
 use Rattle.proto_files.specs.ReadFaults.{ReadFaults}
-use Rattle.proto_text.specs.declared.lexer.Token.{Token}
-use Rattle.proto_tree.specs.Tree.{Tree}
-use Rattle.proto_edit.specs.Faults.{IsFault, path as of_path, file as of_file, past, IsPastGrammar, language, says}
+use Rattle.std.specs.List.{Contains}
+use Rattle.std.proofs.lemmas.List.Sorted.{Contains-permutation, IsPermutation-sym}
+use Rattle.proto_names.specs.Faults.{Fault}
+use Rattle.proto_names.specs.Links.{ReadOf, StandsAt, LinkFaults, of_import, of_name, of_reference}
+use Rattle.proto_names.proofs.FaultPlaces.{import_found, name_found, reference_found}
+use Rattle.proto_desc.specs.Checked.{CheckFaults, of_flaw}
+use Rattle.proto_schema.specs.Whole.{FileFaults, of_read, of_link, of_check, WorkspaceFaults, of_path, of_files}
 use Rattle.protoref.specs.Stores.{HoldsFiles, IsListed, bytes_at}
 use Rattle.protoref.proofs.PathOrder.{equal_itself}
 
@@ -22,22 +26,48 @@ there (file ∷ files) (suc k) f inside is = go (there files k f (omega arith) i
     go rest true = refl
     go rest false = rest
 
-read_is_listed : (files : List FileOf) (x : FaultAt) → ReadFaults files x → IsSome (bytes_at x.path files)
-read_is_listed files x (inl (f, inside, same, said)) = subst (λ p. IsSome (bytes_at p files)) (sym same) (there files inside.0 f inside.1 inside.2)
-read_is_listed files x (inr (f, inside, same, said)) = subst (λ p. IsSome (bytes_at p files)) (sym same) (there files inside.0 f inside.1 inside.2)
+listed : (files : List FileOf) (f : FileOf) → Contains files f → IsSome (bytes_at f.path files)
+listed files f c = there files c.0 f c.1 c.2
 
-past_path : (path bytes : List ℕ) (tokens : List Token) (tree : Tree) (x : FaultAt) → IsPastGrammar path bytes tokens tree x → x.path ≡ path
-past_path path bytes tokens tree x (language outside) = refl
-past_path path bytes tokens tree x (says k token inside said) = refl
+-- the fault is of one of the files
+abbrev IsOfFile : List FileOf → FaultAt → Type 0
+IsOfFile files x = (f : FileOf) × Contains files f × (x.path ≡ f.path)
+
+-- the file at a place, or no token stands there
+placed : (files : List FileOf) (k : ℕ) → k < length files → Contains files (file_at files k)
+placed [] k inside = absurd (omega (arith, inside))
+placed (f ∷ fs) zero inside = (0, inside, refl)
+placed (f ∷ fs) (suc k) inside = let rest = placed fs k (omega (arith, inside)) in (suc rest.0, omega (arith, rest.1), rest.2)
+
+read_is_of_file : (files : List FileOf) (x : FaultAt) → ReadFaults files x → IsOfFile files x
+read_is_of_file files x (inl (f, inside, same, said)) = (f, inside, same)
+read_is_of_file files x (inr (f, inside, same, said)) = (f, inside, same)
+
+stands_in : (files : List FileOf) (reads : List ReadOf) (f : Fault) (x : FaultAt) → StandsAt files reads f x → f.place.file < length files → IsOfFile files x
+stands_in files reads f x stands inside = (file_at files f.place.file, placed files f.place.file inside, stands.path)
+
+link_is_of_file : (files : List FileOf) (x : FaultAt) → LinkFaults files x → IsOfFile files x
+link_is_of_file files x (of_import reads f z are stands h) = stands_in files reads f x stands (import_found files reads are f h).there.0
+link_is_of_file files x (of_name reads f z are stands h) = stands_in files reads f x stands (name_found files reads are f h).there.0
+link_is_of_file files x (of_reference reads f z are stands h) = stands_in files reads f x stands (reference_found files reads are f h).there.0
+
+check_is_of_file : (files : List FileOf) (x : FaultAt) → CheckFaults files x → IsOfFile files x
+check_is_of_file files x (of_flaw reads k f are inside c) = (file_at files k, placed files k inside, refl)
+
+is_of_file : (files : List FileOf) (x : FaultAt) → FileFaults files x → IsOfFile files x
+is_of_file files x (of_read y h) = read_is_of_file files x h
+is_of_file files x (of_link y h) = link_is_of_file files x h
+is_of_file files x (of_check y h) = check_is_of_file files x h
 
 -- a fault behind the start of a file is one of a file that is there
-pub fault_is_listed : (files : List FileOf) (x : FaultAt) → IsFault files x → 0 < x.offset → IsSome (bytes_at x.path files)
+pub fault_is_listed : (files : List FileOf) (x : FaultAt) → WorkspaceFaults files x → 0 < x.offset → IsSome (bytes_at x.path files)
 fault_is_listed files x (of_path y fault) behind = let start : x.offset ≡ 0 = fault.0 in absurd (omega arith)
-fault_is_listed files x (of_file y fault) behind = read_is_listed files x fault
-fault_is_listed files x (past f tokens tree y inside reads fault) behind =
-    subst (λ p. IsSome (bytes_at p files)) (sym (past_path f.path f.bytes tokens tree x fault)) (there files inside.0 f inside.1 inside.2)
+fault_is_listed files x (of_files sorted y order fault) behind =
+    let found = is_of_file sorted x fault in
+    subst (λ p. IsSome (bytes_at p files)) (sym found.2)
+    (listed files found.0 (Contains-permutation sorted files found.0 (IsPermutation-sym files sorted order.same) found.1))
 
 -- the same of a store whose files they are
-pub fault_is_held : (held : Option (List FileOf)) (files : List FileOf) (x : FaultAt) → HoldsFiles held files → IsFault files x → 0 < x.offset → IsListed held x.path
+pub fault_is_held : (held : Option (List FileOf)) (files : List FileOf) (x : FaultAt) → HoldsFiles held files → WorkspaceFaults files x → 0 < x.offset → IsListed held x.path
 fault_is_held None files x h fault behind = tt
 fault_is_held (Some held) files x h fault behind = subst (λ l. IsSome (bytes_at x.path l)) h (fault_is_listed files x fault behind)

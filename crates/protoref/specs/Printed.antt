@@ -9,12 +9,12 @@ use Rattle.protoref.specs.declared.run.Status.TheVariants.{Done, Problem}
 use Rattle.protoref.specs.declared.run.RunFault.{RunFault}
 use Rattle.protoref.specs.declared.run.RunFault.TheVariants.{Store, NoMemory, Output}
 use Rattle.proto_files.specs.GivenFiles.{FileOf}
-use Rattle.proto_desc.specs.Descriptors.{FileDesc}
 use Rattle.proto_desc.specs.DescriptorText.{json_text}
-use Rattle.proto_files.specs.Faults.{FaultAt, IsLeastFault}
+use Rattle.proto_files.specs.Faults.{FaultAt, HasNoFault, IsLeastFault}
 use Rattle.proto_files.specs.FaultTable.{name_of, number_of}
-use Rattle.proto_edit.specs.Faults.{IsFault}
-use Rattle.proto_edit.specs.Printed.{AreDescribedBy}
+use Rattle.proto_desc.specs.Checked.{described}
+use Rattle.proto_names.specs.Links.{ReadOf, AreRead}
+use Rattle.proto_schema.specs.Whole.{IsSortedOf, WorkspaceFaults}
 use Rattle.proto_text.specs.Lines.{column_at, line_at}
 use Rattle.protoref.specs.Stores.{bytes_at}
 use Rattle.protoref.specs.Writing.{AppendsBeginning}
@@ -54,10 +54,19 @@ abbrev pub IsLineOver : Option (List FileOf) → FaultAt → List ℕ → Type 0
 IsLineOver None fault text = Unit {0}
 IsLineOver (Some files) fault text = IsLine files fault text
 
--- files that compile: their descriptors as JSON, on a line; others: the line of their least fault
+-- the descriptors of the files as JSON, on a line, in the order of the paths
+pub record IsCompiledText (files : List FileOf) (text : List ℕ) : Type 0 where
+  pub sorted : List FileOf
+  pub reads : List ReadOf
+  pub in_order : IsSortedOf files sorted
+  pub are_read : AreRead sorted reads
+  pub clean : HasNoFault (WorkspaceFaults files)
+  pub text_is : text ≡ json_text (described sorted reads) ++ codes "\n"
+
+-- files that compile: their descriptors; others: the line of their least fault
 abbrev pub PrintsCompiled : List FileOf → List ℕ → Status → Type 0
-PrintsCompiled files text Done = (descriptors : List FileDesc) × AreDescribedBy files descriptors × (text ≡ json_text descriptors ++ codes "\n")
-PrintsCompiled files text Problem = (fault : FaultAt) × IsLeastFault (IsFault files) fault × IsLine files fault text
+PrintsCompiled files text Done = IsCompiledText files text
+PrintsCompiled files text Problem = (fault : FaultAt) × IsLeastFault (WorkspaceFaults files) fault × IsLine files fault text
 
 -- the command prints the text over the files, in the order of their paths, and ends with the status
 abbrev pub Prints : Command → List FileOf → List ℕ → Status → Type 0

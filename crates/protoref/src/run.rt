@@ -12,7 +12,8 @@ use crate::output::{OutputFault, write_text};
 use crate::place::{Place, place_at};
 use crate::store::{Store, StoreFault};
 use proto_desc::{Descriptors, to_json};
-use proto_edit::{Fault, OpenFault, Workspace};
+use proto_files::Fault;
+use proto_schema::{OpenFault, Schema};
 use std::alloc::{AllocError, AllocFailed, Global};
 use std::io::Write;
 use thiserror::Error;
@@ -142,8 +143,8 @@ fn compile<S: Store>(alloc: Global, store: &mut S) -> Result<Answer, RunFault>
     ensures count { CountsStore (S.failure_count store.old) (S.failure_count store.new) result }
 {
     let files = load(alloc, store)?;
-    match Workspace::open(alloc, files) {
-        Ok(workspace) => described(alloc, workspace.descriptors()),
+    match Schema::open(alloc, files) {
+        Ok(schema) => described(alloc, schema.descriptors()),
         Err(OpenFault::Schema(fault)) => reported(alloc, store, &fault),
         Err(OpenFault::NoMemory) => Err(RunFault::NoMemory),
     }

@@ -87,6 +87,11 @@ fn prints_descriptors_and_faults(rt: HostRuntime) -> Result<(), Fail> {
         ),
         (
             &[("a.proto", "")],
+            "{\"file\":[{\"name\":\"a.proto\"}]}\n",
+            Status::Done,
+        ),
+        (
+            &[("a.proto", "message {")],
             "a.proto:1:1: 8 Syntax\n",
             Status::Problem,
         ),
@@ -102,7 +107,7 @@ fn prints_descriptors_and_faults(rt: HostRuntime) -> Result<(), Fail> {
         ),
         (
             &[("b.proto", ROW), ("a.proto", ROW)],
-            "b.proto:1:1: 35 TooManyFiles\n",
+            "b.proto:1:28: 13 DuplicateName\n",
             Status::Problem,
         ),
     ] {

@@ -1,11 +1,13 @@
-use Rattle.std.proofs.Common.{Bool, List, [], length, get_or, map, sym, ◌∙◌, ap, subst, ◌≡◌, arith}
+use Rattle.std.proofs.Common.{Bool, List, [], ℕ, ◌<◌, length, get_or, map, sym, ◌∙◌, ap, subst, ◌≡◌, arith}
 use Rattle.std.specs.Global.{Vec}
 use Rattle.std.proofs.lemmas.List.{length-map}
+use Rattle.proto_names.specs.FileReferences.{AreFileMeant}
 use Rattle.proto_names.specs.Linking.{LinkOf, all_meant, name_of_row, references_to}
 use Rattle.proto_names.specs.Links.{AreListings, names_of_files}
 use Rattle.proto_names.specs.Resolved.{MarksSeen}
 use Rattle.proto_names.specs.declared.references.Meant.{Meant}
 use Rattle.proto_names.proofs.LeastLinkFault.{no_fault}
+use Rattle.proto_names.proofs.LinkMeanings.{all_tokens_rise, is_link_read}
 use Rattle.proto_names.proofs.LinkParts.{files_between, is_link, marks_seen}
 use Rattle.proto_names.proofs.link.Link.new.Goals as goal
 
@@ -20,6 +22,12 @@ linked_references-requires-clause-marks c = λ reads are k l.
     (subst (λ (vs : List (Vec Bool)). MarksSeen (names_of_files c.args.files.now reads) k (get_or (map (λ v. v.items) vs) k [])) (sym c.deref-3.ensures.value)
     (marks_seen c.args.files.now reads are c.in_ok-imports.imports.items c.deref.result.now (map (λ v. v.items) c.in_ok-seen.seen.items) c.deref.ensures.value c.in_ok-imports.ensures.len (c.in_ok-imports.ensures.imports reads are) c.in_ok-seen.ensures.exact k l))
 
+pub from_parts-requires-clause-rising : goal.from_parts-requires-clause-rising
+from_parts-requires-clause-rising c =
+    let reads = c.are_read.ensures.0 in
+    let are = c.are_read.ensures.1 in
+    all_tokens_rise c.in_ok-table.table c.args.files.now reads are c.in_ok-meant.meant.items c.in_ok-meant.ensures.len (c.in_ok-meant.ensures.meant reads are)
+
 pub returns-clause-link : goal.returns-clause-link
 returns-clause-link c = λ reads are.
     (let files = c.args.files.now in
@@ -30,9 +38,11 @@ returns-clause-link c = λ reads are.
     let names = ap (λ (l : LinkOf). length l.names) c.from_parts.ensures in
     let lists = length-map c.in_ok-references.references.items (λ v. v.items) in
     let paired : length c.from_parts.result.references ≡ length c.from_parts.result.names = omega (arith, own, names, lists, c.in_ok-references.ensures.len, c.len.ensures, rows.ok.0, length-map rows.items name_of_row) in
-    is_link files reads are c.in_ok-table.table c.in_ok-table.ensures.table c.in_ok-table.rows.items (c.in_ok-table.ensures.names reads are)
-    (map (λ v. v.items) seen) (map (λ v. v.items) meant) c.from_parts.result
-    (sym (ap (λ (l : LinkOf). l.names) c.from_parts.ensures)) (sym (ap (λ (l : LinkOf). l.seen) c.from_parts.ensures))
+    let table = c.in_ok-table.table in
+    let same = sym (ap (λ (l : LinkOf). l.names) c.from_parts.ensures) in
+    let by = is_link files reads are table c.in_ok-table.ensures.table c.in_ok-table.rows.items (c.in_ok-table.ensures.names reads are)
+    (map (λ v. v.items) seen) (map (λ v. v.items) meant) c.from_parts.result same
+    (sym (ap (λ (l : LinkOf). l.seen) c.from_parts.ensures))
     (length-map seen (λ v. v.items) ∙ c.in_ok-seen.ensures.len ∙ ap length c.deref.ensures.value ∙ c.in_ok-imports.ensures.len)
     (length-map meant (λ v. v.items) ∙ c.in_ok-meant.ensures.len)
     paired
@@ -42,7 +52,10 @@ returns-clause-link c = λ reads are.
     (λ row.
     (ap (λ (l : LinkOf). get_or l.references row []) c.from_parts.ensures
     ∙ c.in_ok-references.ensures.each row
-    ∙ ap (λ (vs : List (Vec Meant)). references_to row (all_meant 0 (map (λ v. v.items) vs))) c.deref-6.ensures.value)))
+    ∙ ap (λ (vs : List (Vec Meant)). references_to row (all_meant 0 (map (λ v. v.items) vs))) c.deref-6.ensures.value)) in
+    let kept = ap (λ (l : LinkOf). l.meant) c.from_parts.ensures in
+    is_link_read files reads table c.in_ok-table.ensures.table c.from_parts.result same are by (ap length kept ∙ length-map meant (λ v. v.items) ∙ c.in_ok-meant.ensures.len)
+    (subst (λ (vs : List (List Meant)). (k : ℕ) → k < length files → AreFileMeant table files reads k (get_or vs k [])) (sym kept) (c.in_ok-meant.ensures.meant reads are)))
 
 pub returns-clause-clean : goal.returns-clause-clean
 returns-clause-clean c =

@@ -1,0 +1,82 @@
+-- The blocks of trees that stand one behind another.
+use Rattle.std.proofs.Common.{◌≡◌, ℕ, false, ◌==◌, ◌<◌, List, [], ◌∷◌, ◌++◌, length, flat_map, refl, sym, ap, ◌∙◌, append_assoc, inl, inr, arith}
+use Rattle.std.proofs.lemmas.Bool.{cases_Bool, eqb-true}
+use Rattle.std.proofs.lemmas.Grind.{flat_map-append}
+use Rattle.proto_tree.specs.declared.tree.Field.{Field}
+use Rattle.proto_tree.specs.declared.tree.EnumItem.{EnumItem}
+use Rattle.proto_tree.specs.declared.tree.EnumItem.TheVariants as enum_item
+use Rattle.proto_tree.specs.declared.tree.MethodItem.{MethodItem}
+use Rattle.proto_tree.specs.declared.tree.MethodItem.TheVariants as method_item
+use Rattle.proto_tree.specs.declared.piece.Header.{Header}
+use Rattle.proto_tree.specs.Tree.{Tree, End, Leaf, Block, joined}
+use Rattle.proto_tree.specs.File.{trees, field_tree, enum_item_tree, method_item_tree}
+use Rattle.proto_parts.specs.Parts.{BlockOf, blocks_in, statements}
+use Rattle.proto_parts.specs.Scenes.{Scene}
+use Rattle.proto_checks.specs.declared.flaw.Flaw.{Flaw}
+use Rattle.proto_checks.specs.FileFlaws.{block_flaws, flaws_in_blocks, is_empty}
+
+append_nil : {A : Type 0} (xs : List A) → xs ++ [] ≡ xs
+append_nil [] = refl
+append_nil (x ∷ xs) = ap (λ (ys : List _). x ∷ ys) (append_nil xs)
+
+pub blocks_joined : (t u : Tree) → blocks_in (joined t u) ≡ blocks_in t ++ blocks_in u
+blocks_joined End u = refl
+blocks_joined (Leaf s rest) u = blocks_joined rest u
+blocks_joined (Block h i within j rest) u =
+    ap (λ (bs : List BlockOf). record { header = h; within = within } ∷ (blocks_in within ++ bs)) (blocks_joined rest u)
+    ∙ ap (λ (bs : List BlockOf). record { header = h; within = within } ∷ bs) (sym (append_assoc (blocks_in within) (blocks_in rest) (blocks_in u)))
+
+flaws_joined : (scene : Scene) (t u : Tree) → flaws_in_blocks scene (joined t u) ≡ flaws_in_blocks scene t ++ flaws_in_blocks scene u
+flaws_joined scene t u =
+    ap (flat_map (λ b. block_flaws scene b.header b.within)) (blocks_joined t u) ∙ flat_map-append (λ b. block_flaws scene b.header b.within) (blocks_in t) (blocks_in u)
+
+-- item by item
+pub flaws_of_trees : {A : Type 0} (view : A → Tree) (scene : Scene) (xs : List A) → flaws_in_blocks scene (trees view xs) ≡ flat_map (λ x. flaws_in_blocks scene (view x)) xs
+flaws_of_trees view scene [] = refl
+flaws_of_trees view scene (x ∷ xs) =
+    flaws_joined scene (view x) (trees view xs) ∙ ap (λ (fs : List Flaw). flaws_in_blocks scene (view x) ++ fs) (flaws_of_trees view scene xs)
+
+-- one block: its own, and those in it
+pub flaws_of_block : (scene : Scene) (h : Header) (i : ℕ) (within : Tree) (j : ℕ) → flaws_in_blocks scene (Block h i within j End) ≡ block_flaws scene h within ++ flaws_in_blocks scene within
+flaws_of_block scene h i within j =
+    ap (λ (bs : List BlockOf). block_flaws scene h within ++ flat_map (λ b. block_flaws scene b.header b.within) bs) (append_nil (blocks_in within))
+
+-- a block with no other in it
+flaws_of_flat : (scene : Scene) (h : Header) (i : ℕ) (within : Tree) (j : ℕ) → blocks_in within ≡ [] → flaws_in_blocks scene (Block h i within j End) ≡ block_flaws scene h within
+flaws_of_flat scene h i within j e =
+    flaws_of_block scene h i within j
+    ∙ ap (λ (bs : List BlockOf). block_flaws scene h within ++ flat_map (λ b. block_flaws scene b.header b.within) bs) e
+    ∙ append_nil (block_flaws scene h within)
+
+no_blocks : {A : Type 0} (view : A → Tree) → ((x : A) → blocks_in (view x) ≡ []) → (xs : List A) → blocks_in (trees view xs) ≡ []
+no_blocks view none [] = refl
+no_blocks view none (x ∷ xs) = blocks_joined (view x) (trees view xs) ∙ ap (λ (bs : List BlockOf). bs ++ blocks_in (trees view xs)) (none x) ∙ no_blocks view none xs
+
+no_block_in_enum : (item : EnumItem) → blocks_in (enum_item_tree item) ≡ []
+no_block_in_enum (enum_item.Value v) = refl
+no_block_in_enum (enum_item.Option o) = refl
+no_block_in_enum (enum_item.Reserved r) = refl
+no_block_in_enum (enum_item.Empty i) = refl
+
+no_block_in_method : (item : MethodItem) → blocks_in (method_item_tree item) ≡ []
+no_block_in_method (method_item.Option o) = refl
+no_block_in_method (method_item.Empty i) = refl
+
+pub flaws_of_enum : (scene : Scene) (h : Header) (i : ℕ) (items : List EnumItem) (j : ℕ) → flaws_in_blocks scene (Block h i (trees enum_item_tree items) j End) ≡ block_flaws scene h (trees enum_item_tree items)
+flaws_of_enum scene h i items j = flaws_of_flat scene h i (trees enum_item_tree items) j (no_blocks enum_item_tree no_block_in_enum items)
+
+pub flaws_of_method : (scene : Scene) (h : Header) (i : ℕ) (items : List MethodItem) (j : ℕ) → flaws_in_blocks scene (Block h i (trees method_item_tree items) j End) ≡ block_flaws scene h (trees method_item_tree items)
+flaws_of_method scene h i items j = flaws_of_flat scene h i (trees method_item_tree items) j (no_blocks method_item_tree no_block_in_method items)
+
+pub flaws_of_oneof : (scene : Scene) (h : Header) (i : ℕ) (fields : List Field) (j : ℕ) → flaws_in_blocks scene (Block h i (trees field_tree fields) j End) ≡ block_flaws scene h (trees field_tree fields)
+flaws_of_oneof scene h i fields j = flaws_of_flat scene h i (trees field_tree fields) j (no_blocks field_tree (λ f. refl) fields)
+
+pub no_fields : (fields : List Field) → is_empty (statements (trees field_tree fields)) ≡ (length fields == 0)
+no_fields [] = refl
+no_fields (f ∷ fields) = not_empty (length (f ∷ fields)) (omega arith)
+  where
+    not_empty : (n : ℕ) → 0 < n → false ≡ (n == 0)
+    not_empty n h = elim (cases_Bool (n == 0)) [
+      | inl e ↦ absurd (let is = eqb-true n 0 e in omega (arith, h, is))
+      | inr e ↦ sym e
+    ]

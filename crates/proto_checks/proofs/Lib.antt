@@ -1,0 +1,11 @@
+mod Blocks
+mod FlawLists
+mod IndexLemmas
+mod KnownNames
+mod OptionNames
+pub mod CappedNumbers
+pub mod CappedCovers
+pub mod CappedRanges
+pub mod CappedFlaws
+pub mod Phases
+pub mod FlawTokens

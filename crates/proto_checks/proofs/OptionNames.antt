@@ -1,0 +1,34 @@
+-- Names among others: an equal one, and those that an earlier option has.
+use Rattle.std.proofs.Common.{◌≡◌, ℕ, Bool, ◌||◌, List, [], ◌∷◌, ◌++◌, length, map, refl, sym, ap, ◌∙◌, Bor, arith}
+use Rattle.std.specs.List.{list_any}
+use Rattle.std.specs.Str.{bytes_eq}
+use Rattle.std.proofs.lemmas.Bool.Decides.{same_from_decides, Decides-like}
+use Rattle.std.proofs.lemmas.List.{map-append, length-map}
+use Rattle.std.proofs.lemmas.Slice.Eq.{bytes_eq-Decides}
+use Rattle.proto_names.proofs.Basics.{any_map}
+use Rattle.proto_checks.specs.Flaws.{earlier, after_earlier}
+use Rattle.proto_checks.proofs.FlawLists.{repeats_length}
+
+flip : (a b : List ℕ) → bytes_eq a b ≡ bytes_eq b a
+flip a b = same_from_decides {P = a ≡ b} (bytes_eq a b) (bytes_eq b a) (bytes_eq-Decides a b) (Decides-like {P = b ≡ a} {Q = a ≡ b} (bytes_eq b a) (λ e. sym e) (λ e. sym e) (bytes_eq-Decides b a))
+
+-- a slice has a word where one of its texts is the word
+pub contained : (values : List (Bor (List ℕ))) (w : List ℕ) → list_any (λ v. bytes_eq v.now w) values ≡ list_any (bytes_eq w) (map (λ v. v.now) values)
+contained [] w = refl
+contained (v ∷ values) w = ap (λ (b : Bool). b || list_any (λ v. bytes_eq v.now w) values) (flip v.now w) ∙ ap (λ (b : Bool). bytes_eq w v.now || b) (contained values w)
+
+-- keys are equal where what they map to is
+pub earlier_map : {A B : Type 0} (f : A → B) (eq : B → B → Bool) (front xs : List A) → earlier (λ x y. eq (f x) (f y)) front xs ≡ earlier eq (map f front) (map f xs)
+earlier_map f eq front [] = refl
+earlier_map f eq front (x ∷ xs) =
+    ap (λ (b : Bool). b ∷ earlier (λ x y. eq (f x) (f y)) (front ++ x ∷ []) xs) (sym (any_map (λ p. eq p (f x)) f front))
+    ∙ ap (λ (bs : List Bool). list_any (λ p. eq p (f x)) (map f front) ∷ bs) (earlier_map f eq (front ++ x ∷ []) xs ∙ ap (λ (ys : List _). earlier eq ys (map f xs)) (map-append f front (x ∷ [])))
+
+-- as many flags as tokens, where keys and tokens are of the same options
+pub flags_length : {A B X : Type 0} (eq : A → A → Bool) (f : A → B) (g : X → B) (h : X → ℕ) (options : List X) (keys : List A) (flags : List Bool) (tokens : List ℕ)
+    → tokens ≡ map h options → map f keys ≡ map g options → flags ≡ after_earlier eq keys → length tokens ≡ length flags
+flags_length eq f g h options keys flags tokens t k e =
+    let a = ap length e ∙ repeats_length eq [] keys in
+    let b = ap length t ∙ length-map options h in
+    let c = sym (length-map keys f) ∙ ap length k ∙ length-map options g in
+    omega (arith, a, b, c)

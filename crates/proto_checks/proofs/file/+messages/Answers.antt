@@ -1,0 +1,14 @@
+use Rattle.std.proofs.Common.{◌++◌, List, flat_map, ◌∙◌, ap, sym, arith}
+use Rattle.std.proofs.lemmas.List.{take_all}
+use Rattle.proto_tree.specs.declared.tree.Member.{Member}
+use Rattle.proto_tree.specs.File.{member_tree}
+use Rattle.proto_checks.specs.declared.flaw.Flaw.{Flaw}
+use Rattle.proto_checks.specs.FileFlaws.{flaws_in_blocks}
+use Rattle.proto_checks.proofs.Blocks.{flaws_of_trees}
+use Rattle.proto_checks.proofs.file.+messages.Goals as goal
+
+pub add_members-returns : goal.add_members-returns
+add_members-returns t c =
+    c.loop-member.invariant
+    ∙ ap (λ (ms : List Member). c.args.found.now.items ++ flat_map (λ m. flaws_in_blocks c.args.scene.now (member_tree m)) ms) (take_all c.loop-member.member-index c.args.members.now (omega arith))
+    ∙ ap (λ (fs : List Flaw). c.args.found.now.items ++ fs) (sym (flaws_of_trees member_tree c.args.scene.now c.args.members.now))

@@ -1,0 +1,11 @@
+use Rattle.std.proofs.Common.{◌∙◌, List, ℕ, map, ap, sym}
+use Rattle.std.specs.List.{list_any}
+use Rattle.std.specs.Str.{bytes_eq}
+use Rattle.proto_names.proofs.Basics.{any_map}
+use Rattle.proto_checks.proofs.names.is_known.Goals as goal
+
+pub returns : goal.returns
+returns c =
+    c.contains.ensures
+    ∙ sym (any_map (bytes_eq c.text.result.now) (λ k. k.now) c.args.known.now.keys)
+    ∙ ap (λ (w : List ℕ). list_any (bytes_eq w) (map (λ k. k.now) c.args.known.now.keys)) c.text.ensures

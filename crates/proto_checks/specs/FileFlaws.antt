@@ -1,0 +1,133 @@
+-- What is wrong with a file, block by block: its messages, oneofs, enums, services and methods, and its own options.
+use Rattle.std.specs.Prelude.{ℕ, pos, Bool, true, false, not, ◌&&◌, if◌then◌else◌, List, [], ◌∷◌, ◌++◌, map, flat_map, Option, Some, None, codes}
+use Rattle.std.specs.List.{list_any}
+use Rattle.std.specs.Ordering.{int_eq}
+use Rattle.std.specs.Str.{bytes_eq}
+use Rattle.proto_files.specs.declared.fault.FaultKind.TheVariants as kind
+use Rattle.proto_tree.specs.declared.tree.Value.{Value}
+use Rattle.proto_tree.specs.declared.piece.Header.{Header}
+use Rattle.proto_tree.specs.declared.piece.Header.TheVariants as header
+use Rattle.proto_tree.specs.Tree.{Tree}
+use Rattle.proto_names.specs.EntryNames.{camel_from}
+use Rattle.proto_parts.specs.Options.{is_named, is_one_of, text_option, truth_of}
+use Rattle.proto_parts.specs.Parts.{FieldOf, OptionOf, statements, fields_in, values_in, closed_ranges, enum_ranges, reserved_names_in, extension_words, options_in, settings_of, blocks_in}
+use Rattle.proto_parts.specs.Scenes.{Scene, text, value}
+use Rattle.proto_parts.specs.declared.options.Element.TheVariants as element
+use Rattle.proto_checks.specs.declared.flaw.Flaw.{Flaw}
+use Rattle.proto_checks.specs.declared.numbers.NumberAt.{NumberAt}
+use Rattle.proto_checks.specs.declared.numbers.RangeAt.{RangeAt}
+use Rattle.proto_checks.specs.Flaws.{flaw_if, after_earlier, marked}
+use Rattle.proto_checks.specs.NumberFlaws.{number_of_field, number_of_value, range_of, enum_range_of, most_field, least_value, most_value, is_field_number, is_value_number, outside, broken_ranges, reserved_numbers, overlaps, repeated_numbers}
+use Rattle.proto_checks.specs.FieldFlaws.{field_flaws, option_flaws}
+
+-- ---- names
+
+-- a field or a value with a reserved name, by the token of its name
+abbrev pub with_reserved_name : Scene → List ℕ → List ℕ → List Flaw
+with_reserved_name scene reserved names = flat_map (λ t. flaw_if (is_one_of (map (value scene) reserved) (text scene t)) kind.ReservedName t) names
+
+-- a reserved name that was given before
+abbrev pub reserved_again : Scene → List ℕ → List Flaw
+reserved_again scene reserved = marked kind.ReservedName reserved (after_earlier bytes_eq (map (value scene) reserved))
+
+abbrev pub name_flaws : Scene → List ℕ → List ℕ → List Flaw
+name_flaws scene reserved names = with_reserved_name scene reserved names ++ reserved_again scene reserved
+
+-- the JSON name of a word: no `_`, and the character after one in upper case
+abbrev pub json_word : List ℕ → List ℕ
+json_word word = camel_from false word
+
+abbrev pub written_or : Option (List ℕ) → List ℕ → List ℕ
+written_or None word = json_word word
+written_or (Some name) word = name
+
+-- as `json_name` says, where it is a text
+abbrev pub json_name_of : Scene → FieldOf → List ℕ
+json_name_of scene f = written_or (text_option (text scene) (value scene) (codes "json_name") f.options) (text scene f.name)
+
+-- in proto3, a JSON name that an earlier field has
+abbrev pub json_clashes : Scene → List FieldOf → List Flaw
+json_clashes scene fs = if scene.is_proto3 then marked kind.JsonClash (map (λ f. f.name) fs) (after_earlier bytes_eq (map (json_name_of scene) fs)) else []
+
+-- ---- messages
+
+-- the number flaws of a message's fields and ranges
+abbrev pub field_number_flaws : List RangeAt → List NumberAt → List Flaw
+field_number_flaws ranges numbers =
+    outside is_field_number numbers
+    ++ (marked kind.DuplicateNumber (map (λ n. n.token) numbers) (repeated_numbers numbers)
+    ++ (reserved_numbers ranges numbers
+    ++ (broken_ranges (pos 1) most_field ranges
+    ++ overlaps ranges)))
+
+-- `extensions` in a proto3 file
+abbrev pub extension_flaws : Scene → Tree → List Flaw
+extension_flaws scene within = flat_map (λ t. flaw_if scene.is_proto3 kind.NotInProto3 t) (flat_map extension_words (statements within))
+
+abbrev pub message_flaws : Scene → Tree → List Flaw
+message_flaws scene within =
+    flat_map (field_flaws scene) (fields_in within)
+    ++ (field_number_flaws (map (range_of scene) (flat_map closed_ranges (statements within))) (map (number_of_field scene) (fields_in within))
+    ++ (name_flaws scene (reserved_names_in within) (map (λ f. f.name) (fields_in within))
+    ++ (json_clashes scene (fields_in within)
+    ++ (extension_flaws scene within
+    ++ option_flaws scene element.Message (options_in within)))))
+
+-- ---- enums
+
+abbrev pub is_true : Option Bool → Bool
+is_true None = false
+is_true (Some b) = b
+
+-- any `allow_alias = true` counts
+abbrev pub allows_alias : Scene → List OptionOf → Bool
+allows_alias scene options = list_any (λ o. is_named (text scene) (codes "allow_alias") o && is_true (truth_of (text scene) o.value)) options
+
+-- a number that an earlier value has
+abbrev pub alias_flaws : Scene → Tree → List NumberAt → List Flaw
+alias_flaws scene within numbers = if allows_alias scene (options_in within) then [] else marked kind.AliasNotAllowed (map (λ n. n.token) numbers) (repeated_numbers numbers)
+
+-- the first value of a proto3 enum is 0
+abbrev pub first_value_flaws : Scene → List NumberAt → List Flaw
+first_value_flaws scene [] = []
+first_value_flaws scene (n ∷ ns) = flaw_if (scene.is_proto3 && not (int_eq n.number (pos 0))) kind.FirstNotZero n.token
+
+abbrev pub is_empty : {A : Type 0} → List A → Bool
+is_empty [] = true
+is_empty (x ∷ xs) = false
+
+abbrev pub value_number_flaws : Scene → Tree → List RangeAt → List NumberAt → List Flaw
+value_number_flaws scene within ranges numbers =
+    outside is_value_number numbers
+    ++ (first_value_flaws scene numbers
+    ++ (alias_flaws scene within numbers
+    ++ (reserved_numbers ranges numbers
+    ++ (broken_ranges least_value most_value ranges
+    ++ overlaps ranges))))
+
+abbrev pub value_option_flaws : Scene → Value → List Flaw
+value_option_flaws scene v = option_flaws scene element.EnumValue (settings_of v.settings)
+
+abbrev pub enum_flaws : Scene → ℕ → Tree → List Flaw
+enum_flaws scene name within =
+    flaw_if (is_empty (values_in within)) kind.EmptyEnum name
+    ++ (value_number_flaws scene within (map (enum_range_of scene) (flat_map enum_ranges (statements within))) (map (number_of_value scene) (values_in within))
+    ++ (name_flaws scene (reserved_names_in within) (map (λ v. v.name) (values_in within))
+    ++ (flat_map (value_option_flaws scene) (values_in within)
+    ++ option_flaws scene element.Enum (options_in within))))
+
+-- ---- blocks, and the file
+
+abbrev pub block_flaws : Scene → Header → Tree → List Flaw
+block_flaws scene (header.Message h) within = message_flaws scene within
+block_flaws scene (header.Oneof h) within = flaw_if (is_empty (statements within)) kind.EmptyOneof h.name
+block_flaws scene (header.Enum h) within = enum_flaws scene h.name within
+block_flaws scene (header.Service h) within = option_flaws scene element.Service (options_in within)
+block_flaws scene (header.Method s) within = option_flaws scene element.Method (options_in within)
+
+-- of all blocks of a tree
+abbrev pub flaws_in_blocks : Scene → Tree → List Flaw
+flaws_in_blocks scene tree = flat_map (λ b. block_flaws scene b.header b.within) (blocks_in tree)
+
+abbrev pub file_flaws : Scene → Tree → List Flaw
+file_flaws scene tree = option_flaws scene element.File (options_in tree) ++ flaws_in_blocks scene tree

@@ -1,0 +1,200 @@
+//! What is wrong with an enum: its numbers, names and options.
+
+ghost use Rattle.std.specs.Prelude.{◌≡◌, ◌++◌, ◌&&◌, [], codes, if◌then◌else◌, flat_map, map, IfOk, OnOk};
+ghost use Rattle.proto_files.specs.declared.fault.FaultKind.TheVariants as kind;
+ghost use Rattle.proto_tree.specs.File.{enum_item_tree, trees};
+ghost use Rattle.proto_parts.specs.Options.{is_named, truth_of};
+ghost use Rattle.proto_parts.specs.Parts.{enum_ranges, options_in, reserved_names_in, statements};
+ghost use Rattle.proto_parts.specs.Scenes.{text};
+ghost use Rattle.proto_parts.specs.Views.{option_of};
+ghost use Rattle.proto_parts.specs.declared.options.Element.TheVariants as element;
+ghost use Rattle.proto_checks.specs.Flaws.{flaw_if, marked};
+ghost use Rattle.proto_checks.specs.FieldFlaws.{option_flaws};
+ghost use Rattle.proto_checks.specs.NumberFlaws.{enum_range_of, number_of_value, repeated_numbers};
+ghost use Rattle.proto_checks.specs.FileFlaws.{allows_alias, enum_flaws, first_value_flaws, is_true, name_flaws, value_number_flaws, value_option_flaws};
+
+use crate::flaw::{Flaw, add_if, add_marked};
+use crate::names::add_name_flaws;
+use crate::number_lists::{value_numbers, value_ranges};
+use crate::numbers::{
+    NumberAt, RangeAt, add_outside_values, add_value_ranges, number_tokens, repeated,
+};
+use crate::option_values::truth;
+use crate::options::add_option_flaws;
+use proto_files::FaultKind;
+use proto_parts::{
+    Element, OptionAt, Scene, enum_options, enum_ranges, enum_reserved_names, options_between,
+    values,
+};
+use proto_tree::{Enum, EnumItem, Value};
+use std::alloc::{AllocError, Global};
+
+// ---- numbers
+
+fn add_first_value(
+    found: &mut Vec<Flaw>,
+    scene: &Scene,
+    numbers: &[NumberAt],
+) -> Result<(), AllocError>
+    ensures { OnOk result (found.new.items ≡ found.old.items ++ first_value_flaws scene.now numbers.now) }
+{
+    match numbers {
+        [first, ..] => {
+            let is_wrong = scene.is_proto3() && first.number != 0;
+            add_if(found, is_wrong, FaultKind::FirstNotZero, first.token)
+        }
+        [] => Ok(()),
+    }
+}
+
+fn is_alias_option(scene: &Scene, option: OptionAt) -> bool
+    ensures { result ≡ (is_named (text scene.now) (codes "allow_alias") (option_of option.entry) && is_true (truth_of (text scene.now) option.entry.value.now)) }
+{
+    scene.text(option.name) == "allow_alias" && truth(scene, option.value) == Some(true)
+}
+
+fn allows_alias(scene: &Scene, options: &[OptionAt]) -> bool
+    ensures { result ≡ allows_alias scene.now (map option_of options.now) }
+{
+    options.iter().any(|option| is_alias_option(scene, *option))
+}
+
+fn add_aliases(
+    alloc: Global,
+    found: &mut Vec<Flaw>,
+    scene: &Scene,
+    options: &[OptionAt],
+    numbers: &[NumberAt],
+) -> Result<(), AllocError>
+    ensures { OnOk result (found.new.items ≡ found.old.items ++ (if allows_alias scene.now (map option_of options.now) then [] else marked kind.AliasNotAllowed (map (λ n. n.token) numbers.now) (repeated_numbers numbers.now))) }
+{
+    if allows_alias(scene, options) {
+        return Ok(());
+    }
+    let tokens = number_tokens(alloc, numbers)?;
+    let flags = repeated(alloc, numbers)?;
+    add_marked(found, FaultKind::AliasNotAllowed, &tokens, &flags)
+}
+
+fn add_numbers(
+    alloc: Global,
+    found: &mut Vec<Flaw>,
+    scene: &Scene,
+    items: &[EnumItem],
+    ranges: &[RangeAt],
+    numbers: &[NumberAt],
+) -> Result<(), AllocError>
+    ensures { OnOk result (found.new.items ≡ found.old.items ++ value_number_flaws scene.now (trees enum_item_tree items.now) ranges.now numbers.now) }
+{
+    let options = enum_options(alloc, items)?;
+    add_outside_values(found, numbers)?;
+    add_first_value(found, scene, numbers)?;
+    add_aliases(alloc, found, scene, &options, numbers)?;
+    add_value_ranges(alloc, found, ranges, numbers)
+}
+
+fn add_number_flaws(
+    alloc: Global,
+    found: &mut Vec<Flaw>,
+    scene: &Scene,
+    items: &[EnumItem],
+    values: &[&Value],
+) -> Result<(), AllocError>
+    ensures { OnOk result (found.new.items ≡ found.old.items ++ value_number_flaws scene.now (trees enum_item_tree items.now) (map (enum_range_of scene.now) (flat_map enum_ranges (statements (trees enum_item_tree items.now)))) (map (number_of_value scene.now) (map (λ v. v.now) values.now))) }
+{
+    let closed = enum_ranges(alloc, items)?;
+    let ranges = value_ranges(alloc, scene, &closed)?;
+    let numbers = value_numbers(alloc, scene, values)?;
+    add_numbers(alloc, found, scene, items, &ranges, &numbers)
+}
+
+// ---- names
+
+fn value_names(alloc: Global, values: &[&Value]) -> Result<Vec<u32>, AllocError>
+    ensures { IfOk result (λ names. names.items ≡ map (λ v. v.name) (map (λ v. v.now) values.now)) }
+{
+    let mut names = Vec::new(alloc);
+    for value in values {
+        names.push(value.name)?;
+    }
+    Ok(names)
+}
+
+fn add_names(
+    alloc: Global,
+    found: &mut Vec<Flaw>,
+    scene: &Scene,
+    items: &[EnumItem],
+    values: &[&Value],
+) -> Result<(), AllocError>
+    ensures { OnOk result (found.new.items ≡ found.old.items ++ name_flaws scene.now (reserved_names_in (trees enum_item_tree items.now)) (map (λ v. v.name) (map (λ v. v.now) values.now))) }
+{
+    let reserved = enum_reserved_names(alloc, items)?;
+    let names = value_names(alloc, values)?;
+    add_name_flaws(alloc, found, scene, &reserved, &names)
+}
+
+// ---- options
+
+fn add_value_options(
+    alloc: Global,
+    found: &mut Vec<Flaw>,
+    scene: &Scene,
+    value: &Value,
+) -> Result<(), AllocError>
+    ensures { OnOk result (found.new.items ≡ found.old.items ++ value_option_flaws scene.now value.now) }
+{
+    let options = options_between(alloc, value.settings.as_ref())?;
+    add_option_flaws(alloc, found, scene, Element::EnumValue, &options)
+}
+
+fn add_each_value(
+    alloc: Global,
+    found: &mut Vec<Flaw>,
+    scene: &Scene,
+    values: &[&Value],
+) -> Result<(), AllocError>
+    ensures { OnOk result (found.new.items ≡ found.old.items ++ flat_map (value_option_flaws scene.now) (map (λ v. v.now) values.now)) }
+{
+    for value in values {
+        add_value_options(alloc, found, scene, value)?;
+    }
+    Ok(())
+}
+
+fn add_enum_options(
+    alloc: Global,
+    found: &mut Vec<Flaw>,
+    scene: &Scene,
+    items: &[EnumItem],
+) -> Result<(), AllocError>
+    ensures { OnOk result (found.new.items ≡ found.old.items ++ option_flaws scene.now element.Enum (options_in (trees enum_item_tree items.now))) }
+{
+    let options = enum_options(alloc, items)?;
+    add_option_flaws(alloc, found, scene, Element::Enum, &options)
+}
+
+// ---- all of it
+
+/// Adds what is wrong with an enum.
+pub(crate) fn add_enum_flaws(
+    alloc: Global,
+    found: &mut Vec<Flaw>,
+    scene: &Scene,
+    enumeration: &Enum,
+) -> Result<(), AllocError>
+    ensures { OnOk result (found.new.items ≡ found.old.items ++ enum_flaws scene.now enumeration.now.name (trees enum_item_tree enumeration.now.members.items)) }
+{
+    let items = enumeration.members.as_slice();
+    let values = values(alloc, items)?;
+    add_if(
+        found,
+        values.is_empty(),
+        FaultKind::EmptyEnum,
+        enumeration.name,
+    )?;
+    add_number_flaws(alloc, found, scene, items, &values)?;
+    add_names(alloc, found, scene, items, &values)?;
+    add_each_value(alloc, found, scene, &values)?;
+    add_enum_options(alloc, found, scene, items)
+}

@@ -1,0 +1,60 @@
+-- What holds of a file as the code reads it holds of it as it is read, with its numbers as they are.
+use Rattle.std.proofs.Common.{◌≡◌, ℕ, suc, ◌+◌, ◌<◌, List, [], ◌∷◌, length, get_or, map, Option, Some, None, refl, sym, ap, subst, ◌∙◌, arith}
+use Rattle.std.specs.List.{Contains}
+use Rattle.proto_tree.specs.Tree.{Tree}
+use Rattle.proto_files.specs.GivenFiles.{FileOf, file_at}
+use Rattle.proto_names.specs.Links.{Each, ReadOf, AreRead, read_at}
+use Rattle.proto_names.proofs.OneReading.{IsTreeOf, same_tree}
+use Rattle.proto_parts.specs.Numbers.{past}
+use Rattle.proto_parts.specs.Scenes.{Scene}
+use Rattle.proto_checks.specs.FileFlaws.{file_flaws}
+use Rattle.proto_checks.specs.Flaws.{IsLeast}
+use Rattle.proto_checks.specs.declared.flaw.Flaw.{Flaw}
+use Rattle.proto_checks.proofs.CappedFlaws.{caps_keep_the_least}
+use Rattle.proto_desc.proofs.CappedDescriptors.{caps_keep_the_descriptor}
+use Rattle.proto_desc.specs.Checked.{described_from, flaws_of}
+use Rattle.proto_desc.specs.CheckSteps.{IsFaultOf, IsFileError, IsSceneOf}
+use Rattle.proto_desc.specs.declared.check_fault.CheckFault.{CheckFault}
+use Rattle.proto_desc.specs.declared.check_fault.CheckFault.TheVariants.{Schema, NoMemory}
+use Rattle.proto_desc.specs.Described.{file_described}
+use Rattle.proto_desc.specs.Descriptors.{FileDesc}
+use Rattle.proto_desc.specs.SceneOf.{scene_of}
+use Rattle.proto_desc.specs.Views.{file_desc}
+use Rattle.proto_desc.specs.declared.file.FileDescriptor.{FileDescriptor}
+
+-- the descriptor of the file with this number, by its tree
+abbrev pub described_at : List FileOf → List ReadOf → ℕ → Tree → FileDesc
+described_at files reads k tree = file_described (scene_of None files reads k) (file_at files k).path tree
+
+module _ (files : List FileOf) (file : ℕ) (within : file < length files) (scene : Scene) (is : IsSceneOf files file scene) (tree : Tree) (of_file : IsTreeOf (file_at files file).bytes tree) (reads : List ReadOf) (are : AreRead files reads) where
+  pub least_of_file : (o : Option Flaw) → IsLeast (Contains (file_flaws scene tree)) o → IsLeast (Contains (flaws_of files reads file)) o
+  least_of_file o least =
+      caps_keep_the_least (scene_of (Some past) files reads file) (read_at reads file).tree o refl
+      (subst (λ (s : Scene). IsLeast (Contains (file_flaws s (read_at reads file).tree)) o) (is reads are)
+      (subst (λ (t : Tree). IsLeast (Contains (file_flaws scene t)) o) (sym (same_tree files reads file tree are within of_file)) least))
+
+  pub described_of_file : file_described scene (file_at files file).path tree ≡ described_at files reads file (read_at reads file).tree
+  described_of_file =
+      ap (λ (t : Tree). file_described scene (file_at files file).path t) (sym (same_tree files reads file tree are within of_file))
+      ∙ ap (λ (s : Scene). file_described s (file_at files file).path (read_at reads file).tree) (is reads are)
+      ∙ caps_keep_the_descriptor (scene_of (Some past) files reads file) (file_at files file).path (read_at reads file).tree refl
+
+described_all : (files : List FileOf) (reads : List ReadOf) (n : ℕ) (ds : List FileDescriptor) (rs : List ReadOf) → length ds ≡ length rs
+    → Each (λ k d. file_desc d ≡ described_at files reads (n + k) (read_at rs k).tree) ds → map file_desc ds ≡ described_from files reads n rs
+described_all files reads n [] [] e h = refl
+described_all files reads n [] (r ∷ rs) e h = absurd (omega (arith, e))
+described_all files reads n (d ∷ ds) [] e h = absurd (omega (arith, e))
+described_all files reads n (d ∷ ds) (r ∷ rs) e h =
+    let now : file_desc d ≡ described_at files reads n r.tree = subst (λ (m : ℕ). file_desc d ≡ described_at files reads m r.tree) (omega arith) (h 0 d (omega arith)) in
+    let later : Each (λ k x. file_desc x ≡ described_at files reads (suc n + k) (read_at rs k).tree) ds =
+    λ (k : ℕ) (x : FileDescriptor) (l : k < length ds). subst (λ (m : ℕ). file_desc (get_or ds k x) ≡ described_at files reads m (read_at rs k).tree) (omega arith) (h (suc k) x (omega (arith, l))) in
+    ap (λ (z : FileDesc). z ∷ map file_desc ds) now ∙ ap (λ (zs : List FileDesc). described_at files reads n r.tree ∷ zs) (described_all files reads (suc n) ds rs (omega (arith, e)) later)
+
+pub all_described : (files : List FileOf) (reads : List ReadOf) (ds : List FileDescriptor) → length ds ≡ length reads → Each (λ k d. file_desc d ≡ described_at files reads k (read_at reads k).tree) ds → map file_desc ds ≡ described_from files reads 0 reads
+all_described files reads ds e h =
+    described_all files reads 0 ds reads e (λ (k : ℕ) (d : FileDescriptor) l. subst (λ (m : ℕ). file_desc (get_or ds k d) ≡ described_at files reads m (read_at reads k).tree) (omega arith) (h k d l))
+
+-- what is answered for a file with a flaw
+pub file_error : (files : List FileOf) (file : ℕ) (f : Flaw) (e : CheckFault) → IsFaultOf files file f e → ((reads : List ReadOf) → AreRead files reads → IsLeast (Contains (flaws_of files reads file)) (Some f)) → IsFileError files file e
+file_error files file f (Schema fault) is least = record { flaw = f; fault = is; least = least }
+file_error files file f NoMemory is least = tt

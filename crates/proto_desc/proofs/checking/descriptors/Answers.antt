@@ -1,0 +1,29 @@
+use Rattle.std.proofs.Common.{◌≡◌, ℕ, ◌<◌, List, [], ◌∷◌, length, length-append, sym, ap, subst, ◌∙◌, arith}
+use Rattle.proto_tree.specs.File.{tree_of_file}
+use Rattle.proto_names.specs.Links.{read_at}
+use Rattle.proto_names.proofs.EachFile.{each_pushed}
+use Rattle.proto_desc.specs.CheckSteps.{IsSceneOf}
+use Rattle.proto_desc.specs.Described.{file_described}
+use Rattle.proto_desc.specs.Views.{file_desc}
+use Rattle.proto_desc.proofs.CheckedFiles.{all_described, described_at, described_of_file}
+use Rattle.proto_desc.proofs.checking.descriptors.Goals as goal
+
+pub loop-file-preserved : goal.loop-file-preserved
+loop-file-preserved c =
+    let files = c.args.files.now in
+    let file = c.loop-file.file in
+    let l : file < length files = omega (arith, c.loop-file-test.true, c.len-file-end.ensures.len) in
+    let scene = c.index-scenes-file.result in
+    let tree = tree_of_file c.tree.result.now in
+    let is = subst (IsSceneOf files file) (sym c.index-scenes-file.is) (c.requires.each file scene (omega (arith, l, c.requires.len))) in
+    let d = c.in_ok-file_descriptor.field-0 in
+    record {
+      len = omega (arith, ap length c.in_ok-push.ensures.items, length-append c.loop-file.descriptors.items (d ∷ []), c.loop-file.invariant.len);
+      each = λ reads are.
+          each_pushed (λ k x. file_desc x ≡ described_at files reads k (read_at reads k).tree) c.loop-file.descriptors.items c.push.new.self.items d file c.in_ok-push.ensures.items c.loop-file.invariant.len (c.loop-file.invariant.each reads are)
+          (c.in_ok-file_descriptor.ensures ∙ ap (λ (p : List ℕ). file_described scene p tree) c.path-path.ensures ∙ described_of_file files file l scene is tree c.tree.ensures reads are);
+    }
+
+pub returns : goal.returns
+returns c = λ reads are.
+    all_described c.args.files.now reads c.loop-file.descriptors.items (omega (arith, c.loop-file.invariant.len, c.loop-file-test.false, c.len-file-end.ensures.len, c.loop-file.auto.file-end, are.same)) (c.loop-file.invariant.each reads are)

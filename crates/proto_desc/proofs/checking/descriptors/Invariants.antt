@@ -1,0 +1,14 @@
+use Rattle.std.proofs.Common.{◌≡◌, List, length}
+use Rattle.proto_files.specs.GivenFiles.{file_at}
+use Rattle.proto_names.specs.Links.{Each, ReadOf, AreRead, read_at}
+use Rattle.proto_desc.specs.Described.{file_described}
+use Rattle.proto_desc.specs.SceneOf.{scene_of}
+use Rattle.proto_desc.specs.Views.{file_desc}
+use Rattle.std.specs.Prelude.{None}
+use Rattle.proto_desc.proofs.checking.descriptors.Given as goal
+
+abbrev pub invariant-loop-file : goal.invariant-loop-file
+invariant-loop-file l = record {
+  len : length l.descriptors.items ≡ l.file;
+  each : (reads : List ReadOf) → AreRead l.files reads → Each (λ k d. file_desc d ≡ file_described (scene_of None l.files reads k) (file_at l.files k).path (read_at reads k).tree) l.descriptors.items;
+}

@@ -1,0 +1,8 @@
+use Rattle.std.proofs.Common.{List, ◌∙◌, subst}
+use Rattle.std.specs.List.{Contains}
+use Rattle.proto_checks.specs.Flaws.{IsLeast}
+use Rattle.proto_checks.specs.declared.flaw.Flaw.{Flaw}
+use Rattle.proto_desc.proofs.checking.least_flaw.Goals as goal
+
+pub returns : goal.returns
+returns c = subst (λ (found : List Flaw). IsLeast (Contains found) c.least.result) (c.deref.ensures.value ∙ c.in_ok-found.ensures) c.least.ensures

@@ -1,0 +1,55 @@
+-- The faults of checks, and the descriptors of a workspace that has no fault.
+use Rattle.std.specs.Prelude.{◌≡◌, ℕ, suc, ◌<◌, List, [], ◌∷◌, length, codes, None}
+use Rattle.std.specs.List.{Contains}
+use Rattle.proto_text.specs.Texts.{offset_at}
+use Rattle.proto_files.specs.FaultTable.{number_of, name_of}
+use Rattle.proto_files.specs.Faults.{FaultAt, IsLeastFault, fault_at}
+use Rattle.proto_files.specs.GivenFiles.{FileOf, file_at}
+use Rattle.proto_names.specs.Links.{ReadOf, AreRead, read_at}
+use Rattle.proto_checks.specs.FileFlaws.{file_flaws}
+use Rattle.proto_checks.specs.declared.flaw.Flaw.{Flaw}
+use Rattle.proto_desc.specs.Described.{file_described}
+use Rattle.proto_desc.specs.Descriptors.{FileDesc}
+use Rattle.proto_desc.specs.SceneOf.{scene_of}
+use Rattle.proto_desc.specs.declared.check_fault.CheckFault.{CheckFault}
+use Rattle.proto_desc.specs.declared.check_fault.CheckFault.TheVariants.{Schema, NoMemory}
+
+-- what is wrong with a file of the workspace
+abbrev pub flaws_of : List FileOf → List ReadOf → ℕ → List Flaw
+flaws_of files reads file = file_flaws (scene_of None files reads file) (read_at reads file).tree
+
+-- a flaw as a fault of the file at an offset
+abbrev pub fault_of : List FileOf → List ReadOf → ℕ → Flaw → FaultAt
+fault_of files reads file f = record { path = (file_at files file).path; offset = offset_at (read_at reads file).tokens f.token; kind = f.kind }
+
+-- the faults of the checks of all files (they count where no import, name or reference has a fault: the least fault is by phase first)
+pub data CheckFaults (files : List FileOf) : FaultAt → Type 0 where
+  of_flaw : (reads : List ReadOf) (file : ℕ) (f : Flaw) → AreRead files reads → file < length files → Contains (flaws_of files reads file) f → CheckFaults files (fault_of files reads file f)
+
+-- the descriptors of the files from this number on
+abbrev pub described_from : List FileOf → List ReadOf → ℕ → List ReadOf → List FileDesc
+described_from files reads file [] = []
+described_from files reads file (r ∷ rs) = file_described (scene_of None files reads file) (file_at files file).path r.tree ∷ described_from files reads (suc file) rs
+
+-- the descriptors of the files, in the order of their paths
+abbrev pub described : List FileOf → List ReadOf → List FileDesc
+described files reads = described_from files reads 0 reads
+
+abbrev pub AreDescribed : List FileOf → List FileDesc → Type 0
+AreDescribed files ds = (reads : List ReadOf) → AreRead files reads → ds ≡ described files reads
+
+-- ---- what is answered where checks fail
+
+-- want of memory is no fault of a schema
+abbrev pub answer_number : CheckFault → ℕ
+answer_number (Schema f) = number_of f.kind
+answer_number NoMemory = 0
+
+abbrev pub answer_name : CheckFault → List ℕ
+answer_name (Schema f) = name_of f.kind
+answer_name NoMemory = codes "NoMemory"
+
+-- the error is want of memory, or the least fault of the files
+abbrev pub IsCheckError : List FileOf → CheckFault → Type 0
+IsCheckError files (Schema f) = IsLeastFault (CheckFaults files) (fault_at f)
+IsCheckError files NoMemory = Unit {0}

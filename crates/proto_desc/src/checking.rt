@@ -1,0 +1,136 @@
+//! Checking linked files, and their descriptors.
+
+ghost use Rattle.std.specs.Prelude.{◌≡◌, ◌<◌, List, length, map, IfOk, IfErr};
+ghost use Rattle.std.specs.List.{Contains};
+ghost use Rattle.proto_text.specs.Texts.{offset_at};
+ghost use Rattle.proto_tree.specs.File.{tree_of_file};
+ghost use Rattle.proto_files.specs.Faults.{HasNoFault};
+ghost use Rattle.proto_names.specs.LinkOfFiles.{IsLinkOf};
+ghost use Rattle.proto_names.specs.Links.{ReadOf, AreRead};
+ghost use Rattle.proto_checks.specs.FileFlaws.{file_flaws};
+ghost use Rattle.proto_checks.specs.Flaws.{IsLeast};
+ghost use Rattle.proto_desc.specs.Checked.{AreDescribed, CheckFaults, IsCheckError};
+ghost use Rattle.proto_desc.specs.CheckSteps.{AreScenes, HasNoFlaw, IsFaultOf, IsFileError, IsSceneOf};
+ghost use Rattle.proto_desc.specs.Enums.{IsEnumTable};
+ghost use Rattle.proto_desc.specs.Views.{file_desc, files_desc};
+
+use crate::check_fault::CheckFault;
+use crate::described_file::file_descriptor;
+use crate::enum_table::{EnumRow, enum_table};
+use crate::file::{Descriptors, FileDescriptor};
+use crate::scenes::scenes;
+use indexmap::IndexMap;
+use proto_checks::{Flaw, file_flaws, least};
+use proto_files::{Fault, Files};
+use proto_names::{Link, are_read};
+use proto_parts::Scene;
+use proto_text::Token;
+use proto_tree::File;
+use std::alloc::{AllocError, Global};
+
+/// Where a token begins, and 0 where there is no such token.
+fn offset(tokens: &[Token], token: u32) -> u32
+    ensures { result ≡ offset_at tokens.now token }
+{
+    match tokens.get(token as usize) {
+        Some(there) => there.span.start,
+        None => 0,
+    }
+}
+
+/// A flaw as a fault of its file.
+fn fault(alloc: Global, files: &Files, file: usize, flaw: Flaw) -> CheckFault
+    requires { file < length files.now }
+    ensures { IsFaultOf files.now file flaw result }
+{
+    match String::from_str(alloc, files.path(file)) {
+        Ok(path) => CheckFault::Schema(Fault {
+            path,
+            offset: offset(files.tokens(file), flaw.token),
+            kind: flaw.kind,
+        }),
+        Err(_) => CheckFault::NoMemory,
+    }
+}
+
+fn least_flaw(alloc: Global, scene: &Scene, tree: &File) -> Result<Option<Flaw>, AllocError>
+    ensures { IfOk result (λ flaw. IsLeast (Contains (file_flaws scene.now (tree_of_file tree.now))) flaw) }
+{
+    let found = file_flaws(alloc, scene, tree)?;
+    Ok(least(&found))
+}
+
+/// Whether a file has no flaw; else its least one.
+fn check_file(alloc: Global, files: &Files, scene: &Scene, file: usize) -> Result<(), CheckFault>
+    requires file { file < length files.now }
+    requires scene { IsSceneOf files.now file scene.now }
+    ensures clean { IfOk result (λ _. HasNoFlaw files.now file) }
+    ensures fault { IfErr result (IsFileError files.now file) }
+{
+    match least_flaw(alloc, scene, files.tree(file))? {
+        Some(flaw) => Err(fault(alloc, files, file, flaw)),
+        None => Ok(()),
+    }
+}
+
+/// Whether no file has a flaw; else the least one of the first that has.
+fn check_files(alloc: Global, files: &Files, scenes: &[Scene]) -> Result<(), CheckFault>
+    requires { AreScenes files.now scenes.now }
+    ensures clean { IfOk result (λ _. HasNoFault (CheckFaults files.now)) }
+    ensures fault { IfErr result (IsCheckError files.now) }
+{
+    // The contracts of these say that each file is read, and that the files are those of a workspace.
+    are_read(files);
+    let _count = files.len();
+    for file in 0..files.len() {
+        check_file(alloc, files, &scenes[file], file)?;
+    }
+    Ok(())
+}
+
+/// The descriptors of the files, in the order of their paths.
+fn descriptors(
+    alloc: Global,
+    files: &Files,
+    scenes: &[Scene],
+) -> Result<Vec<FileDescriptor>, AllocError>
+    requires { AreScenes files.now scenes.now }
+    ensures { IfOk result (λ ds. AreDescribed files.now (map file_desc ds.items)) }
+{
+    let mut descriptors = Vec::new(alloc);
+    for file in 0..files.len() {
+        let path = files.path(file);
+        descriptors.push(file_descriptor(alloc, &scenes[file], path, files.tree(file))?)?;
+    }
+    Ok(descriptors)
+}
+
+/// The same, with the enums of all files.
+fn check_with(
+    alloc: Global,
+    files: &Files,
+    link: &Link,
+    table: &[IndexMap<u32, EnumRow>],
+) -> Result<Descriptors, CheckFault>
+    requires link { IsLinkOf files.now link.now }
+    requires table { IsEnumTable files.now table.now }
+    ensures clean { IfOk result (λ _. HasNoFault (CheckFaults files.now)) }
+    ensures descriptors { IfOk result (λ d. AreDescribed files.now (files_desc d)) }
+    ensures fault { IfErr result (IsCheckError files.now) }
+{
+    let scenes = scenes(alloc, files, link, table)?;
+    check_files(alloc, files, &scenes)?;
+    let file = descriptors(alloc, files, &scenes)?;
+    Ok(Descriptors { file })
+}
+
+/// The descriptors of linked files, where their checks find no fault; else the least fault by path, offset and number.
+pub fn check(alloc: Global, files: &Files, link: &Link) -> Result<Descriptors, CheckFault>
+    requires { IsLinkOf files.now link.now }
+    ensures clean { IfOk result (λ _. HasNoFault (CheckFaults files.now)) }
+    ensures descriptors { IfOk result (λ d. AreDescribed files.now (files_desc d)) }
+    ensures fault { IfErr result (IsCheckError files.now) }
+{
+    let table = enum_table(alloc, files)?;
+    check_with(alloc, files, link, &table)
+}

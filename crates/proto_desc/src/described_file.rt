@@ -1,0 +1,244 @@
+//! The descriptor of a file.
+
+ghost use Rattle.std.specs.Prelude.{◌≡◌, ◌∷◌, if◌then◌else◌, map, option_map, option_to_list, string_bytes, IfOk};
+ghost use Rattle.proto_tree.specs.File.{item_tree, tree_of_file, trees};
+ghost use Rattle.proto_names.specs.FromTree.{items_in};
+ghost use Rattle.proto_names.specs.Joined.{joined};
+ghost use Rattle.proto_names.specs.Listing.{wanted_of};
+ghost use Rattle.proto_names.specs.Tree.{package_of};
+ghost use Rattle.proto_parts.specs.Parts.{options_in};
+ghost use Rattle.proto_parts.specs.Scenes.{text, value};
+ghost use Rattle.proto_parts.specs.Views.{option_of};
+ghost use Rattle.proto_desc.specs.declared.file.Syntax.TheVariants as syntax;
+ghost use Rattle.proto_desc.specs.Described.{enums_described, file_described, file_options, messages_described, mode_named, package_named, package_prefix, public_places, services_described};
+ghost use Rattle.proto_desc.specs.Views.{enum_desc, file_desc, file_options_desc, messages_desc, service_desc};
+
+use crate::described_enum::enum_descriptor;
+use crate::described_message::message_descriptor;
+use crate::described_names::absolute;
+use crate::described_options::{text_option, truth_option, word_option};
+use crate::described_service::service_descriptor;
+use crate::enumeration::EnumDescriptor;
+use crate::file::{FileDescriptor, FileOptions, OptimizeMode, Syntax};
+use crate::message::MessageDescriptor;
+use crate::service::ServiceDescriptor;
+use proto_names::wanted::{Wanted, imports, package};
+use proto_parts::{OptionAt, Scene, file_options};
+use proto_tree::{File, Item};
+use std::alloc::{AllocError, Global};
+
+fn item_message(
+    alloc: Global,
+    scene: &Scene,
+    around: &str,
+    item: &Item,
+) -> Result<Option<MessageDescriptor>, AllocError>
+    ensures { IfOk result (λ d. messages_desc (option_to_list d) ≡ messages_described scene.now around.now (item_tree item.now)) }
+{
+    match item {
+        Item::Message(message) => { Ok(Some(message_descriptor(alloc, scene, around, message)?)) }
+        _ => Ok(None),
+    }
+}
+
+fn message_descriptors(
+    alloc: Global,
+    scene: &Scene,
+    around: &str,
+    items: &[Item],
+) -> Result<Vec<MessageDescriptor>, AllocError>
+    ensures { IfOk result (λ ds. messages_desc ds.items ≡ messages_described scene.now around.now (trees item_tree items.now)) }
+{
+    let mut descriptors = Vec::new(alloc);
+    for item in items {
+        if let Some(descriptor) = item_message(alloc, scene, around, item)? {
+            descriptors.push(descriptor)?;
+        }
+    }
+    Ok(descriptors)
+}
+
+fn item_enum(
+    alloc: Global,
+    scene: &Scene,
+    item: &Item,
+) -> Result<Option<EnumDescriptor>, AllocError>
+    ensures { IfOk result (λ d. map enum_desc (option_to_list d) ≡ enums_described scene.now (item_tree item.now)) }
+{
+    match item {
+        Item::Enum(enumeration) => Ok(Some(enum_descriptor(alloc, scene, enumeration)?)),
+        _ => Ok(None),
+    }
+}
+
+#[tactic(auto, using(crate::proofs::Levels::enums_joined))]
+fn enum_descriptors(
+    alloc: Global,
+    scene: &Scene,
+    items: &[Item],
+) -> Result<Vec<EnumDescriptor>, AllocError>
+    ensures { IfOk result (λ ds. map enum_desc ds.items ≡ enums_described scene.now (trees item_tree items.now)) }
+{
+    let mut descriptors = Vec::new(alloc);
+    for item in items {
+        if let Some(descriptor) = item_enum(alloc, scene, item)? {
+            descriptors.push(descriptor)?;
+        }
+    }
+    Ok(descriptors)
+}
+
+fn item_service(
+    alloc: Global,
+    scene: &Scene,
+    item: &Item,
+) -> Result<Option<ServiceDescriptor>, AllocError>
+    ensures { IfOk result (λ d. map service_desc (option_to_list d) ≡ services_described scene.now (item_tree item.now)) }
+{
+    match item {
+        Item::Service(service) => Ok(Some(service_descriptor(alloc, scene, service)?)),
+        _ => Ok(None),
+    }
+}
+
+#[tactic(auto, using(crate::proofs::Levels::services_joined))]
+fn service_descriptors(
+    alloc: Global,
+    scene: &Scene,
+    items: &[Item],
+) -> Result<Vec<ServiceDescriptor>, AllocError>
+    ensures { IfOk result (λ ds. map service_desc ds.items ≡ services_described scene.now (trees item_tree items.now)) }
+{
+    let mut descriptors = Vec::new(alloc);
+    for item in items {
+        if let Some(descriptor) = item_service(alloc, scene, item)? {
+            descriptors.push(descriptor)?;
+        }
+    }
+    Ok(descriptors)
+}
+
+fn joined_words(
+    alloc: Global,
+    scene: &Scene,
+    first: u32,
+    rest: &[u32],
+) -> Result<String, AllocError>
+    ensures { IfOk result (λ s. string_bytes s ≡ joined (map (text scene.now) (first ∷ rest.now))) }
+{
+    let mut name = String::from_str(alloc, scene.text(first))?;
+    for word in rest {
+        name.push('.')?;
+        name.push_str(scene.text(*word))?;
+    }
+    Ok(name)
+}
+
+fn package_name(alloc: Global, scene: &Scene, words: &[u32]) -> Result<Option<String>, AllocError>
+    ensures { IfOk result (λ name. option_map string_bytes name ≡ package_named scene.now words.now) }
+{
+    match words {
+        [] => Ok(None),
+        [first, rest @ ..] => Ok(Some(joined_words(alloc, scene, *first, rest)?)),
+    }
+}
+
+// What stands before the names of a package's symbols.
+fn prefix(alloc: Global, name: &Option<String>) -> Result<String, AllocError>
+    ensures { IfOk result (λ s. string_bytes s ≡ package_prefix (option_map string_bytes name.now)) }
+{
+    match name {
+        Some(name) => absolute(alloc, name),
+        None => Ok(String::new(alloc)),
+    }
+}
+
+fn dependencies(alloc: Global, scene: &Scene, imports: &[Wanted]) -> Result<Vec<String>, AllocError>
+    ensures { IfOk result (λ paths. map string_bytes paths.items ≡ map (λ w. value scene.now w.path) (map wanted_of imports.now)) }
+{
+    let mut paths = Vec::new(alloc);
+    for import in imports {
+        paths.push(scene.string(alloc, import.path)?)?;
+    }
+    Ok(paths)
+}
+
+fn public_dependencies(alloc: Global, imports: &[Wanted]) -> Result<Vec<usize>, AllocError>
+    ensures { IfOk result (λ places. places.items ≡ public_places 0 (map wanted_of imports.now)) }
+{
+    let mut places = Vec::new(alloc);
+    for place in 0..imports.len() {
+        if imports[place].is_public {
+            places.push(place)?;
+        }
+    }
+    Ok(places)
+}
+
+fn mode_named(word: &str) -> OptimizeMode
+    ensures { result ≡ mode_named word.now }
+{
+    match word {
+        "CODE_SIZE" => OptimizeMode::CodeSize,
+        "LITE_RUNTIME" => OptimizeMode::LiteRuntime,
+        _ => OptimizeMode::Speed,
+    }
+}
+
+fn options_of_file(
+    alloc: Global,
+    scene: &Scene,
+    options: &[OptionAt],
+) -> Result<FileOptions, AllocError>
+    ensures { IfOk result (λ o. file_options_desc o ≡ file_options scene.now (map option_of options.now)) }
+{
+    Ok(FileOptions {
+        java_package: text_option(alloc, scene, options, "java_package")?,
+        java_outer_classname: text_option(alloc, scene, options, "java_outer_classname")?,
+        java_multiple_files: truth_option(scene, options, "java_multiple_files"),
+        optimize_for: word_option(scene, options, "optimize_for").map(mode_named),
+        go_package: text_option(alloc, scene, options, "go_package")?,
+        deprecated: truth_option(scene, options, "deprecated"),
+        cc_enable_arenas: truth_option(scene, options, "cc_enable_arenas"),
+        objc_class_prefix: text_option(alloc, scene, options, "objc_class_prefix")?,
+        csharp_namespace: text_option(alloc, scene, options, "csharp_namespace")?,
+        php_namespace: text_option(alloc, scene, options, "php_namespace")?,
+    })
+}
+
+fn syntax(scene: &Scene) -> Syntax
+    ensures { result ≡ (if scene.now.is_proto3 then syntax.Proto3 else syntax.Proto2) }
+{
+    if scene.is_proto3() {
+        Syntax::Proto3
+    } else {
+        Syntax::Proto2
+    }
+}
+
+/// The descriptor of the file at the path.
+pub(crate) fn file_descriptor(
+    alloc: Global,
+    scene: &Scene,
+    path: &str,
+    file: &File,
+) -> Result<FileDescriptor, AllocError>
+    ensures { IfOk result (λ d. file_desc d ≡ file_described scene.now path.now (tree_of_file file.now)) }
+{
+    let items = file.items.as_slice();
+    let package = package_name(alloc, scene, &package(alloc, file)?)?;
+    let prefix = prefix(alloc, &package)?;
+    let imports = imports(alloc, file)?;
+    let options = file_options(alloc, file)?;
+    Ok(FileDescriptor {
+        name: String::from_str(alloc, path)?,
+        package,
+        dependency: dependencies(alloc, scene, &imports)?,
+        public_dependency: public_dependencies(alloc, &imports)?,
+        message_type: message_descriptors(alloc, scene, &prefix, items)?,
+        enum_type: enum_descriptors(alloc, scene, items)?,
+        service: service_descriptors(alloc, scene, items)?,
+        options: options_of_file(alloc, scene, &options)?,
+        syntax: syntax(scene),
+    })
+}

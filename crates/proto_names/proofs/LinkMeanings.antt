@@ -1,0 +1,73 @@
+-- What a link has of each file's references is what they mean, in the order of their first tokens.
+use Rattle.std.proofs.Common.{◌≡◌, ℕ, suc, ◌<◌, List, [], ◌∷◌, length, get_or, map, option_map, Some, refl, sym, ◌∙◌, ap, subst, arith}
+use Rattle.std.specs.Global.{Vec}
+use Rattle.std.specs.List.{All, AllPairs}
+use Rattle.std.proofs.lemmas.List.{get_or-map, length-map}
+use Rattle.proto_files.specs.GivenFiles.{FileOf, file_at}
+use Rattle.proto_names.specs.FileReferences.{AreFileMeant, uses_of}
+use Rattle.proto_names.specs.Joined.{joined}
+use Rattle.proto_names.specs.LinkOfFiles.{IsLinkBy, IsLinkRead, TextMeant, meant_by_link, meant_by_use}
+use Rattle.proto_names.specs.Linking.{LinkOf, name_of_row}
+use Rattle.proto_names.specs.Links.{ReadOf, AreRead, link_skeleton, names_of_files, read_at, text_of}
+use Rattle.proto_names.specs.Names.{meaning}
+use Rattle.proto_names.specs.Naming.{used_named}
+use Rattle.proto_names.specs.Skeleton.{Used}
+use Rattle.proto_names.specs.Tables.{IsTable, names_of}
+use Rattle.proto_names.specs.declared.references.Meant.{Meant}
+use Rattle.proto_names.specs.declared.table.Table.{Table}
+use Rattle.proto_names.proofs.Linking.{text_from}
+use Rattle.proto_names.proofs.ReadTrees.{uses_rising}
+use Rattle.proto_names.proofs.Search.{pick}
+
+-- as other elements' numbers rise, so do these
+pub rising_by : {X Y : Type 0} (f : X → ℕ) (g : Y → ℕ) (xs : List X) (ys : List Y) → map f xs ≡ map g ys → AllPairs (λ a b. g a < g b) ys → AllPairs (λ a b. f a < f b) xs
+rising_by f g xs ys same rise i j d l m =
+    let n : length xs ≡ length ys = sym (length-map xs f) ∙ ap length same ∙ length-map ys g in
+    let other = pick ys j (omega (arith, m, n)) in
+    let at : (k : ℕ) → k < length xs → f (get_or xs k d) ≡ g (get_or ys k other) =
+    λ k o. sym (get_or-map f xs k d 0 o) ∙ ap (λ z. get_or z k 0) same ∙ get_or-map g ys k other 0 (omega (arith, o, n)) in
+    omega (arith, at i (omega (arith, l, m)), at j m, rise i j other l (omega (arith, m, n)))
+
+-- the first tokens of a file's references rise
+pub tokens_rise : (t : Table) (files : List FileOf) (reads : List ReadOf) → AreRead files reads → (file : ℕ) → file < length files → (ms : List Meant) → AreFileMeant t files reads file ms → AllPairs (λ m n. m.token < n.token) ms
+tokens_rise t files reads are file l ms meant =
+    rising_by (λ m. m.token) (λ u. u.first) ms (uses_of reads file) meant.places
+    (uses_rising (file_at files file).bytes (read_at reads file).tokens (read_at reads file).tree (are.trees file l))
+
+pub all_tokens_rise : (t : Table) (files : List FileOf) (reads : List ReadOf) → AreRead files reads → (meant : List (Vec Meant)) → length meant ≡ length files
+    → ((k : ℕ) → k < length files → AreFileMeant t files reads k (get_or (map (λ v. v.items) meant) k [])) → All (λ v. AllPairs (λ m n. m.token < n.token) v.items) meant
+all_tokens_rise t files reads are meant sized means k d l =
+    subst (AllPairs (λ m n. m.token < n.token)) (get_or-map (λ v. v.items) meant k d [] l)
+    (tokens_rise t files reads are k (omega (arith, l, sized)) (get_or (map (λ v. v.items) meant) k []) (means k (omega (arith, l, sized))))
+
+module _ (files : List FileOf) (reads : List ReadOf) (t : Table) (ok : IsTable t) (l : LinkOf) (same : map name_of_row t.rows.items ≡ l.names) where
+  same_texts : (file : ℕ) (us : List (Used ℕ)) (ms : List Meant) → map (λ m. m.token) ms ≡ map (λ u. u.first) us → All (λ m. m.row < length t.rows.items) ms
+      → map (λ m. Some (get_or (names_of t) m.row [])) ms ≡ map (λ r. option_map joined (meaning (names_of_files files reads) r)) (map (used_named (text_of files reads) file) us)
+      → map (meant_by_link l) ms ≡ map (meant_by_use files reads file) us
+  same_texts file [] [] tokens rows names = refl
+  same_texts file [] (m ∷ ms) tokens rows names = absurd (cc)
+  same_texts file (u ∷ us) [] tokens rows names = absurd (cc)
+  same_texts file (u ∷ us) (m ∷ ms) tokens rows names =
+      let token : m.token ≡ u.first = cc in
+      let here : Some (get_or (names_of t) m.row []) ≡ option_map joined (meaning (names_of_files files reads) (used_named (text_of files reads) file u)) = cc in
+      let tokens_on : map (λ (x : Meant). x.token) ms ≡ map (λ (x : Used ℕ). x.first) us = cc in
+      let names_on : map (λ (x : Meant). Some (get_or (names_of t) x.row [])) ms ≡ map (λ r. option_map joined (meaning (names_of_files files reads) r)) (map (used_named (text_of files reads) file) us) = cc in
+      let text = text_from t ok l same m.row (get_or (names_of t) m.row []) (rows 0 m (omega arith)) refl ∙ here in
+      ap (λ z. let o : TextMeant = record { token = z; text = (meant_by_link l m).text } in o ∷ map (meant_by_link l) ms) token
+      ∙ ap (λ z. let o : TextMeant = record { token = u.first; text = z } in o ∷ map (meant_by_link l) ms) text
+      ∙ ap (λ zs. meant_by_use files reads file u ∷ zs) (same_texts file us ms tokens_on (λ k d n. rows (suc k) d (omega (arith, n))) names_on)
+
+  pub is_link_read : AreRead files reads → IsLinkBy (text_of files reads) (link_skeleton files reads) l → length l.meant ≡ length files → ((k : ℕ) → k < length files → AreFileMeant t files reads k (get_or l.meant k [])) → IsLinkRead files reads l
+  is_link_read are by sized means = record {
+    by = by;
+    lists = sized;
+    means = λ file m.
+        (let ms = get_or l.meant file [] in
+        let a = means file m in
+        let rows : length l.names ≡ length t.rows.items = ap length (sym same) ∙ length-map t.rows.items name_of_row in
+        record {
+          texts = same_texts file (uses_of reads file) ms a.places a.within a.names;
+          rising = tokens_rise t files reads are file m ms a;
+          within = λ k d n. (let w = a.within k d n in omega (arith, w, rows));
+        });
+  }

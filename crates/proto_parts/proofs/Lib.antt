@@ -1,0 +1,5 @@
+mod Digits
+mod Means
+mod Statements
+mod Syntax
+mod Words

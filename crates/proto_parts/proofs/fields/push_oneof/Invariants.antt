@@ -1,0 +1,9 @@
+use Rattle.std.proofs.Common.{◌≡◌, ◌++◌, map, drop, Some}
+use Rattle.std.specs.List.{flat_map}
+use Rattle.proto_tree.specs.File.{trees, field_tree}
+use Rattle.proto_parts.specs.Parts.{statement_fields, statements}
+use Rattle.proto_parts.specs.Views.{field_of}
+use Rattle.proto_parts.proofs.fields.push_oneof.Given as goal
+
+abbrev pub invariant-loop-field : goal.invariant-loop-field
+invariant-loop-field l = map field_of l.found.items ++ flat_map (statement_fields (Some l.before)) (statements (trees field_tree (drop l.field-index l.fields))) ≡ map field_of l.fn.found.items ++ flat_map (statement_fields (Some l.before)) (statements (trees field_tree l.fields))

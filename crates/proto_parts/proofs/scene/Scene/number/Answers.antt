@@ -1,0 +1,13 @@
+use Rattle.std.proofs.Common.{◌≤◌, pos, ap, ◌∙◌, arith}
+use Rattle.std.specs.Int.{w128}
+use Rattle.std.specs.Prelude.{min}
+use Rattle.std.proofs.lemmas.Int.{to_z_pos}
+use Rattle.proto_parts.specs.Numbers.{past, number_of}
+use Rattle.proto_parts.specs.Scenes.{Scene, number_at}
+use Rattle.proto_parts.proofs.Digits.{min_bound}
+use Rattle.proto_parts.proofs.scene.Scene.number.Goals as goal
+
+pub returns : goal.returns
+returns c =
+    let low : c.number_of.result ≤ past = min_bound _ _ _ c.number_of.ensures in
+    to_z_pos w128 c.number_of.result (omega (arith, low)) ∙ ap pos c.number_of.ensures ∙ ap (λ w. pos (min past (number_of w))) c.text_in.ensures ∙ ap (λ (s : Scene). number_at s c.args.token) c.self.view_is

@@ -1,0 +1,16 @@
+use Rattle.std.proofs.Common.{rules, sym}
+use Rattle.std.proofs.lemmas.List.Sorted.{answers_always}
+use Rattle.proto_parts.proofs.Means.{is_found, is_missing}
+use Rattle.proto_parts.proofs.scene.meant_at.Goals as goal
+
+pub returns-in-Ok : goal.returns-in-Ok
+returns-in-Ok c =
+    let facts = c.binary_search_by_key.ensures in
+    let by_key = facts.position (λ m. m.token) (answers_always _ _ _ (λ f a r g called. search rules)) in
+    sym (is_found c.args.means.now c.args.token c.requires c.in-Ok.place _ (rw c.in-Ok.is at facts.bound) (rw c.in-Ok.is at by_key))
+
+pub returns-in-Err : goal.returns-in-Err
+returns-in-Err c =
+    let facts = c.binary_search_by_key.ensures in
+    let by_key = facts.position (λ m. m.token) (answers_always _ _ _ (λ f a r g called. search rules)) in
+    sym (is_missing c.args.means.now c.args.token c.requires c.in-Err.field-0 (rw c.in-Err.is at by_key))

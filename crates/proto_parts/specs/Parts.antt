@@ -1,0 +1,165 @@
+-- The parts of a tree that checks and descriptors read: fields, values, ranges, reserved names, options and blocks, by the indices of their tokens.
+use Rattle.std.specs.Prelude.{ℕ, suc, List, [], ◌∷◌, ◌++◌, map, flat_map, Option, Some, None}
+use Rattle.proto_tree.specs.declared.tree.Separated.{Separated}
+use Rattle.proto_tree.specs.declared.tree.Constant.{Constant}
+use Rattle.proto_tree.specs.declared.tree.Setting.{Setting}
+use Rattle.proto_tree.specs.declared.tree.Settings.{Settings}
+use Rattle.proto_tree.specs.declared.tree.FieldType.{FieldType}
+use Rattle.proto_tree.specs.declared.tree.Field.{Field}
+use Rattle.proto_tree.specs.declared.tree.MapField.{MapField}
+use Rattle.proto_tree.specs.declared.tree.Range.{Range}
+use Rattle.proto_tree.specs.declared.tree.ReservedList.{ReservedList}
+use Rattle.proto_tree.specs.declared.tree.ReservedList.TheVariants as reserved_list
+use Rattle.proto_tree.specs.declared.tree.Signed.{Signed}
+use Rattle.proto_tree.specs.declared.tree.Value.{Value}
+use Rattle.proto_tree.specs.declared.piece.Statement.{Statement}
+use Rattle.proto_tree.specs.declared.piece.Statement.TheVariants as statement
+use Rattle.proto_tree.specs.declared.piece.Header.{Header}
+use Rattle.proto_tree.specs.declared.piece.Header.TheVariants as header
+use Rattle.proto_tree.specs.Tree.{Tree, End, Leaf, Block}
+
+-- items with a separator between each two
+abbrev pub separated : {A : Type 0} → Separated A → List A
+separated s = s.first ∷ map (λ b. b.item) s.rest
+
+-- the statements right in a block or a file
+abbrev pub statements : Tree → List Statement
+statements End = []
+statements (Leaf s rest) = s ∷ statements rest
+statements (Block h opens within closes rest) = statements rest
+
+-- ---- options
+
+-- an option: the token of its name, and its value
+pub record OptionOf : Type 0 where
+  pub name : ℕ
+  pub value : Constant
+
+abbrev pub option_of_setting : Setting → OptionOf
+option_of_setting s = record { name = s.name; value = s.value }
+
+-- the options between brackets
+abbrev pub settings_of : Option Settings → List OptionOf
+settings_of None = []
+settings_of (Some s) = map option_of_setting (separated s.list)
+
+abbrev pub statement_options : Statement → List OptionOf
+statement_options (statement.Option o) = record { name = o.name; value = o.value } ∷ []
+statement_options _ = []
+
+-- the option statements right in a block or a file
+abbrev pub options_in : Tree → List OptionOf
+options_in tree = flat_map statement_options (statements tree)
+
+-- ---- fields
+
+-- A field: plain, of a oneof (by its place among the message's oneofs, from 0), or of a map (by the token of its key's type).
+pub record FieldOf : Type 0 where
+  pub label : Option ℕ
+  pub map_key : Option ℕ
+  pub oneof : Option ℕ
+  pub kind : FieldType
+  pub name : ℕ
+  pub number : ℕ
+  pub options : List OptionOf
+
+abbrev pub plain_field : Option ℕ → Field → FieldOf
+plain_field oneof f = record { label = f.label; map_key = None; oneof = oneof; kind = f.kind; name = f.name; number = f.number; options = settings_of f.settings }
+
+-- its kind is that of its values
+abbrev pub map_field : MapField → FieldOf
+map_field f = record { label = None; map_key = Some f.key; oneof = None; kind = f.value; name = f.name; number = f.number; options = settings_of f.settings }
+
+abbrev pub statement_fields : Option ℕ → Statement → List FieldOf
+statement_fields oneof (statement.Field f) = plain_field oneof f ∷ []
+statement_fields oneof (statement.MapField f) = map_field f ∷ []
+statement_fields oneof _ = []
+
+-- the fields right in a message, and those of its oneofs, of which so many stand before
+abbrev pub fields_from : ℕ → Tree → List FieldOf
+fields_from before End = []
+fields_from before (Leaf s rest) = statement_fields None s ++ fields_from before rest
+fields_from before (Block (header.Oneof h) opens within closes rest) = flat_map (statement_fields (Some before)) (statements within) ++ fields_from (suc before) rest
+fields_from before (Block h opens within closes rest) = fields_from before rest
+
+-- the fields of a message, in order
+abbrev pub fields_in : Tree → List FieldOf
+fields_in tree = fields_from 0 tree
+
+-- how many oneofs stand right in a message
+abbrev pub oneof_count : Tree → ℕ
+oneof_count End = 0
+oneof_count (Leaf s rest) = oneof_count rest
+oneof_count (Block (header.Oneof h) opens within closes rest) = suc (oneof_count rest)
+oneof_count (Block h opens within closes rest) = oneof_count rest
+
+-- ---- ranges and reserved names
+
+abbrev pub ranges_of : {N : Type 0} → ReservedList N → List (Range N)
+ranges_of (reserved_list.Names names) = []
+ranges_of (reserved_list.Ranges ranges) = separated ranges
+
+abbrev pub names_of : {N : Type 0} → ReservedList N → List ℕ
+names_of (reserved_list.Names names) = separated names
+names_of (reserved_list.Ranges ranges) = []
+
+abbrev pub reserved_ranges : Statement → List (Range ℕ)
+reserved_ranges (statement.Reserved r) = ranges_of r.list
+reserved_ranges _ = []
+
+abbrev pub extension_ranges : Statement → List (Range ℕ)
+extension_ranges (statement.Extensions e) = separated e.ranges
+extension_ranges _ = []
+
+-- of both kinds
+abbrev pub closed_ranges : Statement → List (Range ℕ)
+closed_ranges s = reserved_ranges s ++ extension_ranges s
+
+abbrev pub enum_ranges : Statement → List (Range Signed)
+enum_ranges (statement.EnumReserved r) = ranges_of r.list
+enum_ranges _ = []
+
+-- the tokens of reserved names, of a message or of an enum
+abbrev pub reserved_names : Statement → List ℕ
+reserved_names (statement.Reserved r) = names_of r.list
+reserved_names (statement.EnumReserved r) = names_of r.list
+reserved_names _ = []
+
+abbrev pub reserved_names_in : Tree → List ℕ
+reserved_names_in tree = flat_map reserved_names (statements tree)
+
+-- the word `extensions` of each such statement
+abbrev pub extension_words : Statement → List ℕ
+extension_words (statement.Extensions e) = e.keyword ∷ []
+extension_words _ = []
+
+-- ---- values of an enum
+
+abbrev pub statement_values : Statement → List Value
+statement_values (statement.Value v) = v ∷ []
+statement_values _ = []
+
+abbrev pub values_in : Tree → List Value
+values_in tree = flat_map statement_values (statements tree)
+
+-- ---- the syntax of a file
+
+-- the token of the string of a syntax statement
+abbrev pub syntax_texts : Statement → List ℕ
+syntax_texts (statement.Syntax s) = s.text ∷ []
+syntax_texts _ = []
+
+abbrev pub syntax_texts_in : Tree → List ℕ
+syntax_texts_in tree = flat_map syntax_texts (statements tree)
+
+-- ---- blocks
+
+pub record BlockOf : Type 0 where
+  pub header : Header
+  pub within : Tree
+
+-- the blocks of a tree, each before those in it
+abbrev pub blocks_in : Tree → List BlockOf
+blocks_in End = []
+blocks_in (Leaf s rest) = blocks_in rest
+blocks_in (Block h opens within closes rest) = record { header = h; within = within } ∷ (blocks_in within ++ blocks_in rest)

@@ -1,0 +1,94 @@
+-- What is read of a file: the texts of its tokens, the values of its strings, its numbers, its version, and what its references mean.
+use Rattle.std.specs.Prelude.{ℕ, ℤ, pos, Bool, false, List, [], find, Option, Some, None, codes, ◌==◌, min, slice_get}
+use Rattle.std.specs.List.{list_any}
+use Rattle.std.specs.Option.{option_and_then}
+use Rattle.std.specs.Str.{bytes_eq}
+use Rattle.proto_text.specs.Texts.{word_at}
+use Rattle.proto_text.specs.Values.{value_of}
+use Rattle.proto_text.specs.declared.kind.TokenKind.{TokenKind}
+use Rattle.proto_text.specs.declared.kind.TokenKind.TheVariants as token_kind
+use Rattle.proto_text.specs.Tokens.{Lexeme}
+use Rattle.proto_tree.specs.declared.tree.Signed.{Signed}
+use Rattle.proto_tree.specs.declared.tree.Reference.{Reference}
+use Rattle.proto_tree.specs.declared.piece.Statement.{Statement}
+use Rattle.proto_tree.specs.declared.piece.Statement.TheVariants as statement
+use Rattle.proto_tree.specs.Tree.{Tree}
+use Rattle.proto_names.specs.FromTree.{first_of}
+use Rattle.proto_parts.specs.Numbers.{number_of, signed_by}
+use Rattle.proto_parts.specs.Parts.{statements}
+
+-- what is read of an enum: whether its file is proto3, whether it has a first value that is not 0, and the names of its values
+pub record EnumOf : Type 0 where
+  pub is_proto3 : Bool
+  pub starts_past_zero : Bool
+  pub values : List (List ℕ)
+
+-- what a reference means, by its first token: a full name, joined by dots, and the enum of that name, if it is one
+pub record MeantOf : Type 0 where
+  pub token : ℕ
+  pub name : List ℕ
+  pub enum : Option EnumOf
+
+-- A file as it is read. Where there is a cap, a number past it counts as the cap.
+pub record Scene : Type 0 where
+  pub lexemes : List Lexeme
+  pub cap : Option ℕ
+  pub is_proto3 : Bool
+  pub means : List MeantOf
+
+-- the text of the token with an index
+abbrev pub text : Scene → ℕ → List ℕ
+text scene token = word_at scene.lexemes token
+
+abbrev pub value_or_none : TokenKind → Option (List ℕ) → List ℕ
+value_or_none token_kind.Text (Some v) = v
+value_or_none token_kind.Text None = []
+value_or_none token_kind.Word v = []
+value_or_none token_kind.Number v = []
+value_or_none token_kind.Punctuation v = []
+
+-- the value of a string token; nothing for another token
+abbrev pub string_of : Option Lexeme → List ℕ
+string_of None = []
+string_of (Some l) = value_or_none l.kind (value_of l.text)
+
+abbrev pub value_in : List Lexeme → ℕ → List ℕ
+value_in lexemes token = string_of (slice_get lexemes token)
+
+abbrev pub value : Scene → ℕ → List ℕ
+value scene token = value_in scene.lexemes token
+
+abbrev pub up_to : Option ℕ → ℕ → ℕ
+up_to None n = n
+up_to (Some cap) n = min cap n
+
+-- what the text of a number token stands for
+abbrev pub number : Scene → List ℕ → ℕ
+number scene w = up_to scene.cap (number_of w)
+
+-- ---- what a scene says
+
+-- a number token, and a number with its sign
+abbrev pub number_at : Scene → ℕ → ℤ
+number_at scene token = pos (number scene (text scene token))
+
+abbrev pub signed_at : Scene → Signed → ℤ
+signed_at scene s = signed_by (number scene) (text scene) s
+
+-- what the reference means
+abbrev pub meant_by : Scene → Reference → Option MeantOf
+meant_by scene r = find (λ m. m.token == first_of r.dot r.words) scene.means
+
+-- the enum that it means, if it means one
+abbrev pub enum_meant : Scene → Reference → Option EnumOf
+enum_meant scene r = option_and_then (λ m. m.enum) (meant_by scene r)
+
+-- ---- the version of a file
+
+abbrev pub is_proto3_statement : (ℕ → List ℕ) → Statement → Bool
+is_proto3_statement value (statement.Syntax s) = bytes_eq (value s.text) (codes "proto3")
+is_proto3_statement value _ = false
+
+-- a file without a syntax statement is proto2
+abbrev pub is_proto3 : (ℕ → List ℕ) → Tree → Bool
+is_proto3 value tree = list_any (is_proto3_statement value) (statements tree)

@@ -1,0 +1,146 @@
+//! The fields of messages, with their options.
+
+ghost use Rattle.std.specs.Prelude.{◌≡◌, ◌≤◌, ◌++◌, Some, map, flat_map, option_map, IfOk, OnOk};
+ghost use Rattle.proto_tree.specs.File.{field_tree, member_tree, trees};
+ghost use Rattle.proto_parts.specs.Parts.{fields_from, fields_in, map_field, oneof_count, option_of_setting, plain_field, separated, settings_of, statement_fields, statements};
+ghost use Rattle.proto_parts.specs.Views.{field_of, option_of};
+
+use proto_tree::{Constant, Field, FieldType, MapField, Member, Separated, Setting, Settings};
+use std::alloc::{AllocError, Global};
+
+/// An option: the token of its name, and its value.
+#[derive(Clone, Copy)]
+pub struct OptionAt<'a> {
+    pub name: u32,
+    pub value: &'a Constant,
+}
+
+/// A field: plain, of a oneof (by its place among the message's oneofs, from 0), or of a map (by the token of its
+/// key's type). The kind of a map field is that of its values.
+#[derive(Clone, Copy)]
+pub struct FieldAt<'a> {
+    pub label: Option<u32>,
+    pub map_key: Option<u32>,
+    pub oneof: Option<usize>,
+    pub kind: &'a FieldType,
+    pub name: u32,
+    pub number: u32,
+    pub settings: Option<&'a Settings>,
+}
+
+fn option_at(setting: &Setting) -> OptionAt<'_>
+    ensures { option_of result ≡ option_of_setting setting.now }
+{
+    OptionAt {
+        name: setting.name,
+        value: &setting.value,
+    }
+}
+
+fn options_listed<'a>(
+    alloc: Global,
+    list: &'a Separated<Setting>,
+) -> Result<Vec<OptionAt<'a>>, AllocError>
+    ensures { IfOk result (λ options. map option_of options.items ≡ map option_of_setting (separated list.now)) }
+{
+    let mut options = Vec::new(alloc);
+    options.push(option_at(&list.first))?;
+    for behind in list.rest.as_slice() {
+        options.push(option_at(&behind.item))?;
+    }
+    Ok(options)
+}
+
+/// The options between brackets, in order.
+pub fn options_between<'a>(
+    alloc: Global,
+    settings: Option<&'a Settings>,
+) -> Result<Vec<OptionAt<'a>>, AllocError>
+    ensures { IfOk result (λ options. map option_of options.items ≡ settings_of (option_map (λ s. s.now) settings.entry)) }
+{
+    match settings {
+        Some(settings) => options_listed(alloc, &settings.list),
+        None => Ok(Vec::new(alloc)),
+    }
+}
+
+fn plain_field(oneof: Option<usize>, field: &Field) -> FieldAt<'_>
+    ensures { field_of result ≡ plain_field oneof field.now }
+{
+    FieldAt {
+        label: field.label,
+        map_key: None,
+        oneof,
+        kind: &field.kind,
+        name: field.name,
+        number: field.number,
+        settings: field.settings.as_ref(),
+    }
+}
+
+fn map_field(field: &MapField) -> FieldAt<'_>
+    ensures { field_of result ≡ map_field field.now }
+{
+    FieldAt {
+        label: None,
+        map_key: Some(field.key),
+        oneof: None,
+        kind: &field.value,
+        name: field.name,
+        number: field.number,
+        settings: field.settings.as_ref(),
+    }
+}
+
+fn push_oneof<'a>(
+    found: &mut Vec<FieldAt<'a>>,
+    before: usize,
+    fields: &'a [Field],
+) -> Result<(), AllocError>
+    ensures { OnOk result (map field_of found.new.items ≡ map field_of found.old.items ++ flat_map (statement_fields (Some before)) (statements (trees field_tree fields.now))) }
+{
+    for field in fields {
+        found.push(plain_field(Some(before), field))?;
+    }
+    Ok(())
+}
+
+fn push_fields<'a>(
+    found: &mut Vec<FieldAt<'a>>,
+    before: usize,
+    member: &'a Member,
+) -> Result<(), AllocError>
+    ensures { OnOk result (map field_of found.new.items ≡ map field_of found.old.items ++ fields_from before (member_tree member.now)) }
+{
+    match member {
+        Member::Field(field) => found.push(plain_field(None, field))?,
+        Member::MapField(field) => found.push(map_field(field))?,
+        Member::Oneof(oneof) => push_oneof(found, before, &oneof.members)?,
+        _ => {}
+    }
+    Ok(())
+}
+
+fn oneof_count(member: &Member) -> usize
+    ensures count { result ≡ oneof_count (member_tree member.now) }
+    ensures small { result ≤ 1 }
+{
+    match member {
+        Member::Oneof(_) => 1,
+        _ => 0,
+    }
+}
+
+/// The fields of a message, with those of its oneofs, in order.
+#[tactic(auto, using(crate::proofs::Statements::fields_joined))]
+pub fn fields_of<'a>(alloc: Global, members: &'a [Member]) -> Result<Vec<FieldAt<'a>>, AllocError>
+    ensures { IfOk result (λ fields. map field_of fields.items ≡ fields_in (trees member_tree members.now)) }
+{
+    let mut fields = Vec::new(alloc);
+    let mut oneofs = 0;
+    for member in members {
+        push_fields(&mut fields, oneofs, member)?;
+        oneofs += oneof_count(member);
+    }
+    Ok(fields)
+}

@@ -1,0 +1,25 @@
+//! The parts of a schema's tree that checks and descriptors read: fields, ranges, options, numbers, and what references mean.
+#![tactic(auto)]
+
+mod enum_values;
+mod fields;
+mod numbers;
+mod option_statements;
+mod options;
+mod ranges;
+mod reserved;
+mod scene;
+mod separated;
+mod version;
+
+pub use enum_values::values;
+pub use fields::{FieldAt, OptionAt, fields_of, options_between};
+pub use numbers::number_of;
+pub use option_statements::{
+    enum_options, file_options, message_options, method_options, service_options,
+};
+pub use options::{Element, ValueKind, value_kind};
+pub use ranges::{closed_ranges, enum_ranges, extension_ranges, extension_words, reserved_ranges};
+pub use reserved::{enum_reserved_names, reserved_names};
+pub use scene::{EnumAt, MeantAt, Scene};
+pub use version::{is_proto3, syntax_text};

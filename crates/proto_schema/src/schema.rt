@@ -1,0 +1,74 @@
+//! Files that compile, with their descriptors.
+
+ghost use Rattle.std.specs.Prelude.{◌≡◌, List, IfOk, IfErr};
+ghost use Rattle.proto_desc.specs.Checked.{AreDescribed};
+ghost use Rattle.proto_desc.specs.Views.{files_desc};
+ghost use Rattle.proto_files.specs.Faults.{HasNoFault};
+ghost use Rattle.proto_files.specs.GivenFiles.{files_of};
+ghost use Rattle.proto_names.specs.Links.{ReadOf, AreRead};
+ghost use Rattle.proto_schema.specs.Answers.{IsOpenError};
+ghost use Rattle.proto_schema.specs.Whole.{FileFaults, WorkspaceFaults, IsSortedOf};
+
+use crate::fault::OpenFault;
+use proto_desc::{Descriptors, check};
+use proto_files::{Files, Paths};
+use proto_names::{Link, are_read};
+use std::alloc::Global;
+use std::marker::Model;
+
+/// Schemas that compile: at most 4,096 files in the order of their paths, with their descriptors.
+#[derive(Drop)]
+pub struct Schema {
+    files: Files,
+    descriptors: Descriptors,
+}
+
+impl Model for Schema {
+    ghost use Rattle.std.specs.Prelude.{List};
+    ghost use Rattle.proto_files.specs.GivenFiles.{FileOf};
+
+    ghost Value = { List FileOf };
+
+    ghost use Rattle.proto_desc.specs.Checked.{AreDescribed};
+    ghost use Rattle.proto_desc.specs.Views.{files_desc};
+    ghost use Rattle.proto_files.specs.Faults.{HasNoFault};
+    ghost use Rattle.proto_schema.specs.Whole.{FileFaults};
+
+    ghost view = { λ s. s.files };
+
+    ghost invariant = { λ s. HasNoFault (FileFaults s.files) × AreDescribed s.files (files_desc s.descriptors) };
+}
+
+impl Schema {
+    /// The files given, in the order of their paths, where they compile; else their least fault by phase, path, offset
+    /// and number.
+    pub fn open(alloc: Global, files: Vec<(String, Vec<u8>)>) -> Result<Schema, OpenFault>
+        ensures files { IfOk result (λ s. IsSortedOf (files_of files.items) s) }
+        ensures clean { IfOk result (λ _. HasNoFault (WorkspaceFaults (files_of files.items))) }
+        ensures fault { IfErr result (λ e. IsOpenError (files_of files.items) e) }
+    {
+        let paths = Paths::new(alloc, files)?;
+        let files = Files::read(alloc, paths)?;
+        let link = Link::new(alloc, &files)?;
+        let descriptors = check(alloc, &files, &link)?;
+        Ok(Schema { files, descriptors })
+    }
+
+    /// The files, in the order of their paths.
+    pub fn files(&self) -> &Files
+        ensures files { result.now ≡ self.now }
+        ensures compiled { HasNoFault (FileFaults self.now) }
+    {
+        &self.files
+    }
+
+    /// The descriptors of the files.
+    pub fn descriptors(&self) -> &Descriptors
+        ensures described { AreDescribed self.now (files_desc result.now) }
+        // Each file has tokens and a tree, of which the descriptors are told.
+        ensures read { (reads : List ReadOf) × AreRead self.now reads }
+    {
+        are_read(&self.files);
+        &self.descriptors
+    }
+}
