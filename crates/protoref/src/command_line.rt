@@ -37,7 +37,7 @@ impl<T: Drop> From<AllocFailed<T>> for WordsFault {
 
 /// Reads the words, of which the first is the program's name. Behind the command each word is the text that it is,
 /// whatever it begins with, unless the first of them asks for help.
-pub fn read_words(alloc: Global, words: &[String]) -> Result<Request, WordsFault> {
+pub(crate) fn read_words(alloc: Global, words: &[String]) -> Result<Request, WordsFault> {
     let words = marked_words(alloc, words)?;
     match program(alloc)?.try_get_matches_from(words.as_slice()) {
         Ok(matches) => request_of(alloc, &matches),
