@@ -41,10 +41,6 @@ abbrev pub enum_of_type : Scene → FieldType → Option EnumOf
 enum_of_type scene (field_type.Scalar t) = None
 enum_of_type scene (field_type.Reference r) = enum_meant scene r
 
-abbrev pub scalar_of_type : Scene → FieldType → Option (List ℕ)
-scalar_of_type scene (field_type.Scalar t) = Some (text scene t)
-scalar_of_type scene (field_type.Reference r) = None
-
 -- ---- labels
 
 abbrev pub is_label : Scene → List ℕ → Option ℕ → Bool

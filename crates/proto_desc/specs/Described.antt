@@ -1,7 +1,6 @@
 -- The descriptor of a file that is linked, from its tree and what is read of it: fields, enums, messages, services and the file itself.
-use Rattle.std.specs.Prelude.{ℕ, suc, ◌+◌, nat_le, ℤ, pos, negsuc, int_le, nat_abs, ◌^◌, ◌-◌, Bool, true, false, ◌&&◌, ◌||◌, if◌then◌else◌, List, [], ◌∷◌, ◌++◌, map, flat_map, find, Option, Some, None, option_map, is_some, codes}
+use Rattle.std.specs.Prelude.{ℕ, suc, ◌+◌, ℤ, pos, negsuc, nat_abs, ◌^◌, ◌-◌, Bool, true, false, ◌&&◌, ◌||◌, if◌then◌else◌, List, [], ◌∷◌, ◌++◌, map, flat_map, Option, Some, None, option_map, is_some, codes}
 use Rattle.std.specs.Fmt.{signed_decimal}
-use Rattle.std.specs.Option.{option_and_then}
 use Rattle.std.specs.Str.{bytes_eq}
 use Rattle.proto_tree.specs.declared.tree.Constant.{Constant}
 use Rattle.proto_tree.specs.declared.tree.Constant.TheVariants as constant
@@ -11,25 +10,22 @@ use Rattle.proto_tree.specs.declared.tree.MapField.{MapField}
 use Rattle.proto_tree.specs.declared.tree.Reference.{Reference}
 use Rattle.proto_tree.specs.declared.tree.Signature.{Signature}
 use Rattle.proto_tree.specs.declared.tree.Value.{Value}
-use Rattle.proto_tree.specs.declared.piece.Statement.{Statement}
 use Rattle.proto_tree.specs.declared.piece.Statement.TheVariants as statement
-use Rattle.proto_tree.specs.declared.piece.Header.{Header}
 use Rattle.proto_tree.specs.declared.piece.Header.TheVariants as header
 use Rattle.proto_tree.specs.Tree.{Tree, End, Leaf, Block}
 use Rattle.proto_names.specs.EntryNames.{entry_name}
 use Rattle.proto_names.specs.FromTree.{Wanted, imports_in, items_in}
 use Rattle.proto_names.specs.Joined.{joined}
 use Rattle.proto_names.specs.Tree.{package_of, key_word, value_word}
-use Rattle.proto_parts.specs.Options.{is_one_of, text_of, truth_option, word_option, text_option, value_named}
+use Rattle.proto_parts.specs.Options.{truth_option, word_option, text_option, value_named}
 use Rattle.proto_parts.specs.Parts.{FieldOf, OptionOf, statements, fields_in, values_in, reserved_ranges, extension_ranges, enum_ranges, reserved_names_in, options_in, settings_of}
 use Rattle.proto_parts.specs.Scenes.{Scene, text, value, number, number_at, signed_at, meant_by, enum_meant}
 use Rattle.proto_checks.specs.FieldFlaws.{has_label}
-use Rattle.proto_checks.specs.FileFlaws.{json_name_of, json_word}
+use Rattle.proto_checks.specs.FileFlaws.{json_name_of}
 use Rattle.proto_checks.specs.NumberFlaws.{is_within, most_field, most_value, least_value, range_of, enum_range_of}
 use Rattle.proto_checks.specs.declared.numbers.RangeAt.{RangeAt}
 use Rattle.proto_desc.specs.declared.enumeration.EnumOptions.{EnumOptions}
 use Rattle.proto_desc.specs.declared.enumeration.EnumReservedRange.{EnumReservedRange}
-use Rattle.proto_desc.specs.declared.enumeration.EnumValueOptions.{EnumValueOptions}
 use Rattle.proto_desc.specs.declared.field.FieldOptions.{FieldOptions}
 use Rattle.proto_desc.specs.declared.field.FieldType.{FieldType}
 use Rattle.proto_desc.specs.declared.field.FieldType.TheVariants as field_type
@@ -43,7 +39,6 @@ use Rattle.proto_desc.specs.declared.message.NumberRange.{NumberRange}
 use Rattle.proto_desc.specs.declared.service.IdempotencyLevel.{IdempotencyLevel}
 use Rattle.proto_desc.specs.declared.service.IdempotencyLevel.TheVariants as idempotency_level
 use Rattle.proto_desc.specs.declared.service.MethodOptions.{MethodOptions}
-use Rattle.proto_desc.specs.declared.service.ServiceOptions.{ServiceOptions}
 use Rattle.proto_desc.specs.Descriptors.{FieldDesc, EnumValueDesc, EnumDesc, MessageDesc, Messages, NoMessages, Message, MethodDesc, ServiceDesc, FileOptionsDesc, FileDesc}
 
 -- ---- numbers (a file has a descriptor only where all of them are in their limits: of another number nothing is said)
