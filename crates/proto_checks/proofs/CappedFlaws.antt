@@ -1,5 +1,5 @@
 -- The flaws of a file with one cap and another: the least is the same.
-use Rattle.std.proofs.Common.{◌≡◌, ℕ, ◌<◌, ◌^◌, ◌-◌, ℤ, pos, negsuc, int_le, Bool, true, false, not, ◌&&◌, if◌then◌else◌, List, [], ◌∷◌, ◌++◌, map, flat_map, find, Option, Some, None, is_none, codes, refl, sym, ◌∙◌, ap, arith}
+use Rattle.std.proofs.Common.{◌≡◌, ℕ, ◌<◌, ◌^◌, ◌-◌, ℤ, pos, negsuc, Bool, true, false, not, ◌&&◌, if◌then◌else◌, List, [], ◌∷◌, ◌++◌, map, flat_map, find, Option, Some, None, is_none, codes, refl, sym, ◌∙◌, ap, arith}
 use Rattle.std.specs.List.{Contains}
 use Rattle.std.proofs.lemmas.List.Elements.{Contains-append_left, Contains-append_right}
 use Rattle.proto_files.specs.declared.fault.FaultKind.{FaultKind}
@@ -23,7 +23,7 @@ use Rattle.proto_checks.specs.declared.flaw.Flaw.{Flaw}
 use Rattle.proto_checks.specs.Capped.{uncapped, CapsKeepTheLeast}
 use Rattle.proto_checks.specs.Flaws.{flaw, flaw_if, marked}
 use Rattle.proto_checks.specs.NumberFlaws.{first_of_signed, number_of_field, number_of_value, range_of, enum_range_of, most_field, least_value, most_value, is_within, is_field_number, is_value_number, outside, is_sound_range, broken_ranges, reserved_numbers, overlaps, repeated_numbers, end_of}
-use Rattle.proto_checks.specs.FieldFlaws.{type_token, lacks_label, required_flaws, map_key_flaws, starts_wrong, has_closed_enum, option_flaws, packed_flaws, default_flaws, proto3_defaults, wrong_default, type_flaws, has_label, is_default_of, is_scalar_default, holds_number, signed_32, signed_64, unsigned_32, unsigned_64, field_flaws}
+use Rattle.proto_checks.specs.FieldFlaws.{option_flaws, packed_flaws, default_flaws, proto3_defaults, wrong_default, type_flaws, has_label, is_default_of, is_scalar_default, holds_number, signed_32, signed_64, unsigned_32, unsigned_64, field_flaws}
 use Rattle.proto_checks.specs.FileFlaws.{name_flaws, json_clashes, field_number_flaws, extension_flaws, message_flaws, allows_alias, alias_flaws, first_value_flaws, value_number_flaws, value_option_flaws, is_empty, enum_flaws, block_flaws, file_flaws}
 use Rattle.proto_checks.proofs.CappedNumbers.{Alike, AlikeCaps, equal_alike, within_alike, caps_back, past_or_none, capped, alike_at, alike_signed, alike_end, field_limit, value_limit}
 use Rattle.proto_checks.proofs.CappedCovers.{Beneath, Covered, covered_equal, covered_join, covered_more, covered_unless, covered_flat, least_kept}

@@ -1,5 +1,5 @@
 -- Each flaw of a file stands at a token that is there.
-use Rattle.std.proofs.Common.{◌≡◌, ℕ, suc, ◌+◌, ◌<◌, ◌≤◌, Bool, true, false, not, ◌&&◌, List, [], ◌∷◌, ◌++◌, cond, length, map, Option, Some, None, refl, ap, subst, ◌∙◌, arith}
+use Rattle.std.proofs.Common.{ℕ, suc, ◌+◌, ◌<◌, ◌≤◌, Bool, true, false, not, ◌&&◌, List, [], ◌∷◌, ◌++◌, cond, length, map, Option, Some, None, arith}
 use Rattle.std.specs.Prelude.{if◌then◌else◌, ℤ, pos, codes}
 use Rattle.std.specs.List.{AllByRecursion, Contains, flat_map, find, list_any}
 use Rattle.std.specs.Ordering.{int_eq}
@@ -9,7 +9,6 @@ use Rattle.proto_files.specs.declared.fault.FaultKind.{FaultKind}
 use Rattle.proto_files.specs.declared.fault.FaultKind.TheVariants as kind
 use Rattle.proto_text.specs.declared.lexer.Token.{Token}
 use Rattle.proto_text.specs.Tokens.{lexeme_at}
-use Rattle.proto_text.proofs.OneEdit.{length_map}
 use Rattle.proto_tree.specs.declared.class.Class.{Class}
 use Rattle.proto_tree.specs.declared.class.Class.TheVariants as class
 use Rattle.proto_tree.specs.declared.class.Want.TheVariants as want
@@ -19,7 +18,6 @@ use Rattle.proto_tree.specs.declared.piece.Statement.{Statement}
 use Rattle.proto_tree.specs.declared.piece.Statement.TheVariants as statement
 use Rattle.proto_tree.specs.declared.tree.Behind.{Behind}
 use Rattle.proto_tree.specs.declared.tree.Separated.{Separated}
-use Rattle.proto_tree.specs.declared.tree.Reference.{Reference}
 use Rattle.proto_tree.specs.declared.tree.FieldType.{FieldType}
 use Rattle.proto_tree.specs.declared.tree.FieldType.TheVariants as field_type
 use Rattle.proto_tree.specs.declared.tree.Field.{Field}
@@ -27,18 +25,17 @@ use Rattle.proto_tree.specs.declared.tree.MapField.{MapField}
 use Rattle.proto_tree.specs.declared.tree.Range.{Range}
 use Rattle.proto_tree.specs.declared.tree.ReservedList.{ReservedList}
 use Rattle.proto_tree.specs.declared.tree.ReservedList.TheVariants as reserved_list
-use Rattle.proto_tree.specs.declared.tree.Setting.{Setting}
 use Rattle.proto_tree.specs.declared.tree.Settings.{Settings}
 use Rattle.proto_tree.specs.declared.tree.Signed.{Signed}
 use Rattle.proto_tree.specs.declared.tree.Value.{Value}
-use Rattle.proto_tree.specs.Flat.{Mark, Fit, flat_all, flat_behind, flat_constant, flat_header, flat_number, flat_option, flat_range, flat_reserved_list, flat_separated, flat_setting, flat_settings, flat_signed, flat_statement, flat_type, flat_up_to, flat_value, one as one_mark, only, text as text_mark, word}
+use Rattle.proto_tree.specs.Flat.{Mark, flat_all, flat_behind, flat_header, flat_number, flat_option, flat_range, flat_reserved_list, flat_separated, flat_setting, flat_settings, flat_signed, flat_statement, flat_type, flat_up_to, flat_value, one as one_mark, only, text as text_mark, word}
 use Rattle.proto_tree.specs.Laws.{Numbered}
 use Rattle.proto_tree.specs.Reads.{Reads}
 use Rattle.proto_tree.specs.Tree.{Tree, End, Leaf, Block, flat}
 use Rattle.proto_tree.proofs.MarkLaws.{trees_are_numbered}
 use Rattle.proto_names.proofs.InTokens.{as_long}
 use Rattle.proto_parts.specs.Options.{is_allowed, is_named}
-use Rattle.proto_parts.specs.Parts.{FieldOf, OptionOf, BlockOf, blocks_in, closed_ranges, enum_ranges, extension_ranges, extension_words, fields_from, fields_in, map_field, names_of, option_of_setting, options_in, plain_field, ranges_of, reserved_names, reserved_names_in, reserved_ranges, separated, settings_of, statement_fields, statement_options, statement_values, statements, values_in}
+use Rattle.proto_parts.specs.Parts.{FieldOf, OptionOf, BlockOf, blocks_in, closed_ranges, enum_ranges, extension_words, fields_from, fields_in, map_field, names_of, option_of_setting, options_in, plain_field, ranges_of, reserved_names, reserved_names_in, separated, settings_of, statement_fields, statement_options, statement_values, statements, values_in}
 use Rattle.proto_parts.specs.Scenes.{Scene, text, value}
 use Rattle.proto_parts.specs.declared.options.Element.{Element}
 use Rattle.proto_parts.specs.declared.options.Element.TheVariants as element

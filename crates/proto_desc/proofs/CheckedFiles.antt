@@ -17,10 +17,10 @@ use Rattle.proto_desc.specs.CheckSteps.{IsFaultOf, IsFileError, IsSceneOf}
 use Rattle.proto_desc.specs.declared.check_fault.CheckFault.{CheckFault}
 use Rattle.proto_desc.specs.declared.check_fault.CheckFault.TheVariants.{Schema, NoMemory}
 use Rattle.proto_desc.specs.Described.{file_described}
-use Rattle.proto_desc.specs.Descriptors.{FileDesc}
+use Rattle.proto_json.specs.Descriptors.{FileDesc}
 use Rattle.proto_desc.specs.SceneOf.{scene_of}
-use Rattle.proto_desc.specs.Views.{file_desc}
-use Rattle.proto_desc.specs.declared.file.FileDescriptor.{FileDescriptor}
+use Rattle.proto_json.specs.Views.{file_desc}
+use Rattle.proto_json.specs.declared.file.FileDescriptor.{FileDescriptor}
 
 -- the descriptor of the file with this number, by its tree
 abbrev pub described_at : List FileOf → List ReadOf → ℕ → Tree → FileDesc

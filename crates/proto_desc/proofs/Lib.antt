@@ -4,10 +4,5 @@ pub mod EnumRows
 pub mod EnumTrees
 pub mod LeastCheckFault
 pub mod Levels
-pub mod Mapped
 pub mod MeantEnums
-pub mod Nesting
-pub mod Objects
-pub mod Quoting
 pub mod ReadScenes
-pub mod Slots

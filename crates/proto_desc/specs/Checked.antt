@@ -9,7 +9,7 @@ use Rattle.proto_names.specs.Links.{ReadOf, AreRead, read_at}
 use Rattle.proto_checks.specs.FileFlaws.{file_flaws}
 use Rattle.proto_checks.specs.declared.flaw.Flaw.{Flaw}
 use Rattle.proto_desc.specs.Described.{file_described}
-use Rattle.proto_desc.specs.Descriptors.{FileDesc}
+use Rattle.proto_json.specs.Descriptors.{FileDesc}
 use Rattle.proto_desc.specs.SceneOf.{scene_of}
 use Rattle.proto_desc.specs.declared.check_fault.CheckFault.{CheckFault}
 use Rattle.proto_desc.specs.declared.check_fault.CheckFault.TheVariants.{Schema, NoMemory}

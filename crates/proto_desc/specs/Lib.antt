@@ -2,13 +2,6 @@ pub mod Capped
 pub mod CheckSteps
 pub mod Checked
 pub mod Described
-pub mod DescriptorText
-pub mod Descriptors
 pub mod Enums
-pub mod JsonText
-pub mod KeyOrder
 pub mod Meanings
-pub mod Members
-pub mod MessageText
 pub mod SceneOf
-pub mod Views

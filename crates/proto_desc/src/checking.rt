@@ -12,16 +12,16 @@ ghost use Rattle.proto_checks.specs.Flaws.{IsLeast};
 ghost use Rattle.proto_desc.specs.Checked.{AreDescribed, CheckFaults, IsCheckError};
 ghost use Rattle.proto_desc.specs.CheckSteps.{AreScenes, HasNoFlaw, IsFaultOf, IsFileError, IsSceneOf};
 ghost use Rattle.proto_desc.specs.Enums.{IsEnumTable};
-ghost use Rattle.proto_desc.specs.Views.{file_desc, files_desc};
+ghost use Rattle.proto_json.specs.Views.{file_desc, files_desc};
 
 use crate::check_fault::CheckFault;
 use crate::described_file::file_descriptor;
 use crate::enum_table::{EnumRow, enum_table};
-use crate::file::{Descriptors, FileDescriptor};
 use crate::scenes::scenes;
 use indexmap::IndexMap;
 use proto_checks::{Flaw, file_flaws, least};
 use proto_files::{Fault, Files};
+use proto_json::{Descriptors, FileDescriptor};
 use proto_names::{Link, are_read};
 use proto_parts::Scene;
 use proto_text::Token;

@@ -3,12 +3,13 @@
 ghost use Rattle.std.specs.Prelude.{◌≡◌, map, option_map, IfOk};
 ghost use Rattle.std.specs.String.{string_bytes};
 ghost use Rattle.proto_desc.specs.Described.{entry_field, entry_described};
-ghost use Rattle.proto_desc.specs.Descriptors.{NoMessages};
-ghost use Rattle.proto_desc.specs.Views.{field_desc, message_tree};
+ghost use Rattle.proto_json.specs.Descriptors.{NoMessages};
+ghost use Rattle.proto_json.specs.Views.{field_desc, message_tree};
 
 use crate::described_type::{scalar_type, type_name, type_of};
-use crate::field::{FieldDescriptor, FieldOptions, FieldType, Label};
-use crate::message::{MessageDescriptor, MessageOptions};
+use proto_json::{
+    FieldDescriptor, FieldOptions, FieldType, Label, MessageDescriptor, MessageOptions,
+};
 use proto_names::entry_name::entry_name;
 use proto_parts::Scene;
 use proto_tree::MapField;

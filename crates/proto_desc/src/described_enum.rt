@@ -5,15 +5,15 @@ ghost use Rattle.proto_tree.specs.File.{enum_item_tree, trees};
 ghost use Rattle.proto_parts.specs.Views.{option_of};
 ghost use Rattle.proto_checks.specs.NumberFlaws.{enum_range_of};
 ghost use Rattle.proto_desc.specs.Described.{value_described, value_range, enum_options, enum_described};
-ghost use Rattle.proto_desc.specs.Views.{enum_value_desc, enum_desc};
+ghost use Rattle.proto_json.specs.Views.{enum_value_desc, enum_desc};
 
 use crate::described_names::strings;
 use crate::described_numbers::{value_number, value_range};
 use crate::described_options::truth_option;
-use crate::enumeration::{
+use proto_checks::value_ranges;
+use proto_json::{
     EnumDescriptor, EnumOptions, EnumReservedRange, EnumValueDescriptor, EnumValueOptions,
 };
-use proto_checks::value_ranges;
 use proto_parts::{OptionAt, Scene, enum_ranges, enum_reserved_names, options_between, values};
 use proto_tree::{Enum, Range, Signed, Value};
 use std::alloc::{AllocError, Global};

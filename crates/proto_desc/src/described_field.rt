@@ -7,14 +7,14 @@ ghost use Rattle.proto_parts.specs.Scenes.{text};
 ghost use Rattle.proto_parts.specs.Views.{field_of, option_of};
 ghost use Rattle.proto_checks.specs.FieldFlaws.{has_label};
 ghost use Rattle.proto_desc.specs.Described.{label_of, field_type_of, field_type_name, default_text, field_options, field_described};
-ghost use Rattle.proto_desc.specs.Views.{field_desc};
+ghost use Rattle.proto_json.specs.Views.{field_desc};
 
 use crate::described_names::below;
 use crate::described_numbers::{default_number, field_number};
 use crate::described_options::truth_option;
 use crate::described_type::{type_name, type_of};
-use crate::field::{FieldDescriptor, FieldOptions, FieldType, Label};
 use proto_checks::{json_name, option_named, text_value};
+use proto_json::{FieldDescriptor, FieldOptions, FieldType, Label};
 use proto_names::entry_name::entry_name;
 use proto_parts::{FieldAt, OptionAt, Scene, options_between};
 use proto_tree::Constant;

@@ -9,19 +9,19 @@ ghost use Rattle.proto_names.specs.Tree.{package_of};
 ghost use Rattle.proto_parts.specs.Parts.{options_in};
 ghost use Rattle.proto_parts.specs.Scenes.{text, value};
 ghost use Rattle.proto_parts.specs.Views.{option_of};
-ghost use Rattle.proto_desc.specs.declared.file.Syntax.TheVariants as syntax;
+ghost use Rattle.proto_json.specs.declared.file.Syntax.TheVariants as syntax;
 ghost use Rattle.proto_desc.specs.Described.{enums_described, file_described, file_options, messages_described, mode_named, package_named, package_prefix, public_places, services_described};
-ghost use Rattle.proto_desc.specs.Views.{enum_desc, file_desc, file_options_desc, messages_desc, service_desc};
+ghost use Rattle.proto_json.specs.Views.{enum_desc, file_desc, file_options_desc, messages_desc, service_desc};
 
 use crate::described_enum::enum_descriptor;
 use crate::described_message::message_descriptor;
 use crate::described_names::absolute;
 use crate::described_options::{text_option, truth_option, word_option};
 use crate::described_service::service_descriptor;
-use crate::enumeration::EnumDescriptor;
-use crate::file::{FileDescriptor, FileOptions, OptimizeMode, Syntax};
-use crate::message::MessageDescriptor;
-use crate::service::ServiceDescriptor;
+use proto_json::{
+    EnumDescriptor, FileDescriptor, FileOptions, MessageDescriptor, OptimizeMode,
+    ServiceDescriptor, Syntax,
+};
 use proto_names::wanted::{Wanted, imports, package};
 use proto_parts::{OptionAt, Scene, file_options};
 use proto_tree::{File, Item};

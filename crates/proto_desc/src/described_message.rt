@@ -6,7 +6,7 @@ ghost use Rattle.proto_tree.specs.File.{message_tree as written_message};
 ghost use Rattle.proto_parts.specs.Parts.{extension_ranges, fields_in, options_in, reserved_ranges, statements};
 ghost use Rattle.proto_checks.specs.NumberFlaws.{range_of};
 ghost use Rattle.proto_desc.specs.Described.{enums_described, field_described, message_described, message_options, messages_described, number_range, oneof_names};
-ghost use Rattle.proto_desc.specs.Views.{enum_desc, field_desc, message_tree, messages_desc, oneof_desc};
+ghost use Rattle.proto_json.specs.Views.{enum_desc, field_desc, message_tree, messages_desc, oneof_desc};
 
 use crate::described_entry::entry_descriptor;
 use crate::described_enum::enum_descriptor;
@@ -14,10 +14,11 @@ use crate::described_field::field_descriptor;
 use crate::described_names::{below, strings};
 use crate::described_numbers::number_range;
 use crate::described_options::truth_option;
-use crate::enumeration::EnumDescriptor;
-use crate::field::FieldDescriptor;
-use crate::message::{MessageDescriptor, MessageOptions, NumberRange, OneofDescriptor};
 use proto_checks::field_ranges;
+use proto_json::{
+    EnumDescriptor, FieldDescriptor, MessageDescriptor, MessageOptions, NumberRange,
+    OneofDescriptor,
+};
 use proto_parts::{
     Scene, extension_ranges, fields_of, message_options, reserved_names, reserved_ranges,
 };

@@ -3,9 +3,8 @@
 ghost use Rattle.std.specs.Prelude.{◌≡◌, ◌≤◌};
 ghost use Rattle.proto_desc.specs.Described.{field_number, value_number, default_number, number_range, value_range};
 
-use crate::enumeration::EnumReservedRange;
-use crate::message::NumberRange;
 use proto_checks::RangeAt;
+use proto_json::{EnumReservedRange, NumberRange};
 
 const MOST_FIELD: i128 = 536_870_911;
 

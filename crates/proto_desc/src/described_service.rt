@@ -5,11 +5,11 @@ ghost use Rattle.proto_tree.specs.File.{method_tree, service_item_tree, trees};
 ghost use Rattle.proto_parts.specs.Parts.{options_in};
 ghost use Rattle.proto_parts.specs.Views.{option_of};
 ghost use Rattle.proto_desc.specs.Described.{level_named, method_described, method_options, methods_described, service_described};
-ghost use Rattle.proto_desc.specs.Views.{method_desc, service_desc};
+ghost use Rattle.proto_json.specs.Views.{method_desc, service_desc};
 
 use crate::described_names::type_text;
 use crate::described_options::{truth_option, word_option};
-use crate::service::{
+use proto_json::{
     IdempotencyLevel, MethodDescriptor, MethodOptions, ServiceDescriptor, ServiceOptions,
 };
 use proto_parts::{OptionAt, Scene, method_options, service_options};

@@ -6,7 +6,7 @@ ghost use Rattle.proto_parts.specs.Scenes.{meant_by};
 ghost use Rattle.proto_desc.specs.Described.{scalar_type, type_of, absolute, type_name_of};
 
 use crate::described_names::absolute;
-use crate::field::FieldType;
+use proto_json::FieldType;
 use proto_parts::Scene;
 use proto_tree::{FieldType as WrittenType, Reference};
 use std::alloc::{AllocError, Global};

@@ -1,4 +1,4 @@
-//! Descriptors of compiled schemas, with the field names of descriptor.proto, and their JSON text.
+//! The checks of linked files, and the descriptors of those that pass them.
 #![tactic(auto)]
 
 mod check_fault;
@@ -15,30 +15,15 @@ mod described_service;
 mod described_type;
 mod enum_blocks;
 mod enum_table;
-mod enumeration;
-mod field;
-mod file;
-mod items;
-mod json_value;
-mod key_order;
 pub mod laws;
-mod message;
-mod object;
 mod scenes;
-mod service;
-#[cfg(test)]
-mod tests;
-mod values;
 
 pub use check_fault::CheckFault;
 pub use checking::check;
-pub use enumeration::{
-    EnumDescriptor, EnumOptions, EnumReservedRange, EnumValueDescriptor, EnumValueOptions,
-};
-pub use field::{FieldDescriptor, FieldOptions, FieldType, Label};
-pub use file::{Descriptors, FileDescriptor, FileOptions, OptimizeMode, Syntax, to_json};
-pub use key_order::keys_rise;
-pub use message::{MessageDescriptor, MessageOptions, NumberRange, OneofDescriptor};
-pub use service::{
-    IdempotencyLevel, MethodDescriptor, MethodOptions, ServiceDescriptor, ServiceOptions,
+pub use proto_json::{
+    Descriptors, EnumDescriptor, EnumOptions, EnumReservedRange, EnumValueDescriptor,
+    EnumValueOptions, FieldDescriptor, FieldOptions, FieldType, FileDescriptor, FileOptions,
+    IdempotencyLevel, Label, MessageDescriptor, MessageOptions, MethodDescriptor, MethodOptions,
+    NumberRange, OneofDescriptor, OptimizeMode, ServiceDescriptor, ServiceOptions, Syntax,
+    keys_rise, to_json,
 };

@@ -4,7 +4,7 @@ use Rattle.proto_names.specs.Links.{read_at}
 use Rattle.proto_names.proofs.EachFile.{each_pushed}
 use Rattle.proto_desc.specs.CheckSteps.{IsSceneOf}
 use Rattle.proto_desc.specs.Described.{file_described}
-use Rattle.proto_desc.specs.Views.{file_desc}
+use Rattle.proto_json.specs.Views.{file_desc}
 use Rattle.proto_desc.proofs.CheckedFiles.{all_described, described_at, described_of_file}
 use Rattle.proto_desc.proofs.checking.descriptors.Goals as goal
 

@@ -3,7 +3,7 @@ use Rattle.proto_files.specs.GivenFiles.{file_at}
 use Rattle.proto_names.specs.Links.{Each, ReadOf, AreRead, read_at}
 use Rattle.proto_desc.specs.Described.{file_described}
 use Rattle.proto_desc.specs.SceneOf.{scene_of}
-use Rattle.proto_desc.specs.Views.{file_desc}
+use Rattle.proto_json.specs.Views.{file_desc}
 use Rattle.std.specs.Prelude.{None}
 use Rattle.proto_desc.proofs.checking.descriptors.Given as goal
 

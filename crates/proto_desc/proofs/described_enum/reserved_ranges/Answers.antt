@@ -4,7 +4,7 @@ use Rattle.proto_tree.specs.declared.tree.Range.{Range}
 use Rattle.proto_tree.specs.declared.tree.Signed.{Signed}
 use Rattle.proto_checks.specs.NumberFlaws.{enum_range_of}
 use Rattle.proto_desc.specs.Described.{value_range}
-use Rattle.proto_desc.proofs.Mapped.{map_both}
+use Rattle.proto_json.proofs.Mapped.{map_both}
 use Rattle.proto_desc.proofs.described_enum.reserved_ranges.Goals as goal
 
 pub returns : goal.returns

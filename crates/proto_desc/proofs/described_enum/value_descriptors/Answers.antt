@@ -2,7 +2,7 @@ use Rattle.std.proofs.Common.{◌∙◌, List, ap, map, Bor, arith}
 use Rattle.std.proofs.lemmas.List.{take_all}
 use Rattle.proto_tree.specs.declared.tree.Value.{Value}
 use Rattle.proto_desc.specs.Described.{value_described}
-use Rattle.proto_desc.proofs.Mapped.{map_both}
+use Rattle.proto_json.proofs.Mapped.{map_both}
 use Rattle.proto_desc.proofs.described_enum.value_descriptors.Goals as goal
 
 pub returns : goal.returns

@@ -1,7 +1,7 @@
 use Rattle.std.proofs.Common.{◌≡◌, ◌+◌, ◌*◌, drop}
 use Rattle.proto_tree.specs.File.{trees, member_tree}
 use Rattle.proto_desc.specs.Described.{messages_described}
-use Rattle.proto_desc.specs.Views.{messages_desc}
+use Rattle.proto_json.specs.Views.{messages_desc}
 use Rattle.proto_desc.proofs.Levels.{and_then}
 use Rattle.proto_desc.proofs.described_message.+messages.Given as goal
 

@@ -1,9 +1,9 @@
-use Rattle.std.proofs.Common.{◌≡◌, ◌∙◌, ap, map}
+use Rattle.std.proofs.Common.{◌∙◌, ap, map}
 use Rattle.proto_tree.specs.File.{member_tree, trees}
 use Rattle.proto_parts.specs.Scenes.{value}
-use Rattle.proto_desc.specs.Descriptors.{MessageDesc}
+use Rattle.proto_json.specs.Descriptors.{MessageDesc}
 use Rattle.proto_desc.specs.Described.{message_described}
-use Rattle.proto_desc.specs.Views.{messages_desc}
+use Rattle.proto_json.specs.Views.{messages_desc}
 use Rattle.proto_desc.proofs.Levels.{level_of, same_parts}
 use Rattle.proto_desc.proofs.described_message.message_around.Goals as goal
 

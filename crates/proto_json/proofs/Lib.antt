@@ -1,0 +1,5 @@
+pub mod Mapped
+pub mod Nesting
+pub mod Objects
+pub mod Quoting
+pub mod Slots

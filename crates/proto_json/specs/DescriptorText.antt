@@ -1,0 +1,228 @@
+-- The JSON text of descriptors: for each kind of object its keys, in the order of their bytes, with the texts of their values.
+use Rattle.std.specs.Prelude.{ℕ, List, [], ◌∷◌, Option, Some, None, option_map, map, codes, decimal}
+use Rattle.std.specs.Fmt.{signed_decimal}
+use Rattle.proto_json.specs.Descriptors.{FieldDesc, EnumValueDesc, EnumDesc, MessageDesc, Messages, NoMessages, Message, MethodDesc, ServiceDesc, FileOptionsDesc, FileDesc}
+use Rattle.proto_json.specs.JsonText.{Slot, quoted, boolean_text, object_text, array_if_any, object_if_any, mark}
+use Rattle.proto_json.specs.declared.enumeration.EnumOptions.{EnumOptions}
+use Rattle.proto_json.specs.declared.enumeration.EnumReservedRange.{EnumReservedRange}
+use Rattle.proto_json.specs.declared.enumeration.EnumValueOptions.{EnumValueOptions}
+use Rattle.proto_json.specs.declared.field.FieldOptions.{FieldOptions}
+use Rattle.proto_json.specs.declared.field.FieldType.{FieldType}
+use Rattle.proto_json.specs.declared.field.FieldType.TheVariants as field_type
+use Rattle.proto_json.specs.declared.field.Label.{Label}
+use Rattle.proto_json.specs.declared.field.Label.TheVariants as label
+use Rattle.proto_json.specs.declared.file.OptimizeMode.{OptimizeMode}
+use Rattle.proto_json.specs.declared.file.OptimizeMode.TheVariants as optimize_mode
+use Rattle.proto_json.specs.declared.file.Syntax.{Syntax}
+use Rattle.proto_json.specs.declared.file.Syntax.TheVariants as syntax
+use Rattle.proto_json.specs.declared.message.MessageOptions.{MessageOptions}
+use Rattle.proto_json.specs.declared.message.NumberRange.{NumberRange}
+use Rattle.proto_json.specs.declared.service.IdempotencyLevel.{IdempotencyLevel}
+use Rattle.proto_json.specs.declared.service.IdempotencyLevel.TheVariants as idempotency_level
+use Rattle.proto_json.specs.declared.service.MethodOptions.{MethodOptions}
+use Rattle.proto_json.specs.declared.service.ServiceOptions.{ServiceOptions}
+
+-- ---- names
+
+abbrev pub label_name : Label → List ℕ
+label_name label.Optional = codes "LABEL_OPTIONAL"
+label_name label.Required = codes "LABEL_REQUIRED"
+label_name label.Repeated = codes "LABEL_REPEATED"
+
+abbrev pub field_type_name : FieldType → List ℕ
+field_type_name field_type.Double = codes "TYPE_DOUBLE"
+field_type_name field_type.Float = codes "TYPE_FLOAT"
+field_type_name field_type.Int64 = codes "TYPE_INT64"
+field_type_name field_type.Uint64 = codes "TYPE_UINT64"
+field_type_name field_type.Int32 = codes "TYPE_INT32"
+field_type_name field_type.Fixed64 = codes "TYPE_FIXED64"
+field_type_name field_type.Fixed32 = codes "TYPE_FIXED32"
+field_type_name field_type.Bool = codes "TYPE_BOOL"
+field_type_name field_type.String = codes "TYPE_STRING"
+field_type_name field_type.Message = codes "TYPE_MESSAGE"
+field_type_name field_type.Bytes = codes "TYPE_BYTES"
+field_type_name field_type.Uint32 = codes "TYPE_UINT32"
+field_type_name field_type.Enum = codes "TYPE_ENUM"
+field_type_name field_type.Sfixed32 = codes "TYPE_SFIXED32"
+field_type_name field_type.Sfixed64 = codes "TYPE_SFIXED64"
+field_type_name field_type.Sint32 = codes "TYPE_SINT32"
+field_type_name field_type.Sint64 = codes "TYPE_SINT64"
+
+abbrev pub optimize_mode_name : OptimizeMode → List ℕ
+optimize_mode_name optimize_mode.Speed = codes "SPEED"
+optimize_mode_name optimize_mode.CodeSize = codes "CODE_SIZE"
+optimize_mode_name optimize_mode.LiteRuntime = codes "LITE_RUNTIME"
+
+abbrev pub idempotency_level_name : IdempotencyLevel → List ℕ
+idempotency_level_name idempotency_level.Unknown = codes "IDEMPOTENCY_UNKNOWN"
+idempotency_level_name idempotency_level.NoSideEffects = codes "NO_SIDE_EFFECTS"
+idempotency_level_name idempotency_level.Idempotent = codes "IDEMPOTENT"
+
+-- proto2 is the version of a file that names none
+abbrev pub syntax_name : Syntax → Option (List ℕ)
+syntax_name syntax.Proto2 = None
+syntax_name syntax.Proto3 = Some (codes "proto3")
+
+-- ---- fields
+
+abbrev pub field_options_slots : FieldOptions → List Slot
+field_options_slots o =
+    (codes "deprecated", option_map boolean_text o.deprecated)
+    ∷ (codes "packed", option_map boolean_text o.packed) ∷ []
+
+abbrev pub field_slots : FieldDesc → List Slot
+field_slots f =
+    (codes "defaultValue", option_map quoted f.default_value)
+    ∷ (codes "jsonName", option_map quoted f.json_name)
+    ∷ (codes "label", Some (quoted (label_name f.label)))
+    ∷ (codes "name", Some (quoted f.name))
+    ∷ (codes "number", Some (decimal f.number))
+    ∷ (codes "oneofIndex", option_map decimal f.oneof_index)
+    ∷ (codes "options", object_if_any (field_options_slots f.options))
+    ∷ (codes "proto3Optional", mark f.proto3_optional)
+    ∷ (codes "type", Some (quoted (field_type_name f.field_type)))
+    ∷ (codes "typeName", option_map quoted f.type_name) ∷ []
+
+abbrev pub field_text : FieldDesc → List ℕ
+field_text f = object_text (field_slots f)
+
+-- ---- enums
+
+abbrev pub enum_value_options_slots : EnumValueOptions → List Slot
+enum_value_options_slots o = (codes "deprecated", option_map boolean_text o.deprecated) ∷ []
+
+abbrev pub enum_value_slots : EnumValueDesc → List Slot
+enum_value_slots v =
+    (codes "name", Some (quoted v.name))
+    ∷ (codes "number", Some (signed_decimal v.number))
+    ∷ (codes "options", object_if_any (enum_value_options_slots v.options)) ∷ []
+
+abbrev pub enum_value_text : EnumValueDesc → List ℕ
+enum_value_text v = object_text (enum_value_slots v)
+
+abbrev pub enum_range_slots : EnumReservedRange → List Slot
+enum_range_slots r = (codes "end", Some (signed_decimal r.end)) ∷ (codes "start", Some (signed_decimal r.start)) ∷ []
+
+abbrev pub enum_range_text : EnumReservedRange → List ℕ
+enum_range_text r = object_text (enum_range_slots r)
+
+abbrev pub enum_options_slots : EnumOptions → List Slot
+enum_options_slots o =
+    (codes "allowAlias", option_map boolean_text o.allow_alias)
+    ∷ (codes "deprecated", option_map boolean_text o.deprecated) ∷ []
+
+abbrev pub enum_slots : EnumDesc → List Slot
+enum_slots e =
+    (codes "name", Some (quoted e.name))
+    ∷ (codes "options", object_if_any (enum_options_slots e.options))
+    ∷ (codes "reservedName", array_if_any (map quoted e.reserved_name))
+    ∷ (codes "reservedRange", array_if_any (map enum_range_text e.reserved_range))
+    ∷ (codes "value", array_if_any (map enum_value_text e.value)) ∷ []
+
+abbrev pub enum_text : EnumDesc → List ℕ
+enum_text e = object_text (enum_slots e)
+
+-- ---- messages
+
+abbrev pub range_slots : NumberRange → List Slot
+range_slots r = (codes "end", Some (decimal r.end)) ∷ (codes "start", Some (decimal r.start)) ∷ []
+
+abbrev pub range_text : NumberRange → List ℕ
+range_text r = object_text (range_slots r)
+
+abbrev pub oneof_slots : List ℕ → List Slot
+oneof_slots name = (codes "name", Some (quoted name)) ∷ []
+
+abbrev pub oneof_text : List ℕ → List ℕ
+oneof_text name = object_text (oneof_slots name)
+
+abbrev pub message_options_slots : MessageOptions → List Slot
+message_options_slots o =
+    (codes "deprecated", option_map boolean_text o.deprecated)
+    ∷ (codes "mapEntry", mark o.map_entry) ∷ []
+
+-- a message, with the texts of those nested in it
+abbrev pub message_slots : MessageDesc → List (List ℕ) → List Slot
+message_slots m nested =
+    (codes "enumType", array_if_any (map enum_text m.enum_type))
+    ∷ (codes "extensionRange", array_if_any (map range_text m.extension_range))
+    ∷ (codes "field", array_if_any (map field_text m.field))
+    ∷ (codes "name", Some (quoted m.name))
+    ∷ (codes "nestedType", array_if_any nested)
+    ∷ (codes "oneofDecl", array_if_any (map oneof_text m.oneof_decl))
+    ∷ (codes "options", object_if_any (message_options_slots m.options))
+    ∷ (codes "reservedName", array_if_any (map quoted m.reserved_name))
+    ∷ (codes "reservedRange", array_if_any (map range_text m.reserved_range)) ∷ []
+
+abbrev pub message_text : MessageDesc → List (List ℕ) → List ℕ
+message_text m nested = object_text (message_slots m nested)
+
+-- the texts of messages, in order
+abbrev pub message_texts : Messages → List (List ℕ)
+message_texts NoMessages = []
+message_texts (Message m nested rest) = message_text m (message_texts nested) ∷ message_texts rest
+
+-- ---- services
+
+abbrev pub method_options_slots : MethodOptions → List Slot
+method_options_slots o =
+    (codes "deprecated", option_map boolean_text o.deprecated)
+    ∷ (codes "idempotencyLevel", option_map (λ level. quoted (idempotency_level_name level)) o.idempotency_level) ∷ []
+
+abbrev pub method_slots : MethodDesc → List Slot
+method_slots m =
+    (codes "clientStreaming", mark m.client_streaming)
+    ∷ (codes "inputType", Some (quoted m.input_type))
+    ∷ (codes "name", Some (quoted m.name))
+    ∷ (codes "options", object_if_any (method_options_slots m.options))
+    ∷ (codes "outputType", Some (quoted m.output_type))
+    ∷ (codes "serverStreaming", mark m.server_streaming) ∷ []
+
+abbrev pub method_text : MethodDesc → List ℕ
+method_text m = object_text (method_slots m)
+
+abbrev pub service_options_slots : ServiceOptions → List Slot
+service_options_slots o = (codes "deprecated", option_map boolean_text o.deprecated) ∷ []
+
+abbrev pub service_slots : ServiceDesc → List Slot
+service_slots s =
+    (codes "method", array_if_any (map method_text s.method))
+    ∷ (codes "name", Some (quoted s.name))
+    ∷ (codes "options", object_if_any (service_options_slots s.options)) ∷ []
+
+abbrev pub service_text : ServiceDesc → List ℕ
+service_text s = object_text (service_slots s)
+
+-- ---- files
+
+abbrev pub file_options_slots : FileOptionsDesc → List Slot
+file_options_slots o =
+    (codes "ccEnableArenas", option_map boolean_text o.cc_enable_arenas)
+    ∷ (codes "csharpNamespace", option_map quoted o.csharp_namespace)
+    ∷ (codes "deprecated", option_map boolean_text o.deprecated)
+    ∷ (codes "goPackage", option_map quoted o.go_package)
+    ∷ (codes "javaMultipleFiles", option_map boolean_text o.java_multiple_files)
+    ∷ (codes "javaOuterClassname", option_map quoted o.java_outer_classname)
+    ∷ (codes "javaPackage", option_map quoted o.java_package)
+    ∷ (codes "objcClassPrefix", option_map quoted o.objc_class_prefix)
+    ∷ (codes "optimizeFor", option_map (λ mode. quoted (optimize_mode_name mode)) o.optimize_for)
+    ∷ (codes "phpNamespace", option_map quoted o.php_namespace) ∷ []
+
+abbrev pub file_slots : FileDesc → List Slot
+file_slots f =
+    (codes "dependency", array_if_any (map quoted f.dependency))
+    ∷ (codes "enumType", array_if_any (map enum_text f.enum_type))
+    ∷ (codes "messageType", array_if_any (message_texts f.message_type))
+    ∷ (codes "name", Some (quoted f.name))
+    ∷ (codes "options", object_if_any (file_options_slots f.options))
+    ∷ (codes "package", option_map quoted f.package)
+    ∷ (codes "publicDependency", array_if_any (map decimal f.public_dependency))
+    ∷ (codes "service", array_if_any (map service_text f.service))
+    ∷ (codes "syntax", option_map quoted (syntax_name f.syntax)) ∷ []
+
+abbrev pub file_text : FileDesc → List ℕ
+file_text f = object_text (file_slots f)
+
+-- the text of a set of files: one object with the list `file`
+abbrev pub json_text : List FileDesc → List ℕ
+json_text files = object_text ((codes "file", array_if_any (map file_text files)) ∷ [])

@@ -1,0 +1,154 @@
+//! Fields of messages.
+
+ghost use Rattle.std.specs.Prelude.{◌≡◌, IfOk};
+ghost use Rattle.proto_json.specs.DescriptorText.{label_name, field_type_name, field_text, field_options_slots};
+ghost use Rattle.proto_json.specs.JsonText.{quoted, object_if_any};
+ghost use Rattle.proto_json.specs.Views.{field_desc};
+
+use crate::json_value::Json;
+use crate::object::{Member, object, object_if_any};
+use crate::values::{ToJson, optional};
+use std::alloc::{AllocError, Global};
+
+/// A field.
+#[derive(Drop)]
+pub struct FieldDescriptor {
+    pub name: String,
+    pub number: u32,
+    pub label: Label,
+    pub field_type: FieldType,
+    /// The full name of the message or enum, behind a dot.
+    pub type_name: Option<String>,
+    /// The default as text: decimal, `true` or `false`, the string, or the name of an enum's value.
+    pub default_value: Option<String>,
+    /// The place of its oneof in the message's `oneof_decl`, from 0.
+    pub oneof_index: Option<usize>,
+    pub json_name: Option<String>,
+    /// Whether a proto3 field says `optional`.
+    pub proto3_optional: bool,
+    pub options: FieldOptions,
+}
+
+#[derive(Clone, Copy)]
+pub enum Label {
+    Optional,
+    Required,
+    Repeated,
+}
+
+/// A scalar type, or which kind of type `type_name` names.
+#[derive(Clone, Copy)]
+pub enum FieldType {
+    Double,
+    Float,
+    Int64,
+    Uint64,
+    Int32,
+    Fixed64,
+    Fixed32,
+    Bool,
+    String,
+    Message,
+    Bytes,
+    Uint32,
+    Enum,
+    Sfixed32,
+    Sfixed64,
+    Sint32,
+    Sint64,
+}
+
+/// The options that stand at a field.
+#[derive(Clone, Copy)]
+pub struct FieldOptions {
+    pub packed: Option<bool>,
+    pub deprecated: Option<bool>,
+}
+
+impl Label {
+    /// The name in descriptor.proto.
+    pub fn name(self) -> &'static str
+        ensures { result.now ≡ label_name self }
+    {
+        match self {
+            Label::Optional => "LABEL_OPTIONAL",
+            Label::Required => "LABEL_REQUIRED",
+            Label::Repeated => "LABEL_REPEATED",
+        }
+    }
+}
+
+impl FieldType {
+    /// The name in descriptor.proto.
+    pub fn name(self) -> &'static str
+        ensures { result.now ≡ field_type_name self }
+    {
+        match self {
+            FieldType::Double => "TYPE_DOUBLE",
+            FieldType::Float => "TYPE_FLOAT",
+            FieldType::Int64 => "TYPE_INT64",
+            FieldType::Uint64 => "TYPE_UINT64",
+            FieldType::Int32 => "TYPE_INT32",
+            FieldType::Fixed64 => "TYPE_FIXED64",
+            FieldType::Fixed32 => "TYPE_FIXED32",
+            FieldType::Bool => "TYPE_BOOL",
+            FieldType::String => "TYPE_STRING",
+            FieldType::Message => "TYPE_MESSAGE",
+            FieldType::Bytes => "TYPE_BYTES",
+            FieldType::Uint32 => "TYPE_UINT32",
+            FieldType::Enum => "TYPE_ENUM",
+            FieldType::Sfixed32 => "TYPE_SFIXED32",
+            FieldType::Sfixed64 => "TYPE_SFIXED64",
+            FieldType::Sint32 => "TYPE_SINT32",
+            FieldType::Sint64 => "TYPE_SINT64",
+        }
+    }
+}
+
+impl ToJson for Label {
+    ghost text = { λ l. quoted (label_name l) };
+
+    fn to_json(&self, alloc: Global) -> Result<Json, AllocError> {
+        Json::text(alloc, self.name())
+    }
+}
+
+impl ToJson for FieldType {
+    ghost text = { λ t. quoted (field_type_name t) };
+
+    fn to_json(&self, alloc: Global) -> Result<Json, AllocError> {
+        Json::text(alloc, self.name())
+    }
+}
+
+impl FieldOptions {
+    fn to_json(&self, alloc: Global) -> Result<Option<Json>, AllocError>
+        ensures { IfOk result (λ o. o ≡ object_if_any (field_options_slots self.now)) }
+    {
+        let members = vec![in alloc;
+            Member::new("deprecated", optional(alloc, &self.deprecated)?),
+            Member::new("packed", optional(alloc, &self.packed)?),
+        ]?;
+        object_if_any(alloc, members)
+    }
+}
+
+impl ToJson for FieldDescriptor {
+    ghost text = { λ f. field_text (field_desc f) };
+
+    fn to_json(&self, alloc: Global) -> Result<Json, AllocError> {
+        let members = vec![in alloc;
+            Member::new("defaultValue", optional(alloc, &self.default_value)?),
+            Member::new("jsonName", optional(alloc, &self.json_name)?),
+            Member::new("label", Some(self.label.to_json(alloc)?)),
+            Member::new("name", Some(self.name.to_json(alloc)?)),
+            Member::new("number", Some(Json::number(self.number))),
+            Member::new("oneofIndex", optional(alloc, &self.oneof_index)?),
+            Member::new("options", self.options.to_json(alloc)?),
+            Member::new("proto3Optional", Json::mark(self.proto3_optional)),
+            Member::new("type", Some(self.field_type.to_json(alloc)?)),
+            Member::new("typeName", optional(alloc, &self.type_name)?),
+        ]?;
+        object(alloc, members)
+    }
+}

@@ -1,0 +1,84 @@
+//! JSON values over `serde_json`, each seen as its text.
+
+ghost use Rattle.std.specs.Prelude.{◌≡◌, List, ℕ, [], ◌∷◌, ◌++◌, map, false, true, IfOk, OnOk, string_bytes, decimal};
+ghost use Rattle.std.specs.Fmt.{signed_decimal};
+ghost use Rattle.serde_json.specs.Written.{compact_text, has_float, items_have_float};
+ghost use Rattle.serde_json.specs.View.{view as data_of, items_view};
+ghost use Rattle.proto_json.specs.JsonText.{quoted, boolean_text, object_text, object_if_any, array_text, mark, keys_of, are_rising};
+
+use serde_json::Value;
+use std::alloc::{AllocError, Global};
+use std::marker::Model;
+
+/// A value without floats.
+#[derive(Drop)]
+pub(crate) struct Json {
+    pub(crate) value: Value,
+}
+
+impl Model for Json {
+    ghost Value = { List ℕ };
+
+    ghost view = { λ j. compact_text (data_of j.value) };
+
+    ghost invariant = { λ j. has_float (data_of j.value) ≡ false };
+}
+
+impl Json {
+    pub(crate) fn text(alloc: Global, text: &str) -> Result<Json, AllocError>
+        ensures { IfOk result (λ j. j ≡ quoted text.now) }
+    {
+        let value = Value::try_from_str(alloc, text)?;
+        Ok(Json { value })
+    }
+
+    pub(crate) fn number(number: u32) -> Json
+        ensures { result ≡ decimal number }
+    {
+        Json {
+            value: Value::from(number),
+        }
+    }
+
+    pub(crate) fn index(index: usize) -> Json
+        ensures { result ≡ decimal index }
+    {
+        Json {
+            value: Value::from(index),
+        }
+    }
+
+    pub(crate) fn integer(number: i32) -> Json
+        ensures { result ≡ signed_decimal number }
+    {
+        Json {
+            value: Value::from(number),
+        }
+    }
+
+    pub(crate) fn boolean(truth: bool) -> Json
+        ensures { result ≡ boolean_text truth }
+    {
+        Json {
+            value: Value::Bool(truth),
+        }
+    }
+
+    /// A mark, which is left out where it is false.
+    pub(crate) fn mark(truth: bool) -> Option<Json>
+        ensures { result ≡ mark truth }
+    {
+        if truth {
+            Some(Json::boolean(true))
+        } else {
+            None
+        }
+    }
+
+    /// The compact text.
+    pub(crate) fn print(&self, alloc: Global) -> Result<String, AllocError>
+        ensures { IfOk result (λ s. string_bytes s ≡ self.now) }
+    {
+        self.value.to_string(alloc)
+    }
+}
