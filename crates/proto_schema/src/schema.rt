@@ -1,10 +1,11 @@
-//! Files that compile, with their descriptors.
+//! Files that compile, with their link and their descriptors.
 
 ghost use Rattle.std.specs.Prelude.{◌≡◌, List, IfOk, IfErr};
 ghost use Rattle.proto_desc.specs.Checked.{AreDescribed};
-ghost use Rattle.proto_desc.specs.Views.{files_desc};
+ghost use Rattle.proto_json.specs.Views.{files_desc};
 ghost use Rattle.proto_files.specs.Faults.{HasNoFault};
 ghost use Rattle.proto_files.specs.GivenFiles.{files_of};
+ghost use Rattle.proto_names.specs.LinkOfFiles.{IsLinkOf};
 ghost use Rattle.proto_names.specs.Links.{ReadOf, AreRead};
 ghost use Rattle.proto_schema.specs.Answers.{IsOpenError};
 ghost use Rattle.proto_schema.specs.Whole.{FileFaults, WorkspaceFaults, IsSortedOf};
@@ -16,10 +17,11 @@ use proto_names::{Link, are_read};
 use std::alloc::Global;
 use std::marker::Model;
 
-/// Schemas that compile: at most 4,096 files in the order of their paths, with their descriptors.
+/// Schemas that compile: at most 4,096 files in the order of their paths, with their link and their descriptors.
 #[derive(Drop)]
 pub struct Schema {
     files: Files,
+    link: Link,
     descriptors: Descriptors,
 }
 
@@ -30,13 +32,14 @@ impl Model for Schema {
     ghost Value = { List FileOf };
 
     ghost use Rattle.proto_desc.specs.Checked.{AreDescribed};
-    ghost use Rattle.proto_desc.specs.Views.{files_desc};
+    ghost use Rattle.proto_json.specs.Views.{files_desc};
     ghost use Rattle.proto_files.specs.Faults.{HasNoFault};
+    ghost use Rattle.proto_names.specs.LinkOfFiles.{IsLinkOf};
     ghost use Rattle.proto_schema.specs.Whole.{FileFaults};
 
     ghost view = { λ s. s.files };
 
-    ghost invariant = { λ s. HasNoFault (FileFaults s.files) × AreDescribed s.files (files_desc s.descriptors) };
+    ghost invariant = { λ s. HasNoFault (FileFaults s.files) × (IsLinkOf s.files s.link × AreDescribed s.files (files_desc s.descriptors)) };
 }
 
 impl Schema {
@@ -51,7 +54,11 @@ impl Schema {
         let files = Files::read(alloc, paths)?;
         let link = Link::new(alloc, &files)?;
         let descriptors = check(alloc, &files, &link)?;
-        Ok(Schema { files, descriptors })
+        Ok(Schema {
+            files,
+            link,
+            descriptors,
+        })
     }
 
     /// The files, in the order of their paths.
@@ -60,6 +67,13 @@ impl Schema {
         ensures compiled { HasNoFault (FileFaults self.now) }
     {
         &self.files
+    }
+
+    /// The link of the files: their names, and what each reference means.
+    pub fn link(&self) -> &Link
+        ensures { IsLinkOf self.now result.now }
+    {
+        &self.link
     }
 
     /// The descriptors of the files.

@@ -32,7 +32,7 @@ pub invariant_of-result : goal.invariant_of-result
 invariant_of-result c =
     let given = files_of c.args.files.items in
     let read = are_read given c.in_ok-paths.paths c.in_ok-files.files c.in_ok-files.ensures.same c.in_ok-paths.ensures.clean c.in_ok-paths.ensures.same c.in_ok-paths.ensures.in_order c.in_ok-files.ensures.clean in
-    (no_file_fault given c.in_ok-files.files read c.in_ok-link.ensures.clean c.in_ok-descriptors.ensures.clean, c.in_ok-descriptors.ensures.descriptors)
+    (no_file_fault given c.in_ok-files.files read c.in_ok-link.ensures.clean c.in_ok-descriptors.ensures.clean, (c.in_ok-link.ensures.link, c.in_ok-descriptors.ensures.descriptors))
 
 pub returns-clause-clean : goal.returns-clause-clean
 returns-clause-clean c =
