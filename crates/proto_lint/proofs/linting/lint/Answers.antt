@@ -1,0 +1,16 @@
+use Rattle.std.proofs.Common.{List, map, subst, sym, ap, ◌∙◌}
+use Rattle.proto_files.specs.GivenFiles.{FileOf}
+use Rattle.proto_names.specs.Links.{AreRead}
+use Rattle.proto_lint.specs.Findings.{FindingOf, IsListingOf, findings}
+use Rattle.proto_lint.specs.Views.{finding_of}
+use Rattle.proto_lint.specs.declared.rule_set.RuleSet.{RuleSet}
+use Rattle.proto_lint.proofs.linting.lint.Goals as goal
+
+pub returns : goal.returns
+returns c = λ reads are.
+    (let l = c.in_ok-new.field-0 in
+    let here : AreRead l.files.now reads = subst (λ (fs : List FileOf). AreRead fs reads) (sym c.in_ok-new.ensures.files) are in
+    let all = c.in_ok-found.ensures reads here
+    ∙ ap (λ (fs : List FileOf). findings l.rules.now.chosen fs reads) c.in_ok-new.ensures.files
+    ∙ ap (λ (set : RuleSet). findings set.chosen c.args.files.now reads) c.in_ok-new.ensures.rules in
+    subst (λ (fs : List FindingOf). IsListingOf fs (map finding_of c.listed.result.items)) all c.listed.ensures)

@@ -1,0 +1,30 @@
+-- What the rules read of a file.
+use Rattle.std.specs.Prelude.{ℕ, ◌==◌, List, [], map, find, get_or, Option, Some, None}
+use Rattle.std.specs.Option.{option_and_then}
+use Rattle.proto_text.specs.declared.lexer.Token.{Token}
+use Rattle.proto_text.specs.Texts.{word_at}
+use Rattle.proto_text.specs.Tokens.{Lexeme}
+use Rattle.proto_names.specs.LinkOfFiles.{TextMeant, meant_by_link}
+use Rattle.proto_lint.specs.declared.reading.Reading.{Reading as Read}
+
+-- its tokens, these with their texts, and what its references mean
+pub record Reading : Type 0 where
+  pub tokens : List Token
+  pub lexemes : List Lexeme
+  pub means : List TextMeant
+
+abbrev pub text : Reading → ℕ → List ℕ
+text r token = word_at r.lexemes token
+
+abbrev pub or_nothing : Option (List ℕ) → List ℕ
+or_nothing None = []
+or_nothing (Some name) = name
+
+-- the full name that the reference with this first token means
+abbrev pub meant : Reading → ℕ → List ℕ
+meant r token = or_nothing (option_and_then (λ m. m.text) (find (λ m. m.token == token) r.means))
+
+-- ---- the same in code
+
+abbrev pub reading_of : Read → Reading
+reading_of r = record { tokens = r.tokens.now; lexemes = r.words; means = map (meant_by_link r.link.now) (get_or r.link.now.meant r.file []) }

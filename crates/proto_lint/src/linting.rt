@@ -1,0 +1,145 @@
+//! Linting.
+
+ghost use Rattle.std.specs.Prelude.{◌≡◌, ◌<◌, ◌++◌, List, length, map, IfOk, OnOk};
+ghost use Rattle.proto_names.specs.LinkOfFiles.{IsLinkOf};
+ghost use Rattle.proto_names.specs.Links.{ReadOf, AreRead};
+ghost use Rattle.proto_lint.specs.Findings.{IsListingOf, file_finds, findings, found_in};
+ghost use Rattle.proto_lint.specs.Linters.{IsLinter};
+ghost use Rattle.proto_lint.specs.Views.{finding_of, found_of};
+
+use crate::finding::Finding;
+use crate::found::Found;
+use crate::heads::Heads;
+use crate::imports::{Imports, add_imports};
+use crate::method_types::all_messages;
+use crate::packages::add_head;
+use crate::reading::Reading;
+use crate::rule_set::RuleSet;
+use crate::shared::Messages;
+use crate::walk::{Walk, add_blocks};
+use proto_files::Files;
+use proto_names::{Link, are_read};
+use std::alloc::{AllocError, Global};
+
+/// A workspace with what the rules look up in it.
+#[derive(Drop)]
+struct Linter<'a> {
+    files: &'a Files,
+    link: &'a Link,
+    rules: &'a RuleSet,
+    heads: Heads<'a>,
+    imports: Imports,
+    messages: Messages<'a>,
+}
+
+/// Adds what was found in the file at a path.
+fn add_findings(
+    alloc: Global,
+    all: &mut Vec<Finding>,
+    path: &str,
+    found: Vec<Found>,
+) -> Result<(), AllocError>
+    ensures { OnOk result (map finding_of all.new.items ≡ map finding_of all.old.items ++ map (found_in path.now) (map found_of found.items)) }
+{
+    for Found { offset, rule, name } in found {
+        let path = String::from_str(alloc, path)?;
+        all.push(Finding {
+            path,
+            offset,
+            rule,
+            name,
+        })?;
+    }
+    Ok(())
+}
+
+impl<'a> Linter<'a> {
+    /// Looks up what the rules need to know of all files.
+    fn new(
+        alloc: Global,
+        files: &'a Files,
+        link: &'a Link,
+        rules: &'a RuleSet,
+    ) -> Result<Linter<'a>, AllocError>
+        requires { IsLinkOf files.now link.now }
+        ensures linter { IfOk result IsLinter }
+        ensures files { IfOk result (λ l. l.files.now ≡ files.now) }
+        ensures rules { IfOk result (λ l. l.rules.now ≡ rules.now) }
+    {
+        are_read(files);
+        Ok(Linter {
+            files,
+            link,
+            rules,
+            heads: Heads::new(alloc, files)?,
+            imports: Imports::new(alloc, files)?,
+            messages: Messages::new(alloc, all_messages(alloc, files, link)?)?,
+        })
+    }
+
+    /// What the rules find in a file.
+    fn finds_in(&self, alloc: Global, file: u32) -> Result<Vec<Found>, AllocError>
+        requires linter { IsLinter self.now }
+        requires file { file < length self.now.files.now }
+        ensures { IfOk result (λ found. (reads : List ReadOf) → AreRead self.now.files.now reads → map found_of found.items ≡ file_finds self.now.rules.now.chosen self.now.files.now reads file) }
+    {
+        let Linter {
+            files,
+            link,
+            rules,
+            heads,
+            imports,
+            messages,
+        } = self;
+        let place = file as usize;
+        let reading = Reading::of(files, link, file);
+        let mut found = Vec::new(alloc);
+        add_head(alloc, &mut found, rules, heads, place)?;
+        add_imports(alloc, &mut found, rules, &reading, imports, link, files)?;
+        let walk = Walk {
+            rules,
+            reading: &reading,
+            messages,
+        };
+        let scope = heads.get(place).package();
+        add_blocks(alloc, &mut found, &walk, scope, files.tree(place))?;
+        Ok(found)
+    }
+
+    /// What the rules find, file after file.
+    fn findings(&self, alloc: Global) -> Result<Vec<Finding>, AllocError>
+        requires { IsLinter self.now }
+        ensures { IfOk result (λ found. (reads : List ReadOf) → AreRead self.now.files.now reads → map finding_of found.items ≡ findings self.now.rules.now.chosen self.now.files.now reads) }
+    {
+        let mut all = Vec::new(alloc);
+        for file in 0..self.files.len() {
+            let found = self.finds_in(alloc, file as u32)?;
+            add_findings(alloc, &mut all, self.files.path(file), found)?;
+        }
+        Ok(all)
+    }
+}
+
+/// The findings in order, each once.
+fn listed(mut found: Vec<Finding>) -> Vec<Finding>
+    ensures { IsListingOf (map finding_of found.items) (map finding_of result.items) }
+{
+    found.sort_unstable();
+    found.dedup();
+    found
+}
+
+/// What the rules of the set find in linked files, in the order of path, offset, rule identifier and name; each finding
+/// once.
+pub fn lint(
+    alloc: Global,
+    files: &Files,
+    link: &Link,
+    rules: &RuleSet,
+) -> Result<Vec<Finding>, AllocError>
+    requires { IsLinkOf files.now link.now }
+    ensures { IfOk result (λ found. (reads : List ReadOf) → AreRead files.now reads → IsListingOf (findings rules.now.chosen files.now reads) (map finding_of found.items)) }
+{
+    let found = Linter::new(alloc, files, link, rules)?.findings(alloc)?;
+    Ok(listed(found))
+}
