@@ -1,5 +1,5 @@
 -- An admissible edit can be made, and its changes are an entry.
-use Rattle.std.proofs.Common.{◌≡◌, ℕ, List, [], ◌∷◌, length, refl}
+use Rattle.std.proofs.Common.{◌≡◌, ℕ, List, [], ◌∷◌, inl, inr, length, refl}
 use Rattle.proto_text.specs.declared.lexer.Token.{Token}
 use Rattle.proto_text.specs.Texts.{words}
 use Rattle.proto_tree.specs.Tree.{Tree}
@@ -11,6 +11,7 @@ use Rattle.proto_edit.specs.Workspaces.{Asked, rename, delete_field, add_import,
 use Rattle.proto_edit.specs.Laws.{EditsAreMade}
 use Rattle.proto_edit.proofs.Steps.{change_of_field, made}
 use Rattle.proto_edit.proofs.StepEntries.{entry_is}
+use Rattle.proto_edit.proofs.WholeFirst.{first_compiled, first_or_not, is_first}
 
 abbrev Changed : List FileOf → Asked → Type 0
 Changed w e = (cs : List ChangeOf) × AreChanges w e cs
@@ -44,19 +45,22 @@ of_target file name to tokens tree ok (a_field m f) e none = (
 
 -- what the edit changes
 pub changes_of : (w : List FileOf) (e : Asked) → IsCompiled w → IsAdmissible w e → Changed w e
-changes_of [] (rename name to) has ok = absurd (ok 1 unknown_target)
-changes_of [] (delete_field name) has ok = absurd (ok 1 refl)
-changes_of [] (add_import file path) has ok = absurd (ok 2 refl)
-changes_of [] (drop_import file path) has ok = absurd (ok 2 refl)
+changes_of [] (rename name to) has ok = absurd (ok 1 (inl (tt, unknown_target)))
+changes_of [] (delete_field name) has ok = absurd (ok 1 (inl (tt, refl)))
+changes_of [] (add_import file path) has ok = absurd (ok 2 (inl (tt, refl)))
+changes_of [] (drop_import file path) has ok = absurd (ok 2 (inl (tt, refl)))
 changes_of (f ∷ []) (rename name to) has ok =
-    of_target f name to has.1.0 has.1.1 has.1.3 (target_in (words f.bytes has.1.0) name (messages_of has.1.1)) refl (λ n r. ok n (has.1.0, has.1.1, has.1.3, r))
-changes_of (f ∷ []) (delete_field name) has ok = absurd (deletion (target_in (words f.bytes has.1.0) name (messages_of has.1.1)) (λ n r. ok n (has.1.0, has.1.1, has.1.3, r)))
-changes_of (f ∷ []) (add_import file path) has ok = absurd (ok 2 (has.1.0, has.1.1, has.1.3, refl))
-changes_of (f ∷ []) (drop_import file path) has ok = absurd (ok 2 (has.1.0, has.1.1, has.1.3, refl))
+    of_target f name to has.1.0 has.1.1 has.1.3 (target_in (words f.bytes has.1.0) name (messages_of has.1.1)) refl (λ n r. ok n (inl (is_first (f ∷ []) has, (has.1.0, has.1.1, has.1.3, r))))
+changes_of (f ∷ []) (delete_field name) has ok = absurd (deletion (target_in (words f.bytes has.1.0) name (messages_of has.1.1)) (λ n r. ok n (inl (is_first (f ∷ []) has, (has.1.0, has.1.1, has.1.3, r)))))
+changes_of (f ∷ []) (add_import file path) has ok = absurd (ok 2 (inl (is_first (f ∷ []) has, (has.1.0, has.1.1, has.1.3, refl))))
+changes_of (f ∷ []) (drop_import file path) has ok = absurd (ok 2 (inl (is_first (f ∷ []) has, (has.1.0, has.1.1, has.1.3, refl))))
 changes_of (f ∷ g ∷ fs) e has ok = absurd has.1
 
 pub edits_are_made : EditsAreMade
-edits_are_made w e has ok =
-    let c = changes_of w e has ok in
-    let m = made w e c.0 has ok c.1 in
-    (c.0, c.1, entry_is w e c.0 has ok c.1, m.0, m.1, m.2)
+edits_are_made w e has ok = elim (first_or_not w has) [
+  | inl first ↦
+      let c = changes_of w e (first_compiled w has first) ok in
+      let m = made w e c.0 has ok c.1 in
+      (c.0, c.1, entry_is w e c.0 has ok c.1, m.0, m.1, m.2)
+  | inr outside ↦ absurd (ok 2 (inr (outside, refl)))
+]

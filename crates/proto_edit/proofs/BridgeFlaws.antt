@@ -30,7 +30,7 @@ use Rattle.proto_checks.specs.Flaws.{flaw, flaw_if, earlier, after_earlier, mark
 use Rattle.proto_checks.specs.NumberFlaws.{is_field_number, number_of_field, range_of, outside, reserved_numbers, repeated_numbers}
 use Rattle.proto_checks.specs.FieldFlaws.{enum_of_type, is_of_proto2, type_token, field_flaws, option_flaws}
 use Rattle.proto_checks.specs.FileFlaws.{name_flaws, with_reserved_name, json_name_of, json_clashes, field_number_flaws, message_flaws, block_flaws, file_flaws}
-use Rattle.proto_edit.specs.declared.sentences.Sentence.{Sentence}
+use Rattle.proto_edit.specs.Sentences.{Sentence}
 use Rattle.proto_edit.specs.declared.shape.FieldAt.{FieldAt}
 use Rattle.proto_edit.specs.declared.shape.MessageAt.{MessageAt}
 use Rattle.proto_edit.specs.Named.{number_of, json_name, AfterEarlier, is_field_number as is_number}

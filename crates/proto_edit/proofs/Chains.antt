@@ -24,7 +24,7 @@ changes_are items begun c is none_yet = ap (map change_of) (is ∙ ap (λ (z : L
 
 pub step_made : (w : List FileOf) (e : Asked) (cs entry : List ChangeOf) (after : List FileOf) → entry ≡ cs → IsAdmissible w e × AreChanges w e cs → IsReopened w cs (Some after) → IsMappedStep w e entry after
 step_made w e cs entry after same ok put =
-    subst (λ (z : List ChangeOf). IsMappedStep w e z after) (sym same) (mapped_step w e cs after (record { admissible = ok.0; changes = ok.1; put = put.0 }))
+    subst (λ (z : List ChangeOf). IsMappedStep w e z after) (sym same) (mapped_step w e cs after (record { admissible = ok.0; changes = ok.1; put = put.0 }) put.1)
 
 -- ---- runs
 

@@ -16,7 +16,7 @@ use Rattle.proto_files.specs.declared.fault.FaultKind.{FaultKind}
 use Rattle.proto_files.specs.declared.fault.FaultKind.TheVariants as kind
 use Rattle.proto_files.specs.Faults.{HasNoFault}
 use Rattle.proto_files.specs.GivenFiles.{FileOf, paths_of}
-use Rattle.proto_files.specs.ReadFaults.{IsText, IsTextFault, IsGrammarFault}
+use Rattle.proto_files.specs.ReadFaults.{IsText, IsTextFault, IsGrammarFault, ReadFaults}
 use Rattle.proto_files.specs.WorkspacePaths.{IsWorkspacePath, is_workspace_path}
 use Rattle.proto_files.proofs.WorkspacePathTest.{is_path_from_test, test_from_is_path}
 use Rattle.proto_names.proofs.Basics.{contains_head}
@@ -37,23 +37,14 @@ use Rattle.proto_edit.proofs.PathsInOrder.{too_many_paths}
 too_many : (w : List FileOf) → 1 < length (paths_of w) → HasNoFault (IsFault w) → ⊥
 too_many w lt clean = let p = too_many_paths (paths_of w) lt in clean (at p.0 0 kind.TooManyFiles) (path (at p.0 0 kind.TooManyFiles) (refl, p.1))
 
--- ---- one file
+-- ---- one file, whose text and grammar have no fault
 
-module _ (f : FileOf) (clean : HasNoFault (IsFault (f ∷ []))) where
+module _ (f : FileOf) (clean : HasNoFault (ReadFaults (f ∷ []))) where
   no_text_fault : (offset : ℕ) (k : FaultKind) → IsTextFault f.bytes offset k → ⊥
-  no_text_fault offset k h = clean (at f.path offset k) (file (at f.path offset k) (inl (f, contains_head f [], refl, h)))
+  no_text_fault offset k h = clean (at f.path offset k) (inl (f, contains_head f [], refl, h))
 
   no_grammar_fault : (offset : ℕ) (k : FaultKind) → IsGrammarFault f.bytes offset k → ⊥
-  no_grammar_fault offset k h = clean (at f.path offset k) (file (at f.path offset k) (inr (f, contains_head f [], refl, h)))
-
-  no_later_fault : (tokens : List Token) (tree : Tree) → Reads f.bytes tokens tree → (offset : ℕ) (k : FaultKind) → IsPastGrammar f.path f.bytes tokens tree (at f.path offset k) → ⊥
-  no_later_fault tokens tree reads offset k h = clean (at f.path offset k) (past f tokens tree (at f.path offset k) (contains_head f []) reads h)
-
-  is_path : IsWorkspacePath f.path
-  is_path = elim (cases_Bool (is_workspace_path f.path)) [
-    | inl t ↦ is_path_from_test f.path t
-    | inr t ↦ absurd (clean (at f.path 0 kind.BadPath) (path (at f.path 0 kind.BadPath) (refl, (contains_head f.path [], λ h. both_ways (is_workspace_path f.path) t (test_from_is_path f.path h)))))
-  ]
+  no_grammar_fault offset k h = clean (at f.path offset k) (inr (f, contains_head f [], refl, h))
 
   short : length f.bytes ≤ 1048576
   short = elim (cases_lt 1048576 (length f.bytes)) [
@@ -94,6 +85,25 @@ module _ (f : FileOf) (clean : HasNoFault (IsFault (f ∷ []))) where
     | inr h ↦ absurd (no_parse_fault tokens are h.0 h.1)
   ]
 
+  -- it has tokens and a tree
+  pub file_is_read : (tokens : List Token) × (tree : Tree) × Reads f.bytes tokens tree
+  file_is_read = (let tokens = tokens_of in let tree = tree_of tokens.0 tokens.1 in (tokens.0, tree.0, tree.1))
+
+-- ---- one file without a fault of the first language
+
+module _ (f : FileOf) (clean : HasNoFault (IsFault (f ∷ []))) where
+  reads_well : HasNoFault (ReadFaults (f ∷ []))
+  reads_well x h = clean x (file x h)
+
+  no_later_fault : (tokens : List Token) (tree : Tree) → Reads f.bytes tokens tree → (offset : ℕ) (k : FaultKind) → IsPastGrammar f.path f.bytes tokens tree (at f.path offset k) → ⊥
+  no_later_fault tokens tree reads offset k h = clean (at f.path offset k) (past f tokens tree (at f.path offset k) (contains_head f []) reads h)
+
+  is_path : IsWorkspacePath f.path
+  is_path = elim (cases_Bool (is_workspace_path f.path)) [
+    | inl t ↦ is_path_from_test f.path t
+    | inr t ↦ absurd (clean (at f.path 0 kind.BadPath) (path (at f.path 0 kind.BadPath) (refl, (contains_head f.path [], λ h. both_ways (is_workspace_path f.path) t (test_from_is_path f.path h)))))
+  ]
+
   in_language : (tokens : List Token) (tree : Tree) → Reads f.bytes tokens tree → IsFirstLanguage (words f.bytes tokens) tree
   in_language tokens tree reads = elim (language_or_not (words f.bytes tokens) tree) [
     | inl is ↦ is
@@ -105,11 +115,12 @@ module _ (f : FileOf) (clean : HasNoFault (IsFault (f ∷ []))) where
 
   one_compiles : IsCompiled (f ∷ [])
   one_compiles =
-      let tokens = tokens_of.0 in
-      let read = tree_of tokens tokens_of.1 in
-      let compiles : Compiles f.bytes tokens read.0 = record { short = short; utf8 = utf8; reads = read.1; language = in_language tokens read.0 read.1; sound = is_sound tokens read.0 read.1 } in
-      let d : NamedFile = record { path = f.path; messages = desc (words f.bytes tokens) (messages_of read.0) } in
-      (d ∷ [], (tokens, read.0, is_path, compiles, refl))
+      let read = file_is_read f reads_well in
+      let tokens = read.0 in
+      let tree = read.1 in
+      let compiles : Compiles f.bytes tokens tree = record { short = short f reads_well; utf8 = utf8 f reads_well; reads = read.2; language = in_language tokens tree read.2; sound = is_sound tokens tree read.2 } in
+      let d : NamedFile = record { path = f.path; messages = desc (words f.bytes tokens) (messages_of tree) } in
+      (d ∷ [], (tokens, tree, is_path, compiles, refl))
 
 pub clean_is_compiled : CleanIsCompiled
 clean_is_compiled [] clean = ([], refl)

@@ -7,12 +7,12 @@ use Rattle.proto_names.specs.EntryNames.{entry_name}
 use Rattle.proto_names.specs.Names.{Workspace, meaning}
 use Rattle.proto_names.specs.Skeleton.{reference_of}
 use Rattle.proto_names.proofs.Basics.{contains_head, contains_later}
-use Rattle.proto_desc.specs.declared.field.FieldType.{FieldType}
-use Rattle.proto_desc.specs.declared.field.FieldType.TheVariants as field_type
-use Rattle.proto_desc.specs.declared.field.Label.TheVariants as label
-use Rattle.proto_desc.specs.declared.file.Syntax.TheVariants as syntax
-use Rattle.proto_desc.specs.Descriptors.{FieldDesc, FileDesc, Messages, NoMessages, Message}
-use Rattle.proto_desc.specs.Views.{messages_of}
+use Rattle.proto_json.specs.declared.field.FieldType.{FieldType}
+use Rattle.proto_json.specs.declared.field.FieldType.TheVariants as field_type
+use Rattle.proto_json.specs.declared.field.Label.TheVariants as label
+use Rattle.proto_json.specs.declared.file.Syntax.TheVariants as syntax
+use Rattle.proto_json.specs.Descriptors.{FieldDesc, FileDesc, Messages, NoMessages, Message}
+use Rattle.proto_json.specs.Views.{messages_of}
 use Rattle.proto_files.specs.declared.fault.FaultKind.TheVariants as kind
 use Rattle.proto_edit.specs.declared.shape.FieldAt.{FieldAt}
 use Rattle.proto_edit.specs.declared.shape.MessageAt.{MessageAt}

@@ -1,9 +1,8 @@
 -- Which item of a list stands before which.
-use Rattle.std.proofs.Common.{◌≡◌, ℕ, zero, suc, ◌<◌, List, [], ◌∷◌, ◌++◌, ◌⊎◌, inl, inr, length, get_or, map, refl, sym, ap, subst, ◌∙◌, arith}
+use Rattle.std.proofs.Common.{◌≡◌, ℕ, zero, suc, ◌<◌, List, [], ◌∷◌, ◌⊎◌, inl, inr, length, get_or, map, refl, sym, ap, subst, ◌∙◌, arith}
 use Rattle.std.specs.List.{Contains}
 use Rattle.std.proofs.lemmas.List.{get_or_default}
-use Rattle.std.proofs.lemmas.List.Elements.{Contains-append_left, Contains-append_cases}
-use Rattle.proto_names.proofs.Basics.{contains_head, contains_later, contains_map, from_map}
+use Rattle.proto_names.proofs.Basics.{contains_later, contains_map, from_map}
 use Rattle.proto_edit.specs.Named.{AfterEarlier}
 
 -- x stands before y
@@ -46,26 +45,3 @@ pub before_from_map : {A B : Type 0} (f : A → B) (xs : List A) (u v : B) → B
 before_from_map f [] u v b = absurd b
 before_from_map f (z ∷ zs) u v (inl h) = (let r = from_map f zs v h.1 in (z, r.0, inl (refl, r.1), h.0, r.2))
 before_from_map f (z ∷ zs) u v (inr b) = (let r = before_from_map f zs u v b in (r.0, r.1, inr r.2, r.3, r.4))
-
-pub before_left : {A : Type 0} (xs ys : List A) (x y : A) → Before xs x y → Before (xs ++ ys) x y
-before_left [] ys x y b = absurd b
-before_left (z ∷ zs) ys x y (inl h) = inl (h.0, Contains-append_left zs ys y h.1)
-before_left (z ∷ zs) ys x y (inr b) = inr (before_left zs ys x y b)
-
-pub before_right : {A : Type 0} (xs ys : List A) (x y : A) → Before ys x y → Before (xs ++ ys) x y
-before_right [] ys x y b = b
-before_right (z ∷ zs) ys x y b = inr (before_right zs ys x y b)
-
-pub before_cases : {A : Type 0} (xs ys : List A) (x y : A) → Before (xs ++ ys) x y → Before xs x y ⊎ ((Contains xs x × Contains ys y) ⊎ Before ys x y)
-before_cases [] ys x y b = inr (inr b)
-before_cases {A = A} (z ∷ zs) ys x y (inl h) = elim (Contains-append_cases zs ys y h.1) [
-  | inl c ↦ inl (inl (h.0, c))
-  | inr c ↦ inr (inl (subst (λ (w : A). Contains (z ∷ zs) w) h.0 (contains_head z zs), c))
-]
-before_cases (z ∷ zs) ys x y (inr b) = elim (before_cases zs ys x y b) [
-  | inl k ↦ inl (inr k)
-  | inr k ↦ elim k [
-    | inl p ↦ inr (inl (contains_later z x zs p.0, p.1))
-    | inr q ↦ inr (inr q)
-  ]
-]

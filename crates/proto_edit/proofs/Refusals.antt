@@ -1,5 +1,5 @@
 -- The cases of an edit of a workspace, by the file as it is read.
-use Rattle.std.proofs.Common.{◌≡◌, ℕ, ◌<◌, List, [], ◌∷◌, length, refl, sym, subst, ◌∙◌, arith}
+use Rattle.std.proofs.Common.{◌≡◌, ℕ, ◌<◌, List, [], ◌∷◌, inl, inr, length, refl, sym, subst, ◌∙◌, arith}
 use Rattle.proto_text.specs.declared.lexer.Token.{Token}
 use Rattle.proto_text.specs.Texts.{words}
 use Rattle.proto_tree.specs.Tree.{Tree, flat}
@@ -7,10 +7,11 @@ use Rattle.proto_files.specs.GivenFiles.{FileOf}
 use Rattle.proto_edit.specs.declared.refusal.Refusal.{Refusal}
 use Rattle.proto_edit.specs.declared.refusal.Refusal.TheVariants as refusal
 use Rattle.proto_edit.specs.declared.shape.FieldAt.{FieldAt}
+use Rattle.proto_edit.specs.Compiled.{IsOfFirstLanguage}
 use Rattle.proto_edit.specs.Shape.{messages_of}
 use Rattle.proto_edit.specs.Regular.{IsRegular, IsLeastRefused, IsRenamed, IsRenameRefusal}
 use Rattle.proto_edit.specs.Renames.{Compiles, Target, absent, no_field, a_field, target_in, unknown_target}
-use Rattle.proto_edit.specs.Workspaces.{Asked, rename, delete_field, add_import, drop_import, DeletionRefused, IsCaseOf, IsCase, IsLeastCase, IsAdmissible, AreChanges, IsRefusal}
+use Rattle.proto_edit.specs.Workspaces.{Asked, rename, delete_field, add_import, drop_import, DeletionRefused, IsCompiled, IsCaseOf, IsFirstCase, IsCase, IsLeastCase, IsAdmissible, AreChanges, IsRefusal}
 use Rattle.proto_edit.proofs.FieldCases.{holds, no_case}
 use Rattle.proto_edit.proofs.OneReading.{one_reading}
 use Rattle.proto_edit.proofs.Spans.{file_span}
@@ -25,14 +26,23 @@ module _ (f : FileOf) (tokens : List Token) (tree : Tree) (ok : Compiles f.bytes
   abbrev Reading : Asked → ℕ → Type 0
   Reading e n = IsCaseOf (words f.bytes tokens) (messages_of tree) (length f.bytes) e n
 
-  pub case_of : (e : Asked) (n : ℕ) → IsCase (f ∷ []) e n → Reading e n
-  case_of e n c =
+  is_first : IsOfFirstLanguage (f ∷ [])
+  is_first = (tokens, tree, ok.reads, ok.language)
+
+  read_so : (e : Asked) (n : ℕ) → IsFirstCase (f ∷ []) e n → Reading e n
+  read_so e n c =
       let one = one_reading f.bytes c.0 tokens c.1 tree c.2.reads ok.reads in
       subst (λ (z : Tree). IsCaseOf (words f.bytes tokens) (messages_of z) (length f.bytes) e n) one.1
       (subst (λ (z : List Token). IsCaseOf (words f.bytes z) (messages_of c.1) (length f.bytes) e n) one.0 c.3)
 
+  pub case_of : (e : Asked) (n : ℕ) → IsCase (f ∷ []) e n → Reading e n
+  case_of e n c = elim c [
+    | inl x ↦ read_so e n x.1
+    | inr y ↦ absurd (y.0 is_first)
+  ]
+
   pub least_of : (e : Asked) (n : ℕ) → Reading e n → ((k : ℕ) → k < n → Reading e k → ⊥) → IsLeastCase (f ∷ []) e n
-  least_of e n is below = record { is = (tokens, tree, ok, is); least = λ k lt c. below k lt (case_of e k c) }
+  least_of e n is below = record { is = inl (is_first, (tokens, tree, ok, is)); least = λ k lt c. below k lt (case_of e k c) }
 
   -- ---- a rename
 
@@ -97,7 +107,40 @@ module _ (f : FileOf) (tokens : List Token) (tree : Tree) (ok : Compiles f.bytes
 -- ---- no file
 
 pub none_to_rename : (name to : List ℕ) → IsLeastCase [] (rename name to) 1
-none_to_rename name to = record { is = unknown_target; least = λ k lt c. (let same : k ≡ 1 = holds (λ i. []) [] 0 to absent k c in omega (arith, same, lt)) }
+none_to_rename name to = record {
+  is = inl (tt, unknown_target);
+  least = λ k lt c. (elim c [
+    | inl x ↦ let same : k ≡ 1 = holds (λ i. []) [] 0 to absent k x.1 in omega (arith, same, lt)
+    | inr y ↦ y.0 tt
+  ]);
+}
 
 pub none_to_delete : (name : List ℕ) → IsLeastCase [] (delete_field name) 1
-none_to_delete name = record { is = refl; least = λ k lt c. (let same : k ≡ 1 = c in omega (arith, same, lt)) }
+none_to_delete name = record {
+  is = inl (tt, refl);
+  least = λ k lt c. (elim c [
+    | inl x ↦ let same : k ≡ 1 = x.1 in omega (arith, same, lt)
+    | inr y ↦ y.0 tt
+  ]);
+}
+
+none_to_import : (e : Asked) → ((n : ℕ) → IsFirstCase [] e n → n ≡ 2) → IsFirstCase [] e 2 → IsLeastCase [] e 2
+none_to_import e only is = record {
+  is = inl (tt, is);
+  least = λ k lt c. (elim c [
+    | inl x ↦ let same : k ≡ 2 = only k x.1 in omega (arith, same, lt)
+    | inr y ↦ y.0 tt
+  ]);
+}
+
+-- ---- a change of imports
+
+pub addition_refused : (w : List FileOf) (file path : List ℕ) → IsCompiled w → IsRefusal w (add_import file path) refusal.KindNotAllowed
+addition_refused [] file path has = none_to_import (add_import file path) (λ n c. c) refl
+addition_refused (f ∷ []) file path has = least_addition f has.1.0 has.1.1 has.1.3 file path
+addition_refused (f ∷ g ∷ fs) file path has = absurd has.1
+
+pub drop_refused : (w : List FileOf) (file path : List ℕ) → IsCompiled w → IsRefusal w (drop_import file path) refusal.KindNotAllowed
+drop_refused [] file path has = none_to_import (drop_import file path) (λ n c. c) refl
+drop_refused (f ∷ []) file path has = least_drop f has.1.0 has.1.1 has.1.3 file path
+drop_refused (f ∷ g ∷ fs) file path has = absurd has.1

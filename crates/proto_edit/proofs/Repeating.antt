@@ -1,13 +1,12 @@
--- The tokens that are marked: those of items whose key an earlier one has, or that fail a test.
-use Rattle.std.proofs.Common.{◌≡◌, ℕ, Bool, true, false, ◌||◌, List, [], ◌∷◌, ◌++◌, ◌⊎◌, inl, inr, map, refl, sym, ap, subst, ◌∙◌, arith}
-use Rattle.std.specs.Prelude.{filter}
+-- The tokens that are marked: those of items whose key an earlier one has.
+use Rattle.std.proofs.Common.{◌≡◌, ℕ, Bool, true, false, ◌||◌, List, [], ◌∷◌, ◌++◌, ◌⊎◌, inl, inr, map, refl, sym, subst, ◌∙◌, arith}
 use Rattle.std.specs.List.{list_any, Contains}
-use Rattle.std.proofs.lemmas.Bool.{cases_Bool, both_ways, cond-true, cond-false, or_left, or_right, or_cases}
-use Rattle.std.proofs.lemmas.List.Elements.{Contains-append_left, Contains-append_right, Contains-append_cases, All-contains, All-filter, All-contains_itself, filter_passes}
+use Rattle.std.proofs.lemmas.Bool.{both_ways, or_left, or_right, or_cases}
+use Rattle.std.proofs.lemmas.List.Elements.{Contains-append_left, Contains-append_right, Contains-append_cases}
 use Rattle.std.proofs.lemmas.List.Folds.{list_any-append}
 use Rattle.proto_files.specs.declared.fault.FaultKind.{FaultKind}
 use Rattle.proto_names.proofs.Basics.{contains_head, contains_later, contains_cases}
-use Rattle.proto_edit.specs.declared.sentences.Sentence.{Sentence}
+use Rattle.proto_edit.specs.Sentences.{Sentence}
 use Rattle.proto_edit.specs.Sentences.{sentence, sentence_if, marked, repeats_after}
 use Rattle.proto_edit.proofs.Placed.{Before}
 
@@ -100,41 +99,3 @@ module _ {A K : Type 0} (eq : K → K → Bool) (key : ℕ → K) (tok : A → �
 
   pub repeats_to : (xs : List A) (x y : A) → Before xs x y → eq (key (tok x)) (key (tok y)) ≡ true → Contains (marked kind (map tok xs) (repeats_after eq [] (map key (map tok xs)))) (sentence kind (tok y))
   repeats_to xs x y b e = to_front [] xs y (inr (x, b, e))
-
--- ---- tokens that pass a test
-
-pub tests_from : (kind : FaultKind) (test : ℕ → Bool) (ts : List ℕ) (s : Sentence) → Contains (marked kind ts (map test ts)) s → (t : ℕ) × Contains ts t × (test t ≡ true) × (sentence kind t ≡ s)
-tests_from kind test [] s c = absurd (none s c)
-tests_from kind test (t ∷ ts) s c = elim (Contains-append_cases (sentence_if (test t) (sentence kind t)) (marked kind ts (map test ts)) s c) [
-  | inl k ↦ let r = only_if (test t) (sentence kind t) s k in (t, contains_head t ts, r.0, r.1)
-  | inr k ↦ let r = tests_from kind test ts s k in (r.0, contains_later t r.0 ts r.1, r.2, r.3)
-]
-
-pub tests_to : (kind : FaultKind) (test : ℕ → Bool) (ts : List ℕ) (t : ℕ) → Contains ts t → test t ≡ true → Contains (marked kind ts (map test ts)) (sentence kind t)
-tests_to kind test [] t c h = absurd (none t c)
-tests_to kind test (u ∷ ts) t c h = elim (contains_cases u t ts c) [
-  | inl same ↦ Contains-append_left (sentence_if (test u) (sentence kind u)) (marked kind ts (map test ts)) (sentence kind t)
-      (subst (λ (z : ℕ). Contains (sentence_if (test z) (sentence kind z)) (sentence kind t)) (sym same) (if_so (test t) (sentence kind t) h))
-  | inr k ↦ Contains-append_right (sentence_if (test u) (sentence kind u)) (marked kind ts (map test ts)) (sentence kind t) (tests_to kind test ts t k h)
-]
-
--- ---- what a filter keeps
-
-pub filter_from : {X : Type 0} (p : X → Bool) (xs : List X) (x : X) → Contains (filter p xs) x → Contains xs x × (p x ≡ true)
-filter_from p xs x c = (
-  All-contains (Contains xs) (filter p xs) x (All-filter p (Contains xs) xs (All-contains_itself xs)) c,
-  All-contains (λ y. p y ≡ true) (filter p xs) x (filter_passes p xs) c,
-)
-
-pub filter_to : {X : Type 0} (p : X → Bool) (xs : List X) (x : X) → Contains xs x → p x ≡ true → Contains (filter p xs) x
-filter_to p [] x c h = absurd (none x c)
-filter_to {X = X} p (y ∷ ys) x c h = elim (cases_Bool (p y)) [
-  | inl pass ↦ subst (λ (zs : List X). Contains zs x) (sym (cond-true (p y) (y ∷ filter p ys) (filter p ys) pass)) (elim (contains_cases y x ys c) [
-    | inl same ↦ subst (λ (z : X). Contains (y ∷ filter p ys) z) same (contains_head y (filter p ys))
-    | inr k ↦ contains_later y x (filter p ys) (filter_to p ys x k h)
-  ])
-  | inr fail ↦ subst (λ (zs : List X). Contains zs x) (sym (cond-false (p y) (y ∷ filter p ys) (filter p ys) fail)) (elim (contains_cases y x ys c) [
-    | inl same ↦ absurd (both_ways (p y) fail (ap p same ∙ h))
-    | inr k ↦ filter_to p ys x k h
-  ])
-]

@@ -12,8 +12,9 @@ use Rattle.proto_edit.specs.declared.shape.FieldAt.{FieldAt}
 use Rattle.proto_edit.specs.declared.shape.MessageAt.{MessageAt}
 use Rattle.proto_edit.specs.Shape.{messages_of}
 use Rattle.proto_edit.specs.Renames.{Compiles, a_field, target_in, same_name, too_large}
+use Rattle.proto_edit.specs.Compiled.{AreCompiled}
 use Rattle.proto_edit.specs.Entries.{ChangeOf, IsToldApart, IsMeasured, IsChange, IsEntry}
-use Rattle.proto_edit.specs.Workspaces.{Asked, rename, IsCompiled, IsAdmissible, AreChanges}
+use Rattle.proto_edit.specs.Workspaces.{Asked, rename, IsAdmissible, AreChanges}
 use Rattle.proto_edit.proofs.Steps.{splices_of, change_of_field, free, made_text}
 
 all_one : {X : Type 0} (P : X → Type 0) (x : X) → P x → All P (x ∷ [])
@@ -86,10 +87,10 @@ module _ (file : FileOf) (name to : List ℕ) (tokens : List Token) (tree : Tree
     each = all_one IsChange change (record { path = path; measured = measured });
   }
 
-path_of : (file : FileOf) → IsCompiled (file ∷ []) → IsWorkspacePath file.path
-path_of file has = has.1.2
+path_of : (file : FileOf) → AreCompiled (file ∷ []) → IsWorkspacePath file.path
+path_of file has = has.workspace.named 0 file (omega arith)
 
-pub entry_is : (w : List FileOf) (e : Asked) (cs : List ChangeOf) → IsCompiled w → IsAdmissible w e → AreChanges w e cs → IsEntry cs
+pub entry_is : (w : List FileOf) (e : Asked) (cs : List ChangeOf) → AreCompiled w → IsAdmissible w e → AreChanges w e cs → IsEntry cs
 entry_is w e cs has ok x =
     subst IsEntry (sym x.are)
-    (entry_here x.file x.name x.to x.tokens x.tree x.m x.f x.compiles x.target (subst (IsAdmissible (x.file ∷ [])) x.asked (subst (λ (z : List FileOf). IsAdmissible z e) x.whole ok)) (path_of x.file (subst IsCompiled x.whole has)))
+    (entry_here x.file x.name x.to x.tokens x.tree x.m x.f x.compiles x.target (subst (IsAdmissible (x.file ∷ [])) x.asked (subst (λ (z : List FileOf). IsAdmissible z e) x.whole ok)) (path_of x.file (subst AreCompiled x.whole has)))

@@ -23,12 +23,14 @@ use Rattle.proto_edit.specs.declared.shape.MessageAt.{MessageAt}
 use Rattle.proto_edit.specs.Shape.{messages_of}
 use Rattle.proto_edit.specs.Descriptors.{NamedMessage, desc, mapped}
 use Rattle.proto_edit.specs.Renames.{Compiles, TextCompilesTo, Target, a_field, target_in, renaming, Refused, not_an_identifier}
+use Rattle.proto_edit.specs.Compiled.{AreCompiled, IsOfFirstLanguage}
 use Rattle.proto_edit.specs.Entries.{ChangeOf}
-use Rattle.proto_edit.specs.Workspaces.{NamedFile, CompilesTo, IsCompiled, Asked, rename, IsAdmissible, AreChanges, name_map, PutsFile, EachPuts, IsPut, IsStep, IsMappedStep, mapped_files, Run, accepted, inverted, IsUndo, Undone}
+use Rattle.proto_edit.specs.Workspaces.{NamedFile, CompilesTo, Asked, rename, IsAdmissible, AreChanges, name_map, PutsFile, EachPuts, IsPut, IsStep, IsMappedStep, mapped_files, Run, accepted, inverted, IsUndo, Undone}
 use Rattle.proto_edit.specs.Laws.{StepsCompile, RunsAreUndone, UndoneOnce}
 use Rattle.proto_edit.proofs.Compiled.{renames_compile}
 use Rattle.proto_edit.proofs.OneReading.{one_reading}
 use Rattle.proto_edit.proofs.Puts.{IsEven, put_back, puts_are_once}
+use Rattle.proto_edit.proofs.WholeFirst.{first_compiled, first_is_whole}
 
 -- ---- one edit, of a file that is read so
 
@@ -46,7 +48,7 @@ change_of_field file tokens f to = record {
 module _ (file : FileOf) (name to : List ℕ) (tokens : List Token) (tree : Tree) (m : MessageAt) (f : FieldAt)
     (compiles : Compiles file.bytes tokens tree) (target : target_in (words file.bytes tokens) name (messages_of tree) ≡ a_field m f) (admissible : IsAdmissible (file ∷ []) (rename name to)) where
   pub free : (n : ℕ) → Refused (words file.bytes tokens) (messages_of tree) (length file.bytes) to (a_field m f) n → ⊥
-  free n r = admissible n (tokens, tree, compiles, subst (λ (t : Target). Refused (words file.bytes tokens) (messages_of tree) (length file.bytes) to t n) (sym target) r)
+  free n r = admissible n (inl ((tokens, tree, compiles.reads, compiles.language), (tokens, tree, compiles, subst (λ (t : Target). Refused (words file.bytes tokens) (messages_of tree) (length file.bytes) to t n) (sym target) r)))
 
   run : IsRun Letter to
   run = elim (cases_Bool (is_run to)) [
@@ -133,14 +135,20 @@ steps_compile w after e cs s d has =
     let x = s.changes in
     step_compiles x.file x.name x.to x.tokens x.tree x.m x.f x.compiles x.target (admissible_of w e cs x s.admissible) after d (put_of w e cs after x s.put) (subst (λ (z : List FileOf). CompilesTo z d) x.whole has)
 
-pub mapped_step : (w : List FileOf) (e : Asked) (cs : List ChangeOf) (after : List FileOf) → IsStep w e cs after → IsMappedStep w e cs after
-mapped_step w e cs after s = record { step = s; compiles = λ d has. steps_compile w after e cs s d has }
+pub mapped_step : (w : List FileOf) (e : Asked) (cs : List ChangeOf) (after : List FileOf) → IsStep w e cs after → AreCompiled after → IsMappedStep w e cs after
+mapped_step w e cs after s compiled = record { step = s; compiled = compiled; compiles = λ d has. steps_compile w after e cs s d has }
 
-pub step_compiled : (w : List FileOf) (e : Asked) (cs : List ChangeOf) (after : List FileOf) → IsStep w e cs after → IsCompiled w → IsCompiled after
-step_compiled w e cs after s has = (mapped_files (name_map w e cs s.changes) has.0, steps_compile w after e cs s has.0 has.1)
+-- what an edit changes is of the first language
+first_of : (w : List FileOf) (e : Asked) (cs : List ChangeOf) → AreChanges w e cs → IsOfFirstLanguage w
+first_of w e cs x = subst IsOfFirstLanguage (sym x.whole) (x.tokens, x.tree, x.compiles.reads, x.compiles.language)
+
+pub step_compiled : (w : List FileOf) (e : Asked) (cs : List ChangeOf) (after : List FileOf) → IsStep w e cs after → AreCompiled w → AreCompiled after
+step_compiled w e cs after s has =
+    let first = first_compiled w has (first_of w e cs s.changes) in
+    first_is_whole after (mapped_files (name_map w e cs s.changes) first.0, steps_compile w after e cs s first.0 first.1)
 
 -- an admissible edit can be made
-pub made : (w : List FileOf) (e : Asked) (cs : List ChangeOf) → IsCompiled w → IsAdmissible w e → AreChanges w e cs → (after : List FileOf) × IsPut w cs after × IsCompiled after
+pub made : (w : List FileOf) (e : Asked) (cs : List ChangeOf) → AreCompiled w → IsAdmissible w e → AreChanges w e cs → (after : List FileOf) × IsPut w cs after × AreCompiled after
 made w e cs has ok x =
     let admissible = admissible_of w e cs x ok in
     let text = made_text x.file x.name x.to x.tokens x.tree x.m x.f x.compiles x.target admissible in
@@ -149,14 +157,14 @@ made w e cs has ok x =
     let put = subst (λ (z : List FileOf). IsPut z cs after) (sym x.whole) (subst (λ (z : List ChangeOf). IsPut (x.file ∷ []) z after) (sym x.are) one) in
     (after, put, step_compiled w e cs after (record { admissible = ok; changes = x; put = put }) has)
 
-pub cannot_fail : (w : List FileOf) (e : Asked) (cs : List ChangeOf) → IsCompiled w → IsAdmissible w e → AreChanges w e cs → ((after : List FileOf) → IsPut w cs after → IsCompiled after → ⊥) → ⊥
+pub cannot_fail : (w : List FileOf) (e : Asked) (cs : List ChangeOf) → AreCompiled w → IsAdmissible w e → AreChanges w e cs → ((after : List FileOf) → IsPut w cs after → AreCompiled after → ⊥) → ⊥
 cannot_fail w e cs has ok x none = let m = made w e cs has ok x in none m.0 m.1 m.2
 
 even_of : (w : List FileOf) (e : Asked) (cs : List ChangeOf) → IsAdmissible w e → AreChanges w e cs → (c : ChangeOf) → Contains cs c → IsEven c
 even_of w e cs ok x c k = is_even x.file x.name x.to x.tokens x.tree x.m x.f x.compiles x.target (admissible_of w e cs x ok) c (subst (λ (z : List ChangeOf). Contains z c) x.are k)
 
 -- what undoes it
-pub step_back : (w : List FileOf) (e : Asked) (cs : List ChangeOf) (after : List FileOf) → IsStep w e cs after → IsCompiled w → IsUndo after cs w
+pub step_back : (w : List FileOf) (e : Asked) (cs : List ChangeOf) (after : List FileOf) → IsStep w e cs after → AreCompiled w → IsUndo after cs w
 step_back w e cs after s has = record { put = put_back w cs after (even_of w e cs s.admissible s.changes) s.put; compiled = has }
 
 -- ---- runs
@@ -184,8 +192,8 @@ run_more w middle to (x ∷ es) [] e a run more = absurd run
 run_more w middle to (x ∷ es) (Err r ∷ given) e a run more = (run.0, run.1, run_more w middle to es given e a run.2 more)
 run_more w middle to (x ∷ es) (Ok cs ∷ given) e a run more = (run.0, run.1, run_more run.0 middle to es given e a run.2 more)
 
-pub run_compiled : (w to : List FileOf) (es : List Asked) (given : List (Result (List ChangeOf) Refusal)) → Run w es given to → IsCompiled w → IsCompiled to
-run_compiled w to [] [] run has = subst IsCompiled run has
+pub run_compiled : (w to : List FileOf) (es : List Asked) (given : List (Result (List ChangeOf) Refusal)) → Run w es given to → AreCompiled w → AreCompiled to
+run_compiled w to [] [] run has = subst AreCompiled run has
 run_compiled w to [] (a ∷ more) run has = absurd run
 run_compiled w to (e ∷ es) [] run has = absurd run
 run_compiled w to (e ∷ es) (Err r ∷ more) run has = run_compiled w to es more run.2 has
@@ -201,9 +209,9 @@ undone_once w a b [] x y = sym x ∙ y
 undone_once w a b (s ∷ ss) x y = undone_once x.0 a b ss x.2 (subst (λ (z : List FileOf). Undone z ss b) (sym (undo_once w x.0 y.0 s x.1 y.1)) y.2)
 
 -- from the files of a run its accepted entries, the last one first, lead to the files before it and to no others
-pub leads_back : (w to first : List FileOf) (entries : List (List ChangeOf)) (es : List Asked) (given : List (Result (List ChangeOf) Refusal)) → Undone w (reverse entries) to → IsCompiled first → Run first es given w → accepted given ≡ entries → to ≡ first
+pub leads_back : (w to first : List FileOf) (entries : List (List ChangeOf)) (es : List Asked) (given : List (Result (List ChangeOf) Refusal)) → Undone w (reverse entries) to → AreCompiled first → Run first es given w → accepted given ≡ entries → to ≡ first
 leads_back w to first entries es given undone has run e =
     undone_once w to first (reverse entries) undone (subst (λ (z : List (List ChangeOf)). Undone w (reverse z) first) e (runs_are_undone first w es given has run))
 
-pub leads_somewhere : (w first : List FileOf) (entries : List (List ChangeOf)) (es : List Asked) (given : List (Result (List ChangeOf) Refusal)) → ((to : List FileOf) → Undone w (reverse entries) to → ⊥) → IsCompiled first → Run first es given w → accepted given ≡ entries → ⊥
+pub leads_somewhere : (w first : List FileOf) (entries : List (List ChangeOf)) (es : List Asked) (given : List (Result (List ChangeOf) Refusal)) → ((to : List FileOf) → Undone w (reverse entries) to → ⊥) → AreCompiled first → Run first es given w → accepted given ≡ entries → ⊥
 leads_somewhere w first entries es given none has run e = none first (subst (λ (z : List (List ChangeOf)). Undone w (reverse z) first) e (runs_are_undone first w es given has run))

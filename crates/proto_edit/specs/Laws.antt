@@ -20,6 +20,7 @@ use Rattle.proto_names.specs.Skeleton.{Declared, Used, name_of, reference_of}
 use Rattle.proto_names.specs.EntryNames.{entry_name}
 use Rattle.proto_files.specs.Faults.{HasNoFault}
 use Rattle.proto_files.specs.GivenFiles.{FileOf}
+use Rattle.proto_schema.specs.Whole.{WorkspaceFaults}
 use Rattle.proto_edit.specs.declared.refusal.Refusal.{Refusal}
 use Rattle.proto_edit.specs.declared.shape.FieldAt.{FieldAt}
 use Rattle.proto_edit.specs.declared.shape.MessageAt.{MessageAt}
@@ -28,11 +29,12 @@ use Rattle.proto_edit.specs.Descriptors.{desc, mapped}
 use Rattle.proto_text.specs.Texts.{words, IsReworded}
 use Rattle.proto_edit.specs.Named.{skeleton_of, names, number_of, json_name, Says}
 use Rattle.proto_edit.specs.Renames.{Compiles, TextCompilesTo, absent, no_field, a_field, target_in, renaming, Refused, change}
+use Rattle.proto_edit.specs.Compiled.{AreCompiled}
 use Rattle.proto_edit.specs.Faults.{IsFault}
 use Rattle.proto_edit.specs.Entries.{ChangeOf, IsEntry}
 use Rattle.proto_edit.specs.Workspaces.{Asked, NamedFile, CompilesTo, IsCompiled, IsAdmissible, AreChanges, IsStep, IsMappedStep, IsPut, IsUndo, mapped_files, name_map, Run, accepted, Undone}
 use Rattle.proto_edit.specs.Printed.{AreDescribedBy, printed}
-use Rattle.proto_desc.specs.Descriptors.{FileDesc}
+use Rattle.proto_json.specs.Descriptors.{FileDesc}
 
 -- ---- one file
 
@@ -131,7 +133,11 @@ FieldsAreAimedAt = (text : List ℕ) (tokens : List Token) (tree : Tree) (name :
 
 -- ---- workspaces and runs
 
--- Files compile to one list of descriptors.
+-- Files that compile have no fault, as a workspace that is given.
+abbrev pub WorkspacesAreClean : Type 0
+WorkspacesAreClean = (w : List FileOf) → AreCompiled w → HasNoFault (WorkspaceFaults w)
+
+-- Files of the first language compile to one list of descriptors there.
 abbrev pub CompilesOnce : Type 0
 CompilesOnce = (w : List FileOf) (a b : List NamedFile) → CompilesTo w a → CompilesTo w b → a ≡ b
 
@@ -150,13 +156,13 @@ StepsArePrinted = (w after : List FileOf) (e : Asked) (cs : List ChangeOf) (s : 
 
 -- Undoing what an edit answered leads back, and to no other files.
 abbrev pub StepsAreUndone : Type 0
-StepsAreUndone = (w after : List FileOf) (e : Asked) (cs : List ChangeOf) → IsCompiled w → IsStep w e cs after → IsUndo after cs w × ((b : List FileOf) → IsUndo after cs b → b ≡ w)
+StepsAreUndone = (w after : List FileOf) (e : Asked) (cs : List ChangeOf) → AreCompiled w → IsStep w e cs after → IsUndo after cs w × ((b : List FileOf) → IsUndo after cs b → b ≡ w)
 
--- Files that compile have no fault.
+-- Files that compile in the first language have none of its faults.
 abbrev pub CompiledIsClean : Type 0
 CompiledIsClean = (w : List FileOf) → IsCompiled w → HasNoFault (IsFault w)
 
--- And files that have no fault compile.
+-- And files that have none of its faults compile there.
 abbrev pub CleanIsCompiled : Type 0
 CleanIsCompiled = (given : List FileOf) → HasNoFault (IsFault given) → IsCompiled given
 
@@ -166,11 +172,11 @@ StepsCompile = (w after : List FileOf) (e : Asked) (cs : List ChangeOf) (s : IsS
 
 -- An admissible edit can be made: it changes something, its changes are an entry, and what they leave compiles.
 abbrev pub EditsAreMade : Type 0
-EditsAreMade = (w : List FileOf) (e : Asked) → IsCompiled w → IsAdmissible w e → (cs : List ChangeOf) × AreChanges w e cs × IsEntry cs × (after : List FileOf) × IsPut w cs after × IsCompiled after
+EditsAreMade = (w : List FileOf) (e : Asked) → AreCompiled w → IsAdmissible w e → (cs : List ChangeOf) × AreChanges w e cs × IsEntry cs × (after : List FileOf) × IsPut w cs after × AreCompiled after
 
 -- undoing what a run answered, last one first, leads back
 abbrev pub RunsAreUndone : Type 0
-RunsAreUndone = (w to : List FileOf) (es : List Asked) (given : List (Result (List ChangeOf) Refusal)) → IsCompiled w → Run w es given to → Undone to (reverse (accepted given)) w
+RunsAreUndone = (w to : List FileOf) (es : List Asked) (given : List (Result (List ChangeOf) Refusal)) → AreCompiled w → Run w es given to → Undone to (reverse (accepted given)) w
 
 -- what is put is one
 abbrev pub PutsOnce : Type 0

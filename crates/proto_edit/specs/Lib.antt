@@ -14,5 +14,7 @@ pub mod Laws
 pub mod Answers
 pub mod Sentences
 pub mod Shaped
+pub mod Compiled
+pub mod Putting
 pub mod Plain
 pub mod Bridge

@@ -1,18 +1,11 @@
 -- The descriptors of a sound file, from the words of its messages alone.
-use Rattle.std.specs.Prelude.{◌≡◌, ℕ, false, if◌then◌else◌, List, [], ◌∷◌, map, Option, Some, None}
-use Rattle.proto_text.specs.declared.lexer.Token.{Token}
-use Rattle.proto_text.specs.Texts.{words}
-use Rattle.proto_tree.specs.Tree.{Tree}
-use Rattle.proto_edit.specs.Shape.{messages_of as messages_in, IsFirstLanguage}
-use Rattle.proto_edit.specs.Named.{IsSound}
-use Rattle.proto_edit.specs.Descriptors.{desc}
-use Rattle.proto_edit.specs.Printed.{printed_file}
-use Rattle.proto_desc.specs.declared.field.FieldType.{FieldType}
-use Rattle.proto_desc.specs.declared.field.FieldType.TheVariants as field_type
-use Rattle.proto_desc.specs.declared.field.Label.TheVariants as label
-use Rattle.proto_desc.specs.declared.file.Syntax.TheVariants as syntax
-use Rattle.proto_desc.specs.Descriptors.{FieldDesc, NoMessages, FileDesc}
-use Rattle.proto_desc.specs.Views.{MessageTree, messages_of}
+use Rattle.std.specs.Prelude.{ℕ, false, if◌then◌else◌, List, [], ◌∷◌, map, Option, Some, None}
+use Rattle.proto_json.specs.declared.field.FieldType.{FieldType}
+use Rattle.proto_json.specs.declared.field.FieldType.TheVariants as field_type
+use Rattle.proto_json.specs.declared.field.Label.TheVariants as label
+use Rattle.proto_json.specs.declared.file.Syntax.TheVariants as syntax
+use Rattle.proto_json.specs.Descriptors.{FieldDesc, NoMessages, FileDesc}
+use Rattle.proto_json.specs.Views.{MessageTree, messages_of}
 use Rattle.proto_edit.specs.declared.shape.FieldAt.{FieldAt}
 use Rattle.proto_edit.specs.declared.shape.MessageAt.{MessageAt}
 use Rattle.proto_edit.specs.Named.{json_name}
@@ -66,9 +59,3 @@ plain_file text path ms = record {
   options = no_file_options;
   syntax = syntax.Proto3;
 }
-
--- a file that was read belongs to the language, is sound, and this is its descriptor
-pub record IsDescribedBy (path bytes : List ℕ) (tokens : List Token) (tree : Tree) (d : FileDesc) : Type 0 where
-  pub language : IsFirstLanguage (words bytes tokens) tree
-  pub sound : IsSound (words bytes tokens) (messages_in tree)
-  pub descriptor : d ≡ printed_file (record { path = path; messages = desc (words bytes tokens) (messages_in tree) })

@@ -2,13 +2,13 @@
 use Rattle.std.specs.Prelude.{◌≡◌, ℕ, false, if◌then◌else◌, List, [], ◌∷◌, map, codes, Option, Some, None, option_map}
 use Rattle.std.specs.Str.{bytes_eq}
 use Rattle.proto_names.specs.Joined.{joined}
-use Rattle.proto_desc.specs.declared.field.FieldType.{FieldType}
-use Rattle.proto_desc.specs.declared.field.FieldType.TheVariants as field_type
-use Rattle.proto_desc.specs.declared.field.Label.TheVariants as label
-use Rattle.proto_desc.specs.declared.field.FieldOptions.{FieldOptions}
-use Rattle.proto_desc.specs.declared.message.MessageOptions.{MessageOptions}
-use Rattle.proto_desc.specs.declared.file.Syntax.TheVariants as syntax
-use Rattle.proto_desc.specs.Descriptors.{FieldDesc, MessageDesc, Messages, NoMessages, Message, FileOptionsDesc, FileDesc}
+use Rattle.proto_json.specs.declared.field.FieldType.{FieldType}
+use Rattle.proto_json.specs.declared.field.FieldType.TheVariants as field_type
+use Rattle.proto_json.specs.declared.field.Label.TheVariants as label
+use Rattle.proto_json.specs.declared.field.FieldOptions.{FieldOptions}
+use Rattle.proto_json.specs.declared.message.MessageOptions.{MessageOptions}
+use Rattle.proto_json.specs.declared.file.Syntax.TheVariants as syntax
+use Rattle.proto_json.specs.Descriptors.{FieldDesc, MessageDesc, Messages, NoMessages, Message, FileOptionsDesc, FileDesc}
 use Rattle.proto_edit.specs.Descriptors.{Typed, scalar, named, NamedField, NamedMessage}
 use Rattle.proto_files.specs.GivenFiles.{FileOf}
 use Rattle.proto_edit.specs.Workspaces.{NamedFile, CompilesTo}

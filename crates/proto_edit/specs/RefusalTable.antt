@@ -1,10 +1,7 @@
--- The numbers and names of refusals, and of faults: the tables of this product.
+-- The numbers and names of refusals: the table of this product.
 use Rattle.std.specs.Prelude.{ℕ, List, codes}
 use Rattle.proto_edit.specs.declared.refusal.Refusal.{Refusal}
 use Rattle.proto_edit.specs.declared.refusal.Refusal.TheVariants as refusal
-use Rattle.proto_edit.specs.declared.refusal.OpenFault.{OpenFault}
-use Rattle.proto_edit.specs.declared.refusal.OpenFault.TheVariants as open_fault
-use Rattle.proto_files.specs.FaultTable.{number_of as fault_number, name_of as fault_name}
 
 abbrev pub number_of : Refusal → ℕ
 number_of refusal.UnknownTarget = 1
@@ -45,14 +42,3 @@ name_of (refusal.Needed path offset) = codes "Needed"
 name_of refusal.TooLarge = codes "TooLarge"
 name_of refusal.Stale = codes "Stale"
 name_of refusal.NoMemory = codes "NoMemory"
-
--- ---- what is answered in place of a workspace
-
--- want of memory is no fault of a schema
-abbrev pub open_number : OpenFault → ℕ
-open_number (open_fault.Schema fault) = fault_number fault.kind
-open_number open_fault.NoMemory = 0
-
-abbrev pub open_name : OpenFault → List ℕ
-open_name (open_fault.Schema fault) = fault_name fault.kind
-open_name open_fault.NoMemory = codes "NoMemory"

@@ -1,5 +1,5 @@
 -- A workspace under edits: when an edit is refused, what it changes, and runs of edits.
-use Rattle.std.specs.Prelude.{◌≡◌, ◌≢◌, ℕ, ◌+◌, ◌-◌, ◌<◌, List, [], ◌∷◌, length, map, Result, Ok, Err}
+use Rattle.std.specs.Prelude.{◌≡◌, ◌≢◌, ◌⊎◌, ℕ, ◌+◌, ◌-◌, ◌<◌, List, [], ◌∷◌, length, map, Result, Ok, Err}
 use Rattle.std.specs.List.{Contains}
 use Rattle.proto_text.specs.declared.lexer.Token.{Token}
 use Rattle.proto_text.specs.Edits.{Puts}
@@ -12,6 +12,7 @@ use Rattle.proto_edit.specs.declared.shape.FieldAt.{FieldAt}
 use Rattle.proto_edit.specs.declared.shape.MessageAt.{MessageAt}
 use Rattle.proto_edit.specs.declared.refusal.Refusal.{Refusal}
 use Rattle.proto_edit.specs.declared.refusal.Refusal.TheVariants as refusal
+use Rattle.proto_edit.specs.Compiled.{AreCompiled, IsOfFirstLanguage}
 use Rattle.proto_edit.specs.Entries.{ChangeOf, turned_round}
 use Rattle.proto_edit.specs.RefusalTable.{number_of}
 use Rattle.proto_edit.specs.Shape.{messages_of}
@@ -19,13 +20,13 @@ use Rattle.proto_edit.specs.Descriptors.{NamedMessage, desc, mapped}
 use Rattle.proto_text.specs.Texts.{words}
 use Rattle.proto_edit.specs.Renames.{Compiles, Target, absent, no_field, a_field, target_in, renaming, Refused}
 
--- ---- workspaces that compile
+-- ---- workspaces of the first language
 
 pub record NamedFile : Type 0 where
   pub path : List ℕ
   pub messages : List NamedMessage
 
--- the files compile to these descriptors: no file, or one of the first language
+-- the files compile to these descriptors in the first language: no file, or one
 abbrev pub CompilesTo : List FileOf → List NamedFile → Type 0
 CompilesTo [] d = d ≡ []
 CompilesTo (f ∷ []) d = (tokens : List Token) × (tree : Tree) × IsWorkspacePath f.path × Compiles f.bytes tokens tree
@@ -49,17 +50,21 @@ DeletionRefused absent n = n ≡ 1
 DeletionRefused no_field n = n ≡ 2
 DeletionRefused (a_field m f) n = n ≡ 2
 
--- case n of the refusals holds, of words, messages and a file's size
+-- case n of the refusals holds in the first language, of words, messages and a file's size
 abbrev pub IsCaseOf : (ℕ → List ℕ) → List MessageAt → ℕ → Asked → ℕ → Type 0
 IsCaseOf text ms size (rename name to) n = Refused text ms size to (target_in text name ms) n
 IsCaseOf text ms size (delete_field name) n = DeletionRefused (target_in text name ms) n
 IsCaseOf text ms size (add_import file path) n = n ≡ 2
 IsCaseOf text ms size (drop_import file path) n = n ≡ 2
 
+abbrev pub IsFirstCase : List FileOf → Asked → ℕ → Type 0
+IsFirstCase [] e n = IsCaseOf (λ i. []) [] 0 e n
+IsFirstCase (f ∷ []) e n = (tokens : List Token) × (tree : Tree) × Compiles f.bytes tokens tree × IsCaseOf (words f.bytes tokens) (messages_of tree) (length f.bytes) e n
+IsFirstCase (f ∷ g ∷ fs) e n = ⊥
+
+-- case n holds: in a workspace of the first language as it does there; in any other, no edit is allowed yet
 abbrev pub IsCase : List FileOf → Asked → ℕ → Type 0
-IsCase [] e n = IsCaseOf (λ i. []) [] 0 e n
-IsCase (f ∷ []) e n = (tokens : List Token) × (tree : Tree) × Compiles f.bytes tokens tree × IsCaseOf (words f.bytes tokens) (messages_of tree) (length f.bytes) e n
-IsCase (f ∷ g ∷ fs) e n = ⊥
+IsCase w e n = (IsOfFirstLanguage w × IsFirstCase w e n) ⊎ ((IsOfFirstLanguage w → ⊥) × (n ≡ 2))
 
 pub record IsLeastCase (w : List FileOf) (e : Asked) (n : ℕ) : Type 0 where
   pub is : IsCase w e n
@@ -120,14 +125,15 @@ pub record IsStep (w : List FileOf) (e : Asked) (cs : List ChangeOf) (after : Li
 abbrev pub mapped_files : Renaming → List NamedFile → List NamedFile
 mapped_files e d = map (λ f. record { path = f.path; messages = mapped e f.messages }) d
 
--- an accepted edit, which leaves what compiles to the old descriptors under the name map
+-- an accepted edit, which leaves what compiles, and to the old descriptors under the name map
 pub record IsMappedStep (w : List FileOf) (e : Asked) (cs : List ChangeOf) (after : List FileOf) : Type 0 where
   pub step : IsStep w e cs after
+  pub compiled : AreCompiled after
   pub compiles : (d : List NamedFile) → CompilesTo w d → CompilesTo after (mapped_files (name_map w e cs step.changes) d)
 
 -- ---- refusals
 
--- The least case; memory may come in the place of any. (Nothing is captured or needed in this language, so no place is answered.)
+-- The least case; memory may come in the place of any. (Nothing is captured or needed in the first language, so no place is answered.)
 abbrev pub IsRefusal : List FileOf → Asked → Refusal → Type 0
 IsRefusal w e refusal.NoMemory = Unit {0}
 IsRefusal w e (refusal.Captured path offset) = ⊥
@@ -157,7 +163,7 @@ inverted cs = map turned_round cs
 -- the files before an entry, which compile
 pub record IsUndo (w : List FileOf) (cs : List ChangeOf) (before : List FileOf) : Type 0 where
   pub put : IsPut w (inverted cs) before
-  pub compiled : IsCompiled before
+  pub compiled : AreCompiled before
 
 -- undoing entries, in the order given
 abbrev pub Undone : List FileOf → List (List ChangeOf) → List FileOf → Type 0

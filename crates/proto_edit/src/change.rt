@@ -1,10 +1,11 @@
 //! Changes of one file: made, copied and turned round.
 
-ghost use Rattle.std.specs.Prelude.{◌≡◌, ◌+◌, ◌≤◌, ◌++◌, ◌∷◌, [], length, IfOk, OnOk};
+ghost use Rattle.std.specs.Prelude.{◌≡◌, ◌+◌, ◌≤◌, ◌++◌, ◌∷◌, [], length, map, IfOk, OnOk};
 ghost use Rattle.std.specs.String.{string_bytes};
 ghost use Rattle.proto_text.specs.Edits.{AreShort};
 ghost use Rattle.proto_text.specs.Splicing.{edit_of, edits};
 ghost use Rattle.proto_edit.specs.Entries.{change_of, turned_round};
+ghost use Rattle.proto_edit.specs.Workspaces.{inverted};
 
 use crate::entry::Change;
 use proto_text::{Splice, SpliceFault, Splices, invert};
@@ -59,8 +60,8 @@ fn copied(alloc: Global, splices: &Splices) -> Result<Splices, AllocError>
     in_order(list)
 }
 
-/// The change that leads back.
-pub fn turned_round(alloc: Global, change: &Change) -> Result<Change, AllocError>
+// The change that leads back.
+fn turned_round(alloc: Global, change: &Change) -> Result<Change, AllocError>
     ensures { IfOk result (λ back. change_of back ≡ turned_round (change_of change.now)) }
 {
     let path = change.path.as_str().to_string(alloc)?;
@@ -71,4 +72,15 @@ pub fn turned_round(alloc: Global, change: &Change) -> Result<Change, AllocError
         after: change.before,
         splices: invert(splices),
     })
+}
+
+/// The changes that lead back.
+pub fn all_turned_round(alloc: Global, changes: &[Change]) -> Result<Vec<Change>, AllocError>
+    ensures { IfOk result (λ back. map change_of back.items ≡ inverted (map change_of changes.now)) }
+{
+    let mut back = Vec::new(alloc);
+    for change in changes {
+        back.push(turned_round(alloc, change)?)?;
+    }
+    Ok(back)
 }

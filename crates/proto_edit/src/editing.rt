@@ -1,23 +1,43 @@
 //! Edits of a workspace, and the way back.
 
-ghost use Rattle.std.specs.Prelude.{◌≡◌, ◌∷◌, [], ◌<◌, length, map, reverse, IfOk, IfErr};
+ghost use Rattle.std.specs.Prelude.{◌≡◌, ◌↔◌, ◌∷◌, [], IsTrue, map, reverse, IfOk, IfErr};
 ghost use Rattle.proto_edit.specs.Answers.{asked, IsUndoRefusal, IsReopened, IsUndoAllRefusal, LeadsBack};
 ghost use Rattle.proto_edit.specs.declared.refusal.Refusal.TheVariants as Refusal;
-ghost use Rattle.proto_edit.specs.Entries.{change_of};
+ghost use Rattle.proto_edit.specs.Compiled.{IsOfFirstLanguage};
+ghost use Rattle.proto_edit.specs.Entries.{change_of, AreRising};
 ghost use Rattle.proto_edit.specs.Workspaces.{rename, delete_field, IsAdmissible, AreChanges, IsRefusal, IsMappedStep, IsUndo, Run, Undone};
 
-use crate::change::turned_round;
+use crate::change::all_turned_round;
 use crate::edit::Edit;
 use crate::entry::{Change, Entry};
-use crate::refusal::{OpenFault, Refusal};
+use crate::language::is_first_language;
+use crate::putting::put_all;
+use crate::refusal::Refusal;
 use crate::rename::{deletion_refusal, rename_in};
 use crate::workspace::Workspace;
-use proto_text::{SpliceFault, apply_splices};
+use proto_files::Words;
+use proto_schema::OpenFault;
 use std::alloc::{AllocError, Global};
 
 impl Workspace {
+    // Whether there is no file, or one of the first language.
+    fn is_of_first_language(&self, alloc: Global) -> Result<bool, AllocError>
+        ensures { IfOk result (λ is. IsTrue is ↔ IsOfFirstLanguage self.now) }
+    {
+        let files = self.files();
+        if files.is_empty() {
+            return Ok(true);
+        }
+        if files.len() > 1 {
+            return Ok(false);
+        }
+        let words = Words::new(files.source(0), files.tokens(0));
+        is_first_language(alloc, &words, files.tree(0))
+    }
+
     // What the rename changes, or the least case that refuses it.
     fn renamed(&self, alloc: Global, name: &str, to: &str) -> Result<Change, Refusal>
+        requires { IsOfFirstLanguage self.now }
         ensures ok { IfOk result (λ c. IsAdmissible self.now (rename name.now to.now) × AreChanges self.now (rename name.now to.now) (change_of c ∷ [])) }
         ensures err { IfErr result (IsRefusal self.now (rename name.now to.now)) }
     {
@@ -38,6 +58,7 @@ impl Workspace {
 
     // Why a field is not deleted.
     fn kept(&self, alloc: Global, name: &str) -> Result<Refusal, AllocError>
+        requires { IsOfFirstLanguage self.now }
         ensures { IfOk result (IsRefusal self.now (delete_field name.now)) }
     {
         let files = self.files();
@@ -54,6 +75,9 @@ impl Workspace {
     {
         // The files compile, whatever is asked.
         self.files();
+        if !self.is_of_first_language(alloc)? {
+            return Err(Refusal::KindNotAllowed);
+        }
         match edit {
             Edit::Rename { name, to } => self.renamed(alloc, name.as_str(), to.as_str()),
             Edit::DeleteField { name } => Err(self.kept(alloc, name.as_str())?),
@@ -62,29 +86,15 @@ impl Workspace {
         }
     }
 
-    // The workspace with a change, if it can be made and what it leaves compiles.
-    fn reopened(&self, alloc: Global, change: &Change) -> Result<Option<Workspace>, Refusal>
-        ensures ok { IfOk result (λ found. IsReopened self.now (change_of change.now ∷ []) found) }
+    // The workspace with changes, if they can be made and what they leave compiles.
+    fn reopened(&self, alloc: Global, changes: &[Change]) -> Result<Option<Workspace>, Refusal>
+        requires { AreRising (map change_of changes.now) }
+        ensures ok { IfOk result (λ found. IsReopened self.now (map change_of changes.now) found) }
         ensures err { IfErr result (λ r. r ≡ Refusal.NoMemory) }
     {
-        let files = self.files();
-        if files.is_empty() {
+        let Some(list) = put_all(alloc, self.files(), changes)? else {
             return Ok(None);
-        }
-        let text = files.source(0).as_bytes();
-        if files.path(0) != change.path.as_str() || text.len() != change.before as usize {
-            return Ok(None);
-        }
-        let bytes = match apply_splices(alloc, text, &change.splices) {
-            Ok(bytes) => bytes,
-            Err(SpliceFault::NoMemory) => return Err(Refusal::NoMemory),
-            Err(SpliceFault::Stale) => return Ok(None),
-            Err(SpliceFault::TooLarge) => return Ok(None),
-            Err(SpliceFault::Disorder) => unreachable!(),
         };
-        let path = change.path.as_str().to_string(alloc)?;
-        let mut list = Vec::new(alloc);
-        list.push((path, bytes))?;
         match Workspace::open(alloc, list) {
             Ok(workspace) => Ok(Some(workspace)),
             Err(OpenFault::NoMemory) => Err(Refusal::NoMemory),
@@ -93,7 +103,8 @@ impl Workspace {
     }
 
     /// The workspace after an edit, and what the edit changed, where it is admissible here; else the least case that
-    /// refuses it. The new files compile to the old descriptors under the edit's name map.
+    /// refuses it. The new files compile to the old descriptors under the edit's name map. In a workspace that is not
+    /// of the first language every edit is refused as not allowed.
     pub fn with_edit(&self, alloc: Global, edit: &Edit) -> Result<(Workspace, Entry), Refusal>
         ensures ok { IfOk result (λ x. IsMappedStep self.now (asked edit.now) x.1 x.0) }
         ensures err { IfErr result (IsRefusal self.now (asked edit.now)) }
@@ -101,12 +112,12 @@ impl Workspace {
         // The files compile, so what is admissible can be made.
         self.files();
         let change = self.change(alloc, edit)?;
-        let workspace = match self.reopened(alloc, &change)? {
+        let mut changes = Vec::new(alloc);
+        changes.push(change)?;
+        let workspace = match self.reopened(alloc, &changes)? {
             Some(workspace) => workspace,
             None => unreachable!(),
         };
-        let mut changes = Vec::new(alloc);
-        changes.push(change)?;
         match Entry::new(changes) {
             Some(entry) => Ok((workspace, entry)),
             None => unreachable!(),
@@ -119,13 +130,7 @@ impl Workspace {
         ensures ok { IfOk result (IsUndo self.now entry.now) }
         ensures err { IfErr result (IsUndoRefusal self.now entry.now) }
     {
-        // The files compile, so there is at most one, and no entry of more changes is of them.
-        self.files();
-        let change = match entry.changes() {
-            [change] => change,
-            _ => return Err(Refusal::Stale),
-        };
-        let back = turned_round(alloc, change)?;
+        let back = all_turned_round(alloc, entry.changes())?;
         match self.reopened(alloc, &back)? {
             Some(workspace) => Ok(workspace),
             None => Err(Refusal::Stale),

@@ -1,7 +1,7 @@
 //! What holds of the definitions, for whoever builds on them. None of these does anything.
 
-ghost use Rattle.proto_edit.specs.Bridge.{FirstCompiles, WholeIsFirst};
-ghost use Rattle.proto_edit.specs.Laws.{AbsentIsNoSymbol, CleanIsCompiled, CollisionsAreOtherFields, CompiledIsClean, CompilesOnce, DescribedOnce, EditsAreMade, FieldsAreAimedAt, MessagesAreAimedAt, NoFaultComesIn, NoWordIsRewritten, NothingIsCaptured, PutsOnce, RenamesCompile, RenamesLeave, RunsAreUndone, SentencesStay, StepsAreUndone, StepsArePrinted, StepsCompile, StepsOnce, TreesStay, UndoneOnce};
+ghost use Rattle.proto_edit.specs.Bridge.{FirstCompiles, FirstIsDescribed, LanguagesAgree, WholeIsFirst};
+ghost use Rattle.proto_edit.specs.Laws.{AbsentIsNoSymbol, CleanIsCompiled, CollisionsAreOtherFields, CompiledIsClean, CompilesOnce, DescribedOnce, EditsAreMade, FieldsAreAimedAt, MessagesAreAimedAt, NoFaultComesIn, NoWordIsRewritten, NothingIsCaptured, PutsOnce, RenamesCompile, RenamesLeave, RunsAreUndone, SentencesStay, StepsAreUndone, StepsArePrinted, StepsCompile, StepsOnce, TreesStay, UndoneOnce, WorkspacesAreClean};
 
 /// Words put in the places of words leave the tokens by index and the very same tree.
 pub fn trees_stay()
@@ -31,9 +31,10 @@ pub fn renames_compile()
     ensures { RenamesCompile }
 {}
 
-/// Files that compile have no fault.
+/// Files that compile have no fault, in the whole language and in the first.
 pub fn compiled_is_clean()
-    ensures { CompiledIsClean }
+    ensures whole { WorkspacesAreClean }
+    ensures first { CompiledIsClean }
 {}
 
 /// An admissible edit of a workspace can be made, and leaves files that compile to the old descriptors under the name map.
@@ -50,7 +51,7 @@ pub fn runs_are_undone()
     ensures once { UndoneOnce }
 {}
 
-/// Files compile to one list of descriptors, an edit changes them in one way, and what is printed afterwards is what was
+/// Files of the first language compile to one list of descriptors, an edit changes them in one way, and what is printed afterwards is what was
 /// there under the name map.
 pub fn answers_are_one()
     ensures compiled { CompilesOnce }
@@ -64,7 +65,7 @@ pub fn steps_are_undone()
     ensures { StepsAreUndone }
 {}
 
-/// Files that have no fault compile.
+/// Files that have no fault of the first language compile there.
 pub fn clean_is_compiled()
     ensures { CleanIsCompiled }
 {}
@@ -81,8 +82,15 @@ pub fn no_word_is_rewritten()
     ensures { NoWordIsRewritten }
 {}
 
-/// Files that compile have no fault of the whole language, and files of the first language that have none compile.
+/// Files that compile in the first language have no fault of the whole language, and files of the first language that have
+/// none compile there: so in a workspace of the first language the two languages agree.
 pub fn whole_and_first_agree()
     ensures compiled { FirstCompiles }
     ensures whole { WholeIsFirst }
+    ensures agree { LanguagesAgree }
+{}
+
+/// The descriptors of files that compile in the first language are the ones that the whole language's definition gives.
+pub fn first_is_described()
+    ensures { FirstIsDescribed }
 {}

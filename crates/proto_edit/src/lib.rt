@@ -2,19 +2,16 @@
 #![tactic(auto)]
 
 mod change;
-mod compile;
-mod descriptors;
 mod edit;
 mod editing;
 mod entry;
 mod json;
+mod language;
 pub mod laws;
-mod number;
+mod putting;
 mod refusal;
 mod rename;
 mod rename_cases;
-mod repeats;
-mod sentences;
 mod shape;
 mod target;
 mod workspace;
@@ -23,5 +20,6 @@ pub use edit::Edit;
 pub use entry::{Change, Entry};
 pub use proto_desc::{Descriptors, to_json};
 pub use proto_files::{Fault, FaultKind, Files};
-pub use refusal::{OpenFault, Refusal};
+pub use proto_schema::OpenFault;
+pub use refusal::Refusal;
 pub use workspace::Workspace;

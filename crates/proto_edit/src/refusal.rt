@@ -1,75 +1,10 @@
-//! Why files are no workspace, and why an edit is refused.
+//! Why an edit or an undo is refused.
 
 ghost use Rattle.std.specs.Prelude.{◌≡◌};
-ghost use Rattle.proto_edit.specs.RefusalTable.{number_of, name_of, open_number, open_name};
+ghost use Rattle.proto_edit.specs.RefusalTable.{number_of, name_of};
 
-use proto_files::{Fault, FilesFault};
 use std::alloc::{AllocError, AllocFailed};
 use thiserror::Error;
-
-/// Why files are no workspace: their least fault by phase, path, offset and number.
-#[derive(Debug, Drop, Error)]
-pub enum OpenFault {
-    #[error("{0}")]
-    Schema(Fault),
-    #[error("no memory")]
-    NoMemory,
-}
-
-impl OpenFault {
-    /// The number of the fault, from 1 to 35, or 0 for want of memory.
-    pub fn number(&self) -> u32
-        ensures { result ≡ open_number self.now }
-    {
-        match self {
-            OpenFault::Schema(fault) => fault.number(),
-            OpenFault::NoMemory => 0,
-        }
-    }
-
-    /// The name of the fault, or `NoMemory`.
-    pub fn name(&self) -> &'static str
-        ensures { result.now ≡ open_name self.now }
-    {
-        match self {
-            OpenFault::Schema(fault) => fault.name(),
-            OpenFault::NoMemory => "NoMemory",
-        }
-    }
-}
-
-impl From<AllocError> for OpenFault {
-    ghost use Rattle.proto_edit.specs.declared.refusal.OpenFault.TheVariants.{NoMemory};
-
-    ghost from_gives = { λ _ e. e ≡ NoMemory };
-
-    fn from(_e: AllocError) -> OpenFault {
-        OpenFault::NoMemory
-    }
-}
-
-impl<T: Drop> From<AllocFailed<T>> for OpenFault {
-    ghost use Rattle.proto_edit.specs.declared.refusal.OpenFault.TheVariants.{NoMemory};
-
-    ghost from_gives = { λ _ e. e ≡ NoMemory };
-
-    fn from(_e: AllocFailed<T>) -> OpenFault {
-        OpenFault::NoMemory
-    }
-}
-
-impl From<FilesFault> for OpenFault {
-    ghost use Rattle.proto_edit.specs.Answers.{open_fault_of};
-
-    ghost from_gives = { λ fault e. e ≡ open_fault_of fault };
-
-    fn from(fault: FilesFault) -> OpenFault {
-        match fault {
-            FilesFault::Schema(fault) => OpenFault::Schema(fault),
-            FilesFault::NoMemory => OpenFault::NoMemory,
-        }
-    }
-}
 
 /// Why an edit or an undo is refused: the least case that holds, by number. Want of memory may come in place of any.
 #[derive(Debug, Drop, Error)]

@@ -1,29 +1,26 @@
 //! A workspace that compiles.
 
-ghost use Rattle.std.specs.Prelude.{◌≡◌, ◌≤◌, length, IfOk, IfErr};
-ghost use Rattle.proto_desc.specs.Views.{files_desc};
+ghost use Rattle.std.specs.Prelude.{◌≡◌, List, IfOk, IfErr};
+ghost use Rattle.proto_desc.specs.Checked.{AreDescribed};
+ghost use Rattle.proto_json.specs.Views.{files_desc};
 ghost use Rattle.proto_files.specs.Faults.{HasNoFault};
 ghost use Rattle.proto_files.specs.GivenFiles.{files_of};
-ghost use Rattle.proto_edit.specs.Answers.{IsOpenFault, IsCompileFault};
-ghost use Rattle.proto_edit.specs.Faults.{IsFault};
+ghost use Rattle.proto_names.specs.Links.{ReadOf, AreRead};
+ghost use Rattle.proto_schema.specs.Answers.{IsOpenError};
+ghost use Rattle.proto_schema.specs.Whole.{WorkspaceFaults, IsSortedOf};
+ghost use Rattle.proto_edit.specs.Compiled.{AreCompiled, IsOfFirstLanguage};
 ghost use Rattle.proto_edit.specs.Printed.{AreDescribedBy};
-ghost use Rattle.proto_edit.specs.Workspaces.{IsCompiled};
 
-use crate::compile::compile_file;
-use crate::refusal::OpenFault;
 use proto_desc::Descriptors;
-use proto_files::{Files, Paths};
+use proto_files::Files;
+use proto_schema::{OpenFault, Schema};
 use std::alloc::Global;
 use std::marker::Model;
 
-/// How many files a workspace has at most.
-const MAX_FILES: usize = 1;
-
-/// Schemas that compile, with their descriptors.
+/// Schemas that compile, with their descriptors: at most 4,096 files.
 #[derive(Drop)]
 pub struct Workspace {
-    files: Files,
-    descriptors: Descriptors,
+    schema: Schema,
 }
 
 impl Model for Workspace {
@@ -32,61 +29,44 @@ impl Model for Workspace {
 
     ghost Value = { List FileOf };
 
-    ghost use Rattle.proto_desc.specs.Views.{files_desc};
-    ghost use Rattle.proto_edit.specs.Printed.{AreDescribedBy};
+    ghost use Rattle.proto_edit.specs.Compiled.{AreCompiled};
 
-    ghost view = { λ w. w.files };
+    ghost view = { λ w. w.schema };
 
-    ghost invariant = { λ w. AreDescribedBy w.files (files_desc w.descriptors) };
-}
-
-// The descriptors of files that were read, or the least fault past their grammar.
-fn compile(alloc: Global, files: &Files) -> Result<Descriptors, OpenFault>
-    requires { length files.now ≤ 1 }
-    ensures ok { IfOk result (λ d. AreDescribedBy files.now (files_desc d)) }
-    ensures fault { IfErr result (IsCompileFault files.now) }
-{
-    let mut file = Vec::new(alloc);
-    if files.len() > 0 {
-        let descriptor = compile_file(
-            alloc,
-            files.path(0),
-            files.source(0),
-            files.tokens(0),
-            files.tree(0),
-        )?;
-        file.push(descriptor)?;
-    }
-    Ok(Descriptors { file })
+    ghost invariant = { λ w. AreCompiled w.schema };
 }
 
 impl Workspace {
-    /// The files, in the order of their paths, where they compile; else their least fault by phase, path, offset and
-    /// number. A workspace of the first language has no file, or one.
+    /// The files given, in the order of their paths, where they compile; else their least fault by phase, path, offset
+    /// and number.
     pub fn open(alloc: Global, files: Vec<(String, Vec<u8>)>) -> Result<Workspace, OpenFault>
-        ensures files { IfOk result (λ w. w ≡ files_of files.items) }
-        ensures compiled { IfOk result (λ w. IsCompiled w) }
-        ensures clean { IfOk result (λ w. HasNoFault (IsFault (files_of files.items))) }
-        ensures fault { IfErr result (λ e. IsOpenFault (files_of files.items) e) }
+        ensures files { IfOk result (λ w. IsSortedOf (files_of files.items) w) }
+        ensures compiled { IfOk result (λ w. AreCompiled w) }
+        ensures clean { IfOk result (λ _. HasNoFault (WorkspaceFaults (files_of files.items))) }
+        ensures fault { IfErr result (λ e. IsOpenError (files_of files.items) e) }
     {
-        let paths = Paths::up_to(alloc, MAX_FILES, files)?;
-        let files = Files::read(alloc, paths)?;
-        let descriptors = compile(alloc, &files)?;
-        Ok(Workspace { files, descriptors })
+        let schema = Schema::open(alloc, files)?;
+        // Its files are those of a workspace.
+        schema.files().len();
+        Ok(Workspace { schema })
     }
 
     /// The files, in the order of their paths.
     pub fn files(&self) -> &Files
         ensures files { result.now ≡ self.now }
-        ensures compiled { IsCompiled self.now }
+        ensures compiled { AreCompiled self.now }
     {
-        &self.files
+        self.schema.files()
     }
 
     /// The descriptors of the files.
     pub fn descriptors(&self) -> &Descriptors
-        ensures { AreDescribedBy self.now (files_desc result.now) }
+        ensures described { AreDescribed self.now (files_desc result.now) }
+        // Each file has tokens and a tree, of which the descriptors are told.
+        ensures read { (reads : List ReadOf) × AreRead self.now reads }
+        // In the first language they are told of its fields and messages.
+        ensures first { IsOfFirstLanguage self.now → AreDescribedBy self.now (files_desc result.now) }
     {
-        &self.descriptors
+        self.schema.descriptors()
     }
 }

@@ -27,6 +27,11 @@ pub(crate) fn opened(alloc: Global, text: &str) -> Result<Workspace, OpenFault> 
     Workspace::open(alloc, given(alloc, &[("a.proto", text)])?)
 }
 
+/// The workspace of files, by their paths and texts.
+pub(crate) fn workspace_of_all(alloc: Global, texts: &[(&str, &str)]) -> Result<Workspace, Fail> {
+    Ok(Workspace::open(alloc, given(alloc, texts)?)?)
+}
+
 pub(crate) fn workspace_of(alloc: Global, text: &str) -> Result<Workspace, Fail> {
     Ok(opened(alloc, text)?)
 }
@@ -38,6 +43,20 @@ pub(crate) fn json_of(alloc: Global, workspace: &Workspace) -> Result<String, Al
 pub(crate) fn is_text(workspace: &Workspace, text: &str) -> bool {
     let files = workspace.files();
     files.len() == 1 && files.source(0).as_bytes() == text.as_bytes()
+}
+
+/// Whether these are the files, in the order of their paths.
+pub(crate) fn are_texts(workspace: &Workspace, texts: &[(&str, &str)]) -> bool {
+    let files = workspace.files();
+    if files.len() != texts.len() {
+        return false;
+    }
+    for (place, &(path, text)) in texts.iter().enumerate() {
+        if files.path(place) != path || files.source(place).as_bytes() != text.as_bytes() {
+            return false;
+        }
+    }
+    true
 }
 
 pub(crate) fn rename(alloc: Global, name: &str, to: &str) -> Result<Edit, AllocError> {

@@ -8,7 +8,7 @@ use std::test::Fail;
 
 const RENAMED: &str = "syntax = \"proto3\"; message A { string d_e = 1; }";
 
-fn splices(alloc: Global, at: u32, old: &str, new: &str) -> Result<Splices, Fail> {
+pub(crate) fn splices(alloc: Global, at: u32, old: &str, new: &str) -> Result<Splices, Fail> {
     let mut splices = Vec::new(alloc);
     let old = String::from_str(alloc, old)?;
     let new = String::from_str(alloc, new)?;

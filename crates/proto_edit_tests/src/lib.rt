@@ -15,3 +15,5 @@ mod opening;
 mod renames;
 #[cfg(test)]
 mod runs;
+#[cfg(test)]
+mod wide;

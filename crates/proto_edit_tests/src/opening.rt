@@ -6,11 +6,15 @@ use std::alloc::{AllocError, Global};
 use std::test::Fail;
 
 // The descriptors of files, or their fault as `path:offset: number name`.
-fn answer(alloc: Global, texts: &[(&str, &str)]) -> Result<String, Fail> {
-    match Workspace::open(alloc, given(alloc, texts)?) {
+fn answer_to(alloc: Global, files: Vec<(String, Vec<u8>)>) -> Result<String, Fail> {
+    match Workspace::open(alloc, files) {
         Ok(workspace) => Ok(json_of(alloc, &workspace)?),
         Err(fault) => Ok(fault_of(alloc, fault)?),
     }
+}
+
+pub(crate) fn answer(alloc: Global, texts: &[(&str, &str)]) -> Result<String, Fail> {
+    answer_to(alloc, given(alloc, texts)?)
 }
 
 fn fault_of(alloc: Global, fault: OpenFault) -> Result<String, AllocError> {
@@ -128,16 +132,17 @@ fn faults_past_the_grammar(rt: HostRuntime) -> Result<(), Fail> {
 fn faults_of_a_file(rt: HostRuntime) -> Result<(), Fail> {
     let alloc = rt.alloc();
     for (path, text, fault) in [
-        ("a.proto", "", "a.proto:0: 8 Syntax"),
+        ("a.proto", "message M {", "a.proto:11: 8 Syntax"),
+        ("a.proto", "/*", "a.proto:0: 4 OpenComment"),
         (
             "a.proto",
-            "/* x */ syntax = \"proto3\"; enum E { A = 0; }",
-            "a.proto:8: 8 Syntax",
+            "import \"x.proto\";",
+            "a.proto:7: 10 UnknownImport",
         ),
         (
             "a.proto",
-            "syntax = \"proto2\"; message A {}",
-            "a.proto:0: 8 Syntax",
+            "message M { optional int32 a = 1 [default = 2147483648]; }",
+            "a.proto:34: 28 BadDefault",
         ),
         ("a.txt", "", "a.txt:0: 33 BadPath"),
     ] {
@@ -147,9 +152,14 @@ fn faults_of_a_file(rt: HostRuntime) -> Result<(), Fail> {
 }
 
 #[test]
-fn two_files_are_too_many(rt: HostRuntime) -> Result<(), Fail> {
+fn too_many_files(rt: HostRuntime) -> Result<(), Fail> {
     let alloc = rt.alloc();
-    let said = answer(alloc, &[("b.proto", ""), ("a.proto", "")])?;
-    assert_eq!(rt; said.as_str(), "b.proto:0: 35 TooManyFiles");
+    let mut files = Vec::new(alloc);
+    for i in 0..4097 {
+        let path = format!(in alloc; "f{i:04}.proto")?;
+        files.push((path, Vec::new(alloc)))?;
+    }
+    let said = answer_to(alloc, files)?;
+    assert_eq!(rt; said.as_str(), "f4096.proto:0: 35 TooManyFiles");
     Ok(())
 }

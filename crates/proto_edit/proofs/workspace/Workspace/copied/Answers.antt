@@ -1,9 +1,10 @@
-use Rattle.std.proofs.Common.{◌≤◌, ◌∙◌, length, subst, arith}
+use Rattle.std.proofs.Common.{◌≤◌, ◌∙◌, List, length, subst, arith}
 use Rattle.std.proofs.lemmas.List.{take_all}
 use Rattle.proto_files.specs.Faults.{fault_at}
-use Rattle.proto_files.specs.GivenFiles.{files_of}
-use Rattle.proto_edit.specs.Answers.{IsOpenFault}
-use Rattle.proto_edit.proofs.Reopening.{opens_again}
+use Rattle.proto_files.specs.GivenFiles.{FileOf, files_of}
+use Rattle.proto_schema.specs.Answers.{IsOpenError}
+use Rattle.proto_schema.specs.Whole.{IsSortedOf}
+use Rattle.proto_edit.proofs.WholeFirst.{opens_again, sorted_again}
 use Rattle.proto_edit.proofs.workspace.Workspace.copied.Goals as goal
 
 pub unreachable-requires : goal.unreachable-requires
@@ -11,4 +12,10 @@ unreachable-requires c =
     let given = files_of c.loop-place.list.items in
     let ends : length c.files-files.result.now ≤ c.loop-place.place = omega (arith, c.len-place-end.ensures.len, c.loop-place-test.false) in
     let same = c.loop-place.invariant ∙ take_all c.loop-place.place c.files-files.result.now ends ∙ c.files-files.ensures.files in
-    opens_again c.args.self.now given (fault_at c.in-Err-Schema.field-0-0) c.files-files.ensures.compiled same (subst (IsOpenFault given) c.in-Err-Schema.field-0-is c.in-Err-Schema.ensures.fault)
+    opens_again c.args.self.now given (fault_at c.in-Err-Schema.field-0-0) c.files-files.ensures.compiled same (subst (IsOpenError given) c.in-Err-Schema.field-0-is c.in-Err-Schema.ensures.fault)
+
+pub returns-in-Ok-clause-ok : goal.returns-in-Ok-clause-ok
+returns-in-Ok-clause-ok c =
+    let ends : length c.files-files.result.now ≤ c.loop-place.place = omega (arith, c.len-place-end.ensures.len, c.loop-place-test.false) in
+    let same = c.loop-place.invariant ∙ take_all c.loop-place.place c.files-files.result.now ends ∙ c.files-files.ensures.files in
+    sorted_again c.args.self.now c.in-Ok.workspace c.files-files.ensures.compiled.workspace (subst (λ (z : List FileOf). IsSortedOf z c.in-Ok.workspace) same c.in-Ok.ensures.files)
