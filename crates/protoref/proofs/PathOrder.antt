@@ -27,7 +27,7 @@ equal_itself a = (bytes_eq-Decides a a).1 refl
 same_if_tied : (a b : List ℕ) → text_cmp a b ≡ Equal → a ≡ b
 same_if_tied a b e = (bytes_eq-Decides a b).0 (sym (is_eq-slice_cmp a b) ∙ ap is_eq e)
 
-differs_if_less : (a b : List ℕ) → text_cmp a b ≡ Less → bytes_eq a b ≡ false
+pub differs_if_less : (a b : List ℕ) → text_cmp a b ≡ Less → bytes_eq a b ≡ false
 differs_if_less a b e = sym (is_eq-slice_cmp a b) ∙ ap is_eq e
 
 less_if_greater : (a b : List ℕ) → text_cmp a b ≡ Greater → text_cmp b a ≡ Less

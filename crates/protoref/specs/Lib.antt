@@ -1,3 +1,5 @@
+pub mod FaultLines
+pub mod Linted
 pub mod Memory
 pub mod Printed
 pub mod Stores

@@ -1,22 +1,20 @@
 -- What a command prints, and the status that it ends with: the choice of this program.
-use Rattle.std.specs.Prelude.{◌≡◌, ℕ, ◌+◌, List, [], ◌++◌, codes, decimal, Option, Some, None, Result, Ok, Err}
-use Rattle.std.specs.Option.{unwrap_or}
+use Rattle.std.specs.Prelude.{◌≡◌, ℕ, ◌+◌, List, ◌++◌, codes, Option, Some, None, Result, Ok, Err}
 use Rattle.std.specs.Io.KnownBytes.{Appends, Keeps}
 use Rattle.protoref.specs.declared.run.Command.{Command}
-use Rattle.protoref.specs.declared.run.Command.TheVariants.{Compile}
+use Rattle.protoref.specs.declared.run.Command.TheVariants.{Compile, Lint}
 use Rattle.protoref.specs.declared.run.Status.{Status}
 use Rattle.protoref.specs.declared.run.Status.TheVariants.{Done, Problem}
 use Rattle.protoref.specs.declared.run.RunFault.{RunFault}
 use Rattle.protoref.specs.declared.run.RunFault.TheVariants.{Store, NoMemory, Output}
 use Rattle.proto_files.specs.GivenFiles.{FileOf}
-use Rattle.proto_desc.specs.DescriptorText.{json_text}
+use Rattle.proto_json.specs.DescriptorText.{json_text}
 use Rattle.proto_files.specs.Faults.{FaultAt, HasNoFault, IsLeastFault}
-use Rattle.proto_files.specs.FaultTable.{name_of, number_of}
 use Rattle.proto_desc.specs.Checked.{described}
 use Rattle.proto_names.specs.Links.{ReadOf, AreRead}
 use Rattle.proto_schema.specs.Whole.{IsSortedOf, WorkspaceFaults}
-use Rattle.proto_text.specs.Lines.{column_at, line_at}
-use Rattle.protoref.specs.Stores.{bytes_at}
+use Rattle.protoref.specs.FaultLines.{IsLine}
+use Rattle.protoref.specs.Linted.{IsLintOf, PrintsLinted}
 use Rattle.protoref.specs.Writing.{AppendsBeginning}
 
 abbrev pub code_of : Status → ℕ
@@ -28,31 +26,6 @@ abbrev pub fault_text : RunFault → List ℕ
 fault_text Store = codes "protoref: store failed"
 fault_text NoMemory = codes "protoref: no memory"
 fault_text Output = codes "protoref: output failed"
-
--- `path:line:column: NUMBER NAME`
-abbrev pub line_of : FaultAt → ℕ → ℕ → List ℕ
-line_of fault line column =
-    fault.path ++ (codes ":" ++ (decimal line ++ (codes ":" ++ (decimal column
-    ++ (codes ": " ++ (decimal (number_of fault.kind) ++ (codes " " ++ (name_of fault.kind ++ codes "\n"))))))))
-
--- the line and the column of a fault of the files
-abbrev pub IsPlace : List FileOf → FaultAt → ℕ → ℕ → Type 0
-IsPlace files fault line column =
-    let bytes = unwrap_or (bytes_at fault.path files) [] in
-    (line ≡ line_at bytes fault.offset) × (column ≡ column_at bytes fault.offset)
-
--- the line of a fault of the files
-abbrev pub IsLine : List FileOf → FaultAt → List ℕ → Type 0
-IsLine files fault text = (line : ℕ) × (column : ℕ) × IsPlace files fault line column × (text ≡ line_of fault line column)
-
--- the same of a store, whose files may be unknown
-abbrev pub IsPlaceOver : Option (List FileOf) → FaultAt → ℕ → ℕ → Type 0
-IsPlaceOver None fault line column = Unit {0}
-IsPlaceOver (Some files) fault line column = IsPlace files fault line column
-
-abbrev pub IsLineOver : Option (List FileOf) → FaultAt → List ℕ → Type 0
-IsLineOver None fault text = Unit {0}
-IsLineOver (Some files) fault text = IsLine files fault text
 
 -- the descriptors of the files as JSON, on a line, in the order of the paths
 pub record IsCompiledText (files : List FileOf) (text : List ℕ) : Type 0 where
@@ -68,9 +41,15 @@ abbrev pub PrintsCompiled : List FileOf → List ℕ → Status → Type 0
 PrintsCompiled files text Done = IsCompiledText files text
 PrintsCompiled files text Problem = (fault : FaultAt) × IsLeastFault (WorkspaceFaults files) fault × IsLine files fault text
 
+-- what the command answers over files that compile, in the order of their paths
+abbrev pub IsAnswerOver : Command → List FileOf → List ℕ → Status → Type 0
+IsAnswerOver Compile files text status = (reads : List ReadOf) × AreRead files reads × (text ≡ json_text (described files reads) ++ codes "\n") × (status ≡ Done)
+IsAnswerOver (Lint rules) files text status = IsLintOf files rules.chosen text status
+
 -- the command prints the text over the files, in the order of their paths, and ends with the status
 abbrev pub Prints : Command → List FileOf → List ℕ → Status → Type 0
 Prints Compile files text status = PrintsCompiled files text status
+Prints (Lint rules) files text status = PrintsLinted files rules.chosen text status
 
 -- the same of a store, whose files may be unknown
 abbrev pub PrintsOver : Command → Option (List FileOf) → List ℕ → Status → Type 0

@@ -2,6 +2,7 @@
 
 use clap::error::ErrorKind;
 use clap::{Arg, ArgAction, ArgMatches, Command};
+use proto_lint::{Rule, RuleSet};
 use std::alloc::{AllocError, AllocFailed, Global};
 use thiserror::Error;
 
@@ -12,6 +13,8 @@ pub enum Request {
     Help(String),
     /// The descriptors of the schemas in a folder.
     Compile { root: String },
+    /// What these rules find in the schemas in a folder.
+    Lint { root: String, rules: RuleSet },
 }
 
 /// Why the words ask for nothing.
@@ -50,18 +53,30 @@ pub(crate) fn read_words(alloc: Global, words: &[String]) -> Result<Request, Wor
 }
 
 fn program<'a>(alloc: Global) -> Result<Command<'a>, AllocError> {
-    let root = Arg::new(alloc, "ROOT")
-        .help("The folder of the schemas")
-        .required(true)
-        .action(ArgAction::Set);
     let compile = Command::new(alloc, "compile")
         .about("Prints the descriptors of the schemas as JSON")
-        .arg(root)?;
+        .arg(root_argument(alloc))?;
+    let rules = Arg::new(alloc, "RULE")
+        .help("The rules that are asked; all, where none is named")
+        .num_args(0..)
+        .action(ArgAction::Append);
+    let lint = Command::new(alloc, "lint")
+        .about("Prints what lint rules find in the schemas")
+        .arg(root_argument(alloc))?
+        .arg(rules)?;
     Command::new(alloc, "protoref")
-        .about("Compiles Protocol Buffers schemas")
+        .about("Compiles and lints Protocol Buffers schemas")
         .disable_help_subcommand(true)
         .subcommand_required(true)
-        .subcommand(compile)
+        .subcommand(compile)?
+        .subcommand(lint)
+}
+
+fn root_argument<'a>(alloc: Global) -> Arg<'a> {
+    Arg::new(alloc, "ROOT")
+        .help("The folder of the schemas")
+        .required(true)
+        .action(ArgAction::Set)
 }
 
 // The words for `clap`, with `--` before those that are texts.
@@ -85,15 +100,36 @@ fn asks_help(word: &str) -> bool {
 }
 
 fn request_of(alloc: Global, matches: &ArgMatches<'_>) -> Result<Request, WordsFault> {
-    let Some(("compile", matches)) = matches.subcommand() else {
+    let Some((command, matches)) = matches.subcommand() else {
         return Err(WordsFault::BadCommandLine);
     };
     let Some(root) = matches.get_str("ROOT") else {
         return Err(WordsFault::BadCommandLine);
     };
-    Ok(Request::Compile {
-        root: String::from_str(alloc, root)?,
-    })
+    let root = String::from_str(alloc, root)?;
+    match command {
+        "compile" => Ok(Request::Compile { root }),
+        "lint" => {
+            let rules = rules_of(matches.get_strs("RULE").unwrap_or(&[]))?;
+            Ok(Request::Lint { root, rules })
+        }
+        _ => Err(WordsFault::BadCommandLine),
+    }
+}
+
+// The rules with these names; all, where none is named.
+fn rules_of(names: &[&str]) -> Result<RuleSet, WordsFault> {
+    if names.is_empty() {
+        return Ok(RuleSet::all());
+    }
+    let mut rules = RuleSet::none();
+    for name in names {
+        match Rule::from_name(name) {
+            Some(rule) => rules.insert(rule),
+            None => return Err(WordsFault::BadCommandLine),
+        }
+    }
+    Ok(rules)
 }
 
 #[cfg(test)]
@@ -133,6 +169,37 @@ mod tests {
     }
 
     #[test]
+    fn takes_rules_by_their_names(rt: HostRuntime) -> Result<(), Fail> {
+        let mut some = RuleSet::none();
+        some.insert(Rule::ImportUsed);
+        some.insert(Rule::DirectorySamePackage);
+        for (words, wanted_root, wanted) in [
+            ("protoref lint .", ".", RuleSet::all()),
+            ("protoref lint --x", "--x", RuleSet::all()),
+            ("protoref lint --", "--", RuleSet::all()),
+            (
+                "protoref lint a IMPORT_USED DIRECTORY_SAME_PACKAGE",
+                "a",
+                some,
+            ),
+            (
+                "protoref lint a DIRECTORY_SAME_PACKAGE IMPORT_USED DIRECTORY_SAME_PACKAGE",
+                "a",
+                some,
+            ),
+        ] {
+            match read(rt.alloc(), words)? {
+                Ok(Request::Lint { root, rules }) => {
+                    assert_eq!(rt; root.as_str(), wanted_root, "at {words}");
+                    assert!(rt; rules == wanted, "at {words}");
+                }
+                other => panic!(rt; "{other:?} at {words}"),
+            }
+        }
+        Ok(())
+    }
+
+    #[test]
     fn refuses_other_words(rt: HostRuntime) -> Result<(), Fail> {
         for words in [
             "protoref",
@@ -149,8 +216,15 @@ mod tests {
             "protoref --help=x",
             "protoref -- compile .",
             "protoref --version",
-            "protoref lint .",
-            "protoref lint --help",
+            "protoref lint",
+            "protoref lint . NO_SUCH",
+            "protoref lint . IMPORT_USED NO_SUCH",
+            "protoref lint . import_used",
+            "protoref lint . IMPORT_USED,PACKAGE_DEFINED",
+            "protoref lint . ",
+            "protoref lint . --help",
+            "protoref lint . -x",
+            "protoref lint -- . IMPORT_USED",
             "protoref rename . A B",
             "protoref delete-field . A",
             "protoref add-import . a.proto b.proto",
@@ -177,6 +251,8 @@ mod tests {
             "protoref compile -h",
             "protoref compile --help",
             "protoref compile --help . .",
+            "protoref lint -h",
+            "protoref lint --help . NO_SUCH",
         ] {
             match read(rt.alloc(), words)? {
                 Ok(Request::Help(text)) => {

@@ -1,8 +1,9 @@
-//! `protoref`: a compiler of Protocol Buffers schemas.
+//! `protoref`: a compiler and a linter of Protocol Buffers schemas.
 #![tactic(auto)]
 
 mod command_line;
 mod folder;
+mod linting;
 mod memory;
 mod output;
 mod place;
@@ -41,6 +42,7 @@ fn answer<R: Files + Env + Print + AllocGlobal>(rt: &R) -> Result<u8, &'static s
             Err(_) => Err(fault_line(&RunFault::Output)),
         },
         Ok(Request::Compile { root }) => run_over(rt, Command::Compile, root.as_str()),
+        Ok(Request::Lint { root, rules }) => run_over(rt, Command::Lint(rules), root.as_str()),
         Err(WordsFault::BadCommandLine) => Err(BAD_COMMAND_LINE),
         Err(WordsFault::NoMemory) => Err(fault_line(&RunFault::NoMemory)),
     }

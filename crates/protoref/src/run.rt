@@ -2,17 +2,20 @@
 
 ghost use Rattle.std.specs.Prelude.{◌≡◌, ◌-◌, ◌^◌, ◌<◌, ◌++◌, IfErr, IfOk, IsErrOf, codes, string_bytes};
 ghost use Rattle.proto_files.specs.GivenFiles.{files_of};
-ghost use Rattle.proto_desc.specs.DescriptorText.{json_text};
-ghost use Rattle.proto_desc.specs.Views.{files_desc};
+ghost use Rattle.proto_json.specs.DescriptorText.{json_text};
+ghost use Rattle.proto_json.specs.Views.{files_desc};
 ghost use Rattle.proto_files.specs.Faults.{fault_at};
-ghost use Rattle.protoref.specs.Printed.{CountsStore, IsLineOver, IsPlaceOver, PrintsOver, Writes, code_of, fault_text, line_of};
+ghost use Rattle.protoref.specs.FaultLines.{IsLineOver, IsPlaceOver, line_of};
+ghost use Rattle.protoref.specs.Printed.{CountsStore, IsAnswerOver, PrintsOver, Writes, code_of, fault_text};
 ghost use Rattle.protoref.specs.Stores.{Counts, HoldsFiles, IsListed};
 
+use crate::linting::linted;
 use crate::output::{OutputFault, write_text};
 use crate::place::{Place, place_at};
 use crate::store::{Store, StoreFault};
 use proto_desc::{Descriptors, to_json};
 use proto_files::Fault;
+use proto_lint::RuleSet;
 use proto_schema::{OpenFault, Schema};
 use std::alloc::{AllocError, AllocFailed, Global};
 use std::io::Write;
@@ -23,6 +26,8 @@ use thiserror::Error;
 pub enum Command {
     /// The descriptors of the schemas.
     Compile,
+    /// What these rules find in the schemas.
+    Lint(RuleSet),
 }
 
 /// How a command ends.
@@ -30,7 +35,7 @@ pub enum Command {
 pub enum Status {
     /// All is well.
     Done,
-    /// The schemas have a fault.
+    /// The schemas have a fault, or a rule found something.
     Problem,
 }
 
@@ -108,11 +113,11 @@ pub fn fault_line(fault: &RunFault) -> &'static str
     }
 }
 
-// What a command prints, and how it ends.
+/// What a command prints, and how it ends.
 #[derive(Drop)]
-struct Answer {
-    text: String,
-    status: Status,
+pub struct Answer {
+    pub text: String,
+    pub status: Status,
 }
 
 /// Runs a command over a store, and writes what it prints. It ends with `Store` at the first call of the store that
@@ -128,23 +133,21 @@ pub fn run<S: Store, W: Write>(
     ensures same { S.files store.new ≡ S.files store.old }
     ensures count { CountsStore (S.failure_count store.old) (S.failure_count store.new) result }
 {
-    let answer = match command {
-        Command::Compile => compile(alloc, store)?,
-    };
+    let answer = answer_of(alloc, command, store)?;
     write_text(writer, answer.text.as_str().as_bytes())?;
     Ok(answer.status)
 }
 
-fn compile<S: Store>(alloc: Global, store: &mut S) -> Result<Answer, RunFault>
+fn answer_of<S: Store>(alloc: Global, command: Command, store: &mut S) -> Result<Answer, RunFault>
     requires { S.failure_count store.old < 2 ^ 64 - 1 }
-    ensures prints { IfOk result (λ answer. PrintsOver Command.Compile (S.files store.old) (string_bytes answer.text) answer.status) }
+    ensures prints { IfOk result (λ answer. PrintsOver command (S.files store.old) (string_bytes answer.text) answer.status) }
     ensures unwritten { IsErrOf result RunFault.Output → ⊥ }
     ensures same { S.files store.new ≡ S.files store.old }
     ensures count { CountsStore (S.failure_count store.old) (S.failure_count store.new) result }
 {
     let files = load(alloc, store)?;
     match Schema::open(alloc, files) {
-        Ok(schema) => described(alloc, schema.descriptors()),
+        Ok(schema) => answer_over(alloc, command, &schema),
         Err(OpenFault::Schema(fault)) => reported(alloc, store, &fault),
         Err(OpenFault::NoMemory) => Err(RunFault::NoMemory),
     }
@@ -169,6 +172,17 @@ fn load<S: Store>(alloc: Global, store: &mut S) -> Result<Vec<(String, Vec<u8>)>
 }
 
 // The answer over files that compile.
+fn answer_over(alloc: Global, command: Command, schema: &Schema) -> Result<Answer, RunFault>
+    ensures answer { IfOk result (λ answer. IsAnswerOver command schema.now (string_bytes answer.text) answer.status) }
+    ensures err { IfErr result (λ e. e ≡ RunFault.NoMemory) }
+{
+    match command {
+        Command::Compile => described(alloc, schema.descriptors()),
+        Command::Lint(rules) => linted(alloc, schema, &rules),
+    }
+}
+
+// The answer of their descriptors.
 fn described(alloc: Global, descriptors: &Descriptors) -> Result<Answer, RunFault>
     ensures text { IfOk result (λ answer. string_bytes answer.text ≡ json_text (files_desc descriptors.now) ++ codes "\n") }
     ensures status { IfOk result (λ answer. answer.status ≡ Status.Done) }
@@ -226,5 +240,9 @@ fn line(alloc: Global, fault: &Fault, place: Place) -> Result<String, AllocError
     format!(in alloc; "{path}:{line}:{column}: {number} {name}\n")
 }
 
+#[cfg(test)]
+mod lint_rows;
+#[cfg(test)]
+mod lint_tests;
 #[cfg(test)]
 mod tests;

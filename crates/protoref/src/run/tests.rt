@@ -11,15 +11,15 @@ const ROW_JSON: &str =
 
 // A writer that takes a few bytes at a time, and only so many of them.
 #[derive(Drop)]
-struct Pipe {
-    taken: Vec<u8>,
+pub(super) struct Pipe {
+    pub(super) taken: Vec<u8>,
     at_once: usize,
     room: usize,
     breaks: bool,
 }
 
 impl Pipe {
-    fn new(alloc: Global, at_once: usize, room: usize) -> Pipe {
+    pub(super) fn new(alloc: Global, at_once: usize, room: usize) -> Pipe {
         Pipe {
             taken: Vec::new(alloc),
             at_once,
@@ -46,7 +46,7 @@ impl Write for Pipe {
     }
 }
 
-fn store_of(alloc: Global, files: &[(&str, &str)]) -> Result<MemoryStore, AllocError> {
+pub(super) fn store_of(alloc: Global, files: &[(&str, &str)]) -> Result<MemoryStore, AllocError> {
     let mut given = Vec::new(alloc);
     for (path, text) in files {
         let bytes = text.as_bytes().to_vec(alloc)?;
