@@ -21,6 +21,11 @@ abbrev pub code_of : Status → ℕ
 code_of Done = 0
 code_of Problem = 1
 
+abbrev pub fault_name : RunFault → List ℕ
+fault_name Store = codes "Store"
+fault_name NoMemory = codes "NoMemory"
+fault_name Output = codes "Output"
+
 -- the line for standard error
 abbrev pub fault_text : RunFault → List ℕ
 fault_text Store = codes "protoref: store failed"

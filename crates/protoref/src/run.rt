@@ -6,7 +6,7 @@ ghost use Rattle.proto_json.specs.DescriptorText.{json_text};
 ghost use Rattle.proto_json.specs.Views.{files_desc};
 ghost use Rattle.proto_files.specs.Faults.{fault_at};
 ghost use Rattle.protoref.specs.FaultLines.{IsLineOver, IsPlaceOver, line_of};
-ghost use Rattle.protoref.specs.Printed.{CountsStore, IsAnswerOver, PrintsOver, Writes, code_of, fault_text};
+ghost use Rattle.protoref.specs.Printed.{CountsStore, IsAnswerOver, PrintsOver, Writes, code_of, fault_name, fault_text};
 ghost use Rattle.protoref.specs.Stores.{Counts, HoldsFiles, IsListed};
 
 use crate::linting::linted;
@@ -60,6 +60,26 @@ pub enum RunFault {
     NoMemory,
     #[error("output failed")]
     Output,
+}
+
+impl RunFault {
+    /// 0, since none of these is a fault of a schema.
+    pub fn number(self) -> u32
+        ensures { result ≡ 0 }
+    {
+        0
+    }
+
+    /// The name of the fault.
+    pub fn name(self) -> &'static str
+        ensures { result.now ≡ fault_name self }
+    {
+        match self {
+            RunFault::Store => "Store",
+            RunFault::NoMemory => "NoMemory",
+            RunFault::Output => "Output",
+        }
+    }
 }
 
 impl From<StoreFault> for RunFault {

@@ -1,6 +1,6 @@
 //! Where schema files are kept.
 
-ghost use Rattle.std.specs.Prelude.{◌≡◌, ℕ, ◌-◌, ◌^◌, ◌<◌, List, IfOk, map};
+ghost use Rattle.std.specs.Prelude.{◌≡◌, ℕ, ◌-◌, ◌^◌, ◌<◌, List, IfOk, codes, map};
 ghost use Rattle.std.specs.declared.option.Option.{Option};
 ghost use Rattle.std.specs.String.{string_bytes};
 ghost use Rattle.proto_files.specs.GivenFiles.{FileOf};
@@ -13,6 +13,24 @@ use thiserror::Error;
 pub enum StoreFault {
     #[error("the store failed")]
     Failed,
+}
+
+impl StoreFault {
+    /// 0, since it is no fault of a schema.
+    pub fn number(self) -> u32
+        ensures { result ≡ 0 }
+    {
+        0
+    }
+
+    /// The name of the fault.
+    pub fn name(self) -> &'static str
+        ensures { result.now ≡ codes "Failed" }
+    {
+        match self {
+            StoreFault::Failed => "Failed",
+        }
+    }
 }
 
 /// A place that keeps files by their paths.

@@ -7,7 +7,7 @@ pub(super) type Row = (
     &'static str,
 );
 
-pub(super) const ROWS: &[Row] = &[
+pub(super) const DIRECTORIES: &[Row] = &[
     (
         "DIRECTORY_SAME_PACKAGE",
         &[
@@ -67,6 +67,9 @@ pub(super) const ROWS: &[Row] = &[
         ],
         "",
     ),
+];
+
+pub(super) const PACKAGES: &[Row] = &[
     (
         "PACKAGE_LOWER_SNAKE_CASE",
         &[
@@ -115,6 +118,9 @@ pub(super) const ROWS: &[Row] = &[
         &[("D/good_1.proto", ""), ("x.proto", "")],
         "",
     ),
+];
+
+pub(super) const IMPORTS: &[Row] = &[
     (
         "SYNTAX_SPECIFIED",
         &[("d/a.proto", "package p;")],
@@ -191,6 +197,9 @@ pub(super) const ROWS: &[Row] = &[
         ],
         "",
     ),
+];
+
+pub(super) const MESSAGES: &[Row] = &[
     (
         "MESSAGE_PASCAL_CASE",
         &[(
@@ -236,6 +245,9 @@ pub(super) const ROWS: &[Row] = &[
         &[("a.proto", "message M { oneof kind_1 { string A = 1; } }")],
         "",
     ),
+];
+
+pub(super) const ENUMS: &[Row] = &[
     (
         "ENUM_PASCAL_CASE",
         &[(
@@ -294,6 +306,9 @@ pub(super) const ROWS: &[Row] = &[
         )],
         "",
     ),
+];
+
+pub(super) const VALUES: &[Row] = &[
     (
         "ENUM_FIRST_VALUE_ZERO",
         &[(
@@ -326,6 +341,9 @@ pub(super) const ROWS: &[Row] = &[
         )],
         "",
     ),
+];
+
+pub(super) const SERVICES: &[Row] = &[
     (
         "SERVICE_PASCAL_CASE",
         &[("a.proto", "package p; service my_service {} service Ok {}")],
@@ -365,6 +383,9 @@ pub(super) const ROWS: &[Row] = &[
         )],
         "",
     ),
+];
+
+pub(super) const METHODS: &[Row] = &[
     (
         "RPC_NO_CLIENT_STREAMING",
         &[(
@@ -429,6 +450,9 @@ pub(super) const ROWS: &[Row] = &[
         )],
         "",
     ),
+];
+
+pub(super) const TYPES: &[Row] = &[
     (
         "RPC_REQUEST_RESPONSE_UNIQUE",
         &[(
@@ -460,8 +484,3 @@ pub(super) const ROWS: &[Row] = &[
         "",
     ),
 ];
-
-/// The rows, for a test that need not look into them to be proved.
-pub(super) fn rows() -> &'static [Row] {
-    ROWS
-}

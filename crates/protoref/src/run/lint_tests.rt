@@ -1,4 +1,4 @@
-use super::lint_rows::rows;
+use super::lint_rows::{self, Row};
 use super::tests::{Pipe, store_of};
 use super::*;
 use crate::memory::MemoryStore;
@@ -53,12 +53,57 @@ fn rules_named<R: Abort>(rt: &R, names: &[&str]) -> RuleSet {
     rules
 }
 
-#[test]
-fn prints_what_a_rule_finds(rt: HostRuntime) -> Result<(), Fail> {
-    for (name, files, text) in rows() {
-        expect(&rt, rules_named(&rt, &[*name]), files, text)?;
+// Each rule prints what its row says.
+fn expect_rows<R: AllocGlobal + Abort>(rt: &R, rows: &[Row]) -> Result<(), Fail> {
+    for (name, files, text) in rows {
+        expect(rt, rules_named(rt, &[*name]), files, text)?;
     }
     Ok(())
+}
+
+#[test]
+fn directories_of_packages(rt: HostRuntime) -> Result<(), Fail> {
+    expect_rows(&rt, lint_rows::DIRECTORIES)
+}
+
+#[test]
+fn names_of_packages_and_files(rt: HostRuntime) -> Result<(), Fail> {
+    expect_rows(&rt, lint_rows::PACKAGES)
+}
+
+#[test]
+fn syntax_statements_and_imports(rt: HostRuntime) -> Result<(), Fail> {
+    expect_rows(&rt, lint_rows::IMPORTS)
+}
+
+#[test]
+fn names_in_messages(rt: HostRuntime) -> Result<(), Fail> {
+    expect_rows(&rt, lint_rows::MESSAGES)
+}
+
+#[test]
+fn names_in_enums(rt: HostRuntime) -> Result<(), Fail> {
+    expect_rows(&rt, lint_rows::ENUMS)
+}
+
+#[test]
+fn numbers_of_enums(rt: HostRuntime) -> Result<(), Fail> {
+    expect_rows(&rt, lint_rows::VALUES)
+}
+
+#[test]
+fn names_in_services(rt: HostRuntime) -> Result<(), Fail> {
+    expect_rows(&rt, lint_rows::SERVICES)
+}
+
+#[test]
+fn streams_and_types_of_methods(rt: HostRuntime) -> Result<(), Fail> {
+    expect_rows(&rt, lint_rows::METHODS)
+}
+
+#[test]
+fn types_that_methods_share(rt: HostRuntime) -> Result<(), Fail> {
+    expect_rows(&rt, lint_rows::TYPES)
 }
 
 #[test]

@@ -190,5 +190,16 @@ fn names_its_faults(rt: HostRuntime) {
     assert_eq!(rt; fault_line(&RunFault::Store), "protoref: store failed");
     assert_eq!(rt; fault_line(&RunFault::NoMemory), "protoref: no memory");
     assert_eq!(rt; fault_line(&RunFault::Output), "protoref: output failed");
+    for (fault, name) in [
+        (RunFault::Store, "Store"),
+        (RunFault::NoMemory, "NoMemory"),
+        (RunFault::Output, "Output"),
+    ] {
+        assert_eq!(rt; (fault.number(), fault.name()), (0, name));
+    }
+    assert_eq!(rt;
+        (StoreFault::Failed.number(), StoreFault::Failed.name()),
+        (0, "Failed")
+    );
     assert_eq!(rt; (Status::Done.code(), Status::Problem.code()), (0, 1));
 }
