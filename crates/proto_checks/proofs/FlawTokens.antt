@@ -53,11 +53,11 @@ both : {A : Type 0} (P : A → Type 0) (xs ys : List A) → AllByRecursion P xs 
 both P [] ys h g = g
 both P (x ∷ xs) ys h g = (h.0, both P xs ys h.1 g)
 
-fore : {A : Type 0} (P : A → Type 0) (xs ys : List A) → AllByRecursion P (xs ++ ys) → AllByRecursion P xs
+pub fore : {A : Type 0} (P : A → Type 0) (xs ys : List A) → AllByRecursion P (xs ++ ys) → AllByRecursion P xs
 fore P [] ys h = tt
 fore P (x ∷ xs) ys h = (h.0, fore P xs ys h.1)
 
-aft : {A : Type 0} (P : A → Type 0) (xs ys : List A) → AllByRecursion P (xs ++ ys) → AllByRecursion P ys
+pub aft : {A : Type 0} (P : A → Type 0) (xs ys : List A) → AllByRecursion P (xs ++ ys) → AllByRecursion P ys
 aft P [] ys h = h
 aft P (x ∷ xs) ys h = aft P xs ys h.1
 

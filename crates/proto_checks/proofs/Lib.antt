@@ -9,3 +9,4 @@ pub mod CappedRanges
 pub mod CappedFlaws
 pub mod Phases
 pub mod FlawTokens
+pub mod RenamedFlaws

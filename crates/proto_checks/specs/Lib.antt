@@ -4,3 +4,4 @@ pub mod FileFlaws
 pub mod Flaws
 pub mod NumberFlaws
 pub mod RangeIndex
+pub mod Renamed

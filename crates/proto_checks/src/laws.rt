@@ -1,8 +1,14 @@
 //! Laws of the definitions, for the layers above. None of these does anything.
 
 ghost use Rattle.proto_checks.specs.Capped.{CapsKeepTheLeast};
+ghost use Rattle.proto_checks.specs.Renamed.{NamesDecideThreeKinds};
 
 /// The least flaw of a file is the same whether its numbers stop at a cap past every limit or not.
 pub fn caps_keep_the_least()
     ensures { CapsKeepTheLeast }
+{}
+
+/// Scenes of one tree that differ in names alone have the same flaws, but for those that names decide: reserved names, defaults and JSON names.
+pub fn names_decide_three_kinds()
+    ensures { NamesDecideThreeKinds }
 {}
