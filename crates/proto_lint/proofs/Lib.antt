@@ -4,7 +4,6 @@ mod FileByFile
 mod HeadLists
 mod ImportLists
 mod Joins
-mod LastParts
 mod LastSplit
 mod Linters
 mod Listing

@@ -14,7 +14,7 @@ use Rattle.std.proofs.lemmas.List.Sorted.{Contains-permutation, IsPermutation-sy
 use Rattle.std.proofs.lemmas.Map.Keys.{Less-from_sorted}
 use Rattle.proto_lint.specs.declared.finding.Finding.{Finding}
 use Rattle.proto_lint.specs.declared.rule.Rule.{Rule}
-use Rattle.proto_lint.specs.Findings.{FindingOf, IsListingOf, and_then, finding_cmp}
+use Rattle.proto_lint.specs.Findings.{FindingOf, IsListingOf, finding_cmp}
 use Rattle.proto_lint.specs.Rules.{identifier}
 use Rattle.proto_lint.specs.Views.{finding_of}
 use Rattle.proto_lint.specs.contracts.finding.FindingOrd.TheImpl as derived
@@ -22,12 +22,12 @@ use Rattle.proto_lint.proofs.RuleOrder.{derived_is, equal_numbers, same_identifi
 
 -- ---- equal findings
 
-front_equal : (o p : Ordering) → and_then o p ≡ Equal → o ≡ Equal
+front_equal : (o p : Ordering) → ordering_then o p ≡ Equal → o ≡ Equal
 front_equal Less p e = e
 front_equal Equal p e = refl
 front_equal Greater p e = e
 
-back_equal : (o p : Ordering) → and_then o p ≡ Equal → p ≡ Equal
+back_equal : (o p : Ordering) → ordering_then o p ≡ Equal → p ≡ Equal
 back_equal Less p e = cc
 back_equal Equal p e = e
 back_equal Greater p e = cc
@@ -41,10 +41,10 @@ equal_findings f g e =
     let rules : Ordering = slice_cmp nat_cmp (identifier f.rule) (identifier g.rule) in
     let offsets : Ordering = nat_cmp f.offset g.offset in
     let paths : Ordering = slice_cmp nat_cmp f.path g.path in
-    let behind_path = back_equal paths (and_then offsets (and_then rules names)) e in
-    let behind_offset = back_equal offsets (and_then rules names) behind_path in
-    let path : f.path ≡ g.path = equal_texts f.path g.path (front_equal paths (and_then offsets (and_then rules names)) e) in
-    let offset : f.offset ≡ g.offset = equal_numbers f.offset g.offset (front_equal offsets (and_then rules names) behind_path) in
+    let behind_path = back_equal paths (ordering_then offsets (ordering_then rules names)) e in
+    let behind_offset = back_equal offsets (ordering_then rules names) behind_path in
+    let path : f.path ≡ g.path = equal_texts f.path g.path (front_equal paths (ordering_then offsets (ordering_then rules names)) e) in
+    let offset : f.offset ≡ g.offset = equal_numbers f.offset g.offset (front_equal offsets (ordering_then rules names) behind_path) in
     let rule : f.rule ≡ g.rule = same_identifier f.rule g.rule (equal_texts (identifier f.rule) (identifier g.rule) (front_equal rules names behind_offset)) in
     let name : f.name ≡ g.name = equal_texts f.name g.name (back_equal rules names behind_offset) in
     ap (λ (p : List ℕ). let x : FindingOf = record { path = p; offset = f.offset; rule = f.rule; name = f.name } in x) path
@@ -127,11 +127,6 @@ module _ (cmp : Finding → Finding → Ordering) (total : IsTotalOrder cmp) (sa
 
 -- ---- the order of the code
 
-same_then : (o p : Ordering) → ordering_then o p ≡ and_then o p
-same_then Less p = refl
-same_then Equal p = refl
-same_then Greater p = refl
-
 pub agrees : (f g : Finding) → (derived.cmp-value).it f g ≡ finding_cmp (finding_of f) (finding_of g)
 agrees f g =
     let paths = slice_cmp nat_cmp (string_bytes f.path) (string_bytes g.path) in
@@ -139,6 +134,3 @@ agrees f g =
     let rules = slice_cmp nat_cmp (identifier f.rule) (identifier g.rule) in
     let names = slice_cmp nat_cmp (string_bytes f.name) (string_bytes g.name) in
     ap (λ (o : Ordering). ordering_then paths (ordering_then offsets (ordering_then o names))) (derived_is f.rule g.rule)
-    ∙ ap (λ (o : Ordering). ordering_then paths (ordering_then offsets o)) (same_then rules names)
-    ∙ ap (ordering_then paths) (same_then offsets (and_then rules names))
-    ∙ same_then paths (and_then offsets (and_then rules names))

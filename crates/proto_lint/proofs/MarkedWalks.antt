@@ -64,9 +64,6 @@ marks_more l means i d count old new lt sized before is = one_more (get_or means
     one_more : (m : Meant) → take (i + 1) means ≡ take i means ++ m ∷ [] → new ≡ with_mark old (file_at l m.row) → MarksMeant l (take (i + 1) means) count new
     one_more m more is g within = marks_one l (take i means) (take (i + 1) means) m count old new more sized before is g within
 
-pub marks_none : (l : LinkOf) (count : ℕ) (old : List Bool) → ((g : ℕ) → get_or old g false ≡ false) → MarksMeant l [] count old
-marks_none l count old none g within = (λ h. absurd (both_ways (get_or old g false) (none g) h), λ (x, c, e). absurd (omega (arith, c.1)))
-
 -- ---- walks that stop at marks
 
 -- what was seen waits, or has no mark

@@ -48,6 +48,3 @@ used_found rules r w paths file i old new path used chosen plain is uses e =
     ∙ ap (λ (p : List ℕ). old ++ map (found_at r rule.ImportUsed) (unless (is_used w file (file_of paths p)) i.keyword p)) (sym is)
     ∙ ap (λ (b : Bool). old ++ map (found_at r rule.ImportUsed) (unless (b || is_used w file (file_of paths (path_of r i))) i.keyword (path_of r i))) (sym plain)
     ∙ ap (λ (b : Bool). old ++ (if b then map (found_at r rule.ImportUsed) (import_used w paths r file i) else [])) (sym chosen)
-
-pub not_some : {A : Type 0} (o : Option A) (b : Bool) → b ≡ true → (b ≡ true → o ≡ None) → is_some o ≡ false
-not_some o b e h = ap is_some (h e)

@@ -1,10 +1,10 @@
 -- The findings of a workspace, and their listing.
 use Rattle.std.specs.Prelude.{◌≡◌, ◌↔◌, ℕ, suc, Bool, true, false, List, [], ◌∷◌, ◌++◌, AllPairs, map, flat_map}
 use Rattle.std.specs.List.{Contains}
-use Rattle.std.specs.Ordering.{nat_cmp}
+use Rattle.std.specs.Ordering.{nat_cmp, ordering_then}
 use Rattle.std.specs.Cmp.Lexicographic.{slice_cmp}
 use Rattle.std.specs.declared.cmp.Ordering.{Ordering}
-use Rattle.std.specs.declared.cmp.Ordering.TheVariants.{Less, Equal, Greater}
+use Rattle.std.specs.declared.cmp.Ordering.TheVariants.{Less}
 use Rattle.proto_text.specs.declared.lexer.Token.{Token}
 use Rattle.proto_text.specs.Texts.{offset_at}
 use Rattle.proto_text.specs.Tokens.{lexeme_at}
@@ -117,14 +117,9 @@ findings rules files reads = findings_from rules files reads 0 reads
 
 -- ---- their listing
 
-abbrev pub and_then : Ordering → Ordering → Ordering
-and_then Less o = Less
-and_then Equal o = o
-and_then Greater o = Greater
-
 -- by path, offset, the bytes of the rule's identifier, and name
 abbrev pub finding_cmp : FindingOf → FindingOf → Ordering
-finding_cmp f g = and_then (slice_cmp nat_cmp f.path g.path) (and_then (nat_cmp f.offset g.offset) (and_then (slice_cmp nat_cmp (identifier f.rule) (identifier g.rule)) (slice_cmp nat_cmp f.name g.name)))
+finding_cmp f g = ordering_then (slice_cmp nat_cmp f.path g.path) (ordering_then (nat_cmp f.offset g.offset) (ordering_then (slice_cmp nat_cmp (identifier f.rule) (identifier g.rule)) (slice_cmp nat_cmp f.name g.name)))
 
 -- each finding once, in order
 pub record IsListingOf (all listed : List FindingOf) : Type 0 where

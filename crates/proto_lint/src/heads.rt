@@ -88,7 +88,7 @@ fn file_name_of(path: &str) -> &str
     }
 }
 
-/// The last part of a package's name.
+/// The last part of a full name.
 pub(crate) fn last_part(name: &str) -> &str
     ensures { result.now ≡ behind_last 46 name.now }
 {

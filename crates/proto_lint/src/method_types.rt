@@ -16,7 +16,6 @@ use proto_tree::{File, Item};
 use std::alloc::{AllocError, Global};
 
 fn add_item_messages<'a>(
-    alloc: Global,
     all: &mut Vec<&'a str>,
     reading: &Reading<'a>,
     item: &Item,
@@ -24,13 +23,12 @@ fn add_item_messages<'a>(
     ensures { OnOk result (map (λ s. s.now) all.new.items ≡ map (λ s. s.now) all.old.items ++ outer_messages (reading_of reading.now) (item_tree item.now)) }
 {
     match item {
-        Item::Service(service) => add_messages(alloc, all, reading, service),
+        Item::Service(service) => add_messages(all, reading, service),
         _ => Ok(()),
     }
 }
 
 fn add_file_messages<'a>(
-    alloc: Global,
     all: &mut Vec<&'a str>,
     reading: &Reading<'a>,
     file: &File,
@@ -38,7 +36,7 @@ fn add_file_messages<'a>(
     ensures { OnOk result (map (λ s. s.now) all.new.items ≡ map (λ s. s.now) all.old.items ++ outer_messages (reading_of reading.now) (tree_of_file file.now)) }
 {
     for item in &file.items {
-        add_item_messages(alloc, all, reading, item)?;
+        add_item_messages(all, reading, item)?;
     }
     Ok(())
 }
@@ -55,7 +53,7 @@ pub(crate) fn all_messages<'a>(
     let mut all = Vec::new(alloc);
     for file in 0..files.len() {
         let reading = Reading::of(files, link, file as u32);
-        add_file_messages(alloc, &mut all, &reading, files.tree(file))?;
+        add_file_messages(&mut all, &reading, files.tree(file))?;
     }
     Ok(all)
 }

@@ -4,11 +4,12 @@ ghost use Rattle.std.specs.Prelude.{◌≡◌, ◌++◌, map, OnOk};
 ghost use Rattle.std.specs.Str.{bytes_eq};
 ghost use Rattle.proto_lint.specs.declared.rule.Rule.TheVariants as rule;
 ghost use Rattle.proto_lint.specs.Methods.{is_standard, method_finds, rpc_no_client_streaming, rpc_no_server_streaming, rpc_pascal_case, rpc_request_response_unique, rpc_request_standard_name, rpc_response_standard_name, type_meant};
-ghost use Rattle.proto_lint.specs.Placed.{behind_last, found_by};
+ghost use Rattle.proto_lint.specs.Placed.{found_by};
 ghost use Rattle.proto_lint.specs.Readings.{reading_of};
 ghost use Rattle.proto_lint.specs.Views.{found_of};
 
 use crate::found::{Found, add_below_unless};
+use crate::heads::last_part;
 use crate::reading::Reading;
 use crate::rule::Rule;
 use crate::rule_set::RuleSet;
@@ -108,16 +109,6 @@ fn add_server_stream(
 }
 
 // ---- names of inputs and outputs
-
-// What stands behind the last dot of a full name, or all of it.
-fn last_part(name: &str) -> &str
-    ensures { result.now ≡ behind_last 46 name.now }
-{
-    match name.rsplit_once('.') {
-        Some((_, last)) => last,
-        None => name,
-    }
-}
 
 // Whether bytes are two others, one behind the other.
 fn is_joined(bytes: &[u8], front: &[u8], back: &[u8]) -> bool

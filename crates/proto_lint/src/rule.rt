@@ -5,35 +5,62 @@ ghost use Rattle.std.specs.Prelude.{◌≡◌, ◌↔◌, Some, IsTrue};
 /// How many rules there are.
 pub(crate) const RULE_COUNT: usize = 27;
 
-/// A lint rule, in the order of their identifiers.
+/// A lint rule, by what it finds, in the order of their identifiers.
 #[derive(Clone, Copy, PartialEq, Eq, PartialOrd, Ord)]
 pub enum Rule {
+    /// A file whose package is not that of the first file of its directory.
     DirectorySamePackage,
+    /// The first value of an enum, where its number is not 0.
     EnumFirstValueZero,
+    /// The option `allow_alias = true`.
     EnumNoAllowAlias,
+    /// An enum whose name is not Pascal.
     EnumPascalCase,
+    /// A value whose name does not begin with that of its enum in upper snake and `_`.
     EnumValuePrefix,
+    /// A value whose name is not upper snake.
     EnumValueUpperSnakeCase,
+    /// A value with number 0 whose name does not end in `_UNSPECIFIED`.
     EnumZeroValueSuffix,
+    /// A field whose name is not lower snake.
     FieldLowerSnakeCase,
+    /// A file whose name is not lower snake.
     FileLowerSnakeCase,
+    /// A public import.
     ImportNoPublic,
+    /// An import that is not public and leads to no file that a reference needs.
     ImportUsed,
+    /// A message whose name is not Pascal.
     MessagePascalCase,
+    /// A oneof whose name is not lower snake.
     OneofLowerSnakeCase,
+    /// A file without a package.
     PackageDefined,
+    /// A file whose directory is not its package with `/` for `.`.
     PackageDirectoryMatch,
+    /// A package with a part that is not lower snake.
     PackageLowerSnakeCase,
+    /// A file whose directory is not that of the first file of its package.
     PackageSameDirectory,
+    /// A package whose last part is no version.
     PackageVersionSuffix,
+    /// A method with a stream of inputs.
     RpcNoClientStreaming,
+    /// A method with a stream of outputs.
     RpcNoServerStreaming,
+    /// A method whose name is not Pascal.
     RpcPascalCase,
+    /// A method that shares a message with another method, or has one message as input and output.
     RpcRequestResponseUnique,
+    /// A method whose input is not named after it and `Request`.
     RpcRequestStandardName,
+    /// A method whose output is not named after it and `Response`.
     RpcResponseStandardName,
+    /// A service whose name is not Pascal.
     ServicePascalCase,
+    /// A service whose name does not end in `Service`.
     ServiceSuffix,
+    /// A file without a syntax statement.
     SyntaxSpecified,
 }
 

@@ -92,7 +92,6 @@ fn add_of_item<'a>(
 
 /// Adds the messages of the methods of a service.
 pub(crate) fn add_messages<'a>(
-    _alloc: Global,
     all: &mut Vec<&'a str>,
     reading: &Reading<'a>,
     service: &Service,
