@@ -14,7 +14,7 @@ use Rattle.proto_checks.specs.NumberFlaws.{is_within, is_field_number, is_value_
 
 -- ---- the order
 
-le_itself : (a : ℤ) → int_le a a ≡ true
+pub le_itself : (a : ℤ) → int_le a a ≡ true
 le_itself a = true_from_ne_false (int_le a a) (λ e. let x = le-false a a e in omega (arith, x))
 
 pub le_through : (a b c : ℤ) → int_le a b ≡ true → int_le b c ≡ true → int_le a c ≡ true
@@ -23,7 +23,7 @@ le_through a b c h k = true_from_ne_false (int_le a c) (λ e. let x = le-false a
 pub le_or_back : (a b : ℤ) → int_le a b ≡ false → int_le b a ≡ true
 le_or_back a b h = true_from_ne_false (int_le b a) (λ e. let x = le-false a b h in let y = le-false b a e in omega (arith, x, y))
 
-le_both : (a b : ℤ) → int_le a b ≡ true → int_le b a ≡ true → a ≡ b
+pub le_both : (a b : ℤ) → int_le a b ≡ true → int_le b a ≡ true → a ≡ b
 le_both a b h k = let x = le-true a b h in let y = le-true b a k in same_in a b (omega (arith, x, y))
 
 -- ---- numbers that no test below the cap tells apart

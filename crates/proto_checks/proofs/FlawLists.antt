@@ -74,11 +74,11 @@ before t n u m = nat_lt t u || (t == u && nat_lt n m)
 abbrev NotBefore : (t n u m : ℕ) → Type 0
 NotBefore t n u m = (u < t) ⊎ ((t ≡ u) × (m ≤ n))
 
-or_false : (a b : Bool) → (a || b) ≡ false → (a ≡ false) × (b ≡ false)
+pub or_false : (a b : Bool) → (a || b) ≡ false → (a ≡ false) × (b ≡ false)
 or_false true b h = absurd (cc)
 or_false false b h = (refl, h)
 
-false_or : (a b : Bool) → a ≡ false → b ≡ false → (a || b) ≡ false
+pub false_or : (a b : Bool) → a ≡ false → b ≡ false → (a || b) ≡ false
 false_or true b h k = absurd (cc)
 false_or false b h k = k
 
@@ -199,7 +199,7 @@ least_more xs i d x next lt is h =
 
 -- ---- as many flags as tokens
 
-length_map : {A B : Type 0} (f : A → B) (xs : List A) → length (map f xs) ≡ length xs
+pub length_map : {A B : Type 0} (f : A → B) (xs : List A) → length (map f xs) ≡ length xs
 length_map f [] = refl
 length_map f (x ∷ xs) = ap suc (length_map f xs)
 

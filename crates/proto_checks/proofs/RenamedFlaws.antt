@@ -93,10 +93,10 @@ clashes_none s fs =
 
 -- ---- numbers and ranges
 
-abbrev numbered : ℕ → ℤ → NumberAt
+abbrev pub numbered : ℕ → ℤ → NumberAt
 numbered token number = record { token = token; number = number }
 
-abbrev ranged : ℕ → ℤ → ℤ → RangeAt
+abbrev pub ranged : ℕ → ℤ → ℤ → RangeAt
 ranged token first last = record { token = token; first = first; last = last }
 
 -- ---- enums that are the same but for their values

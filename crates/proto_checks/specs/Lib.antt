@@ -1,7 +1,9 @@
 pub mod Capped
+pub mod Deleted
 pub mod FieldFlaws
 pub mod FileFlaws
 pub mod Flaws
+pub mod Imports
 pub mod NumberFlaws
 pub mod RangeIndex
 pub mod Renamed
