@@ -28,8 +28,6 @@ mod sight;
 mod spelled;
 pub mod spelling;
 mod table;
-#[cfg(test)]
-mod tests;
 pub mod visibility;
 mod walk;
 pub mod wanted;

@@ -1,4 +1,0 @@
-//! Worked examples.
-
-mod imports;
-mod listing;
