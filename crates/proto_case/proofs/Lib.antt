@@ -1,1 +1,3 @@
-pub mod Uppers
+pub mod Camel
+pub mod EntryNames
+mod Uppers

@@ -1,2 +1,3 @@
+pub mod Camel
 pub mod Cases
 pub mod Versions

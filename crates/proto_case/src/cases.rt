@@ -6,7 +6,8 @@ ghost use Rattle.std.specs.List.{list_all};
 ghost use Rattle.std.specs.String.{string_bytes};
 ghost use Rattle.proto_case.specs.Cases.{are_apart, begins_lower, begins_word, is_lower_snake, is_pascal, is_upper_snake, upper};
 
-use std::alloc::{AllocError, Global};
+use proto_faults::NoMemory;
+use std::alloc::Global;
 
 // Whether there is no `_` at the end, and no two are beside each other.
 fn are_apart(bytes: &[u8]) -> bool
@@ -104,7 +105,7 @@ fn begins_word(before: Option<char>, c: char, rest: &str) -> bool
 }
 
 /// A name in upper case, with `_` before each word but the first: `HTTPCode` is `HTTP_CODE`.
-pub fn upper(alloc: Global, name: &str) -> Result<String, AllocError>
+pub fn upper(alloc: Global, name: &str) -> Result<String, NoMemory>
     ensures { IfOk result (λ s. string_bytes s ≡ upper name.now) }
 {
     let mut words = String::new(alloc);

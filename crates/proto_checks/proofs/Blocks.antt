@@ -12,7 +12,7 @@ use Rattle.proto_tree.specs.Tree.{Tree, End, Leaf, Block, joined}
 use Rattle.proto_tree.specs.File.{trees, field_tree, enum_item_tree, method_item_tree}
 use Rattle.proto_parts.specs.Parts.{BlockOf, blocks_in, statements}
 use Rattle.proto_parts.specs.Scenes.{Scene}
-use Rattle.proto_checks.specs.declared.flaw.Flaw.{Flaw}
+use Rattle.proto_numbers.specs.declared.flaw.Flaw.{Flaw}
 use Rattle.proto_checks.specs.FileFlaws.{block_flaws, flaws_in_blocks, is_empty}
 
 append_nil : {A : Type 0} (xs : List A) → xs ++ [] ≡ xs

@@ -1,16 +1,12 @@
 -- A cap past every limit of the language changes nothing of what is found wrong with a file.
-use Rattle.std.specs.Prelude.{◌≡◌, Option, Some, None}
+use Rattle.std.specs.Prelude.{◌≡◌, Option, Some}
 use Rattle.std.specs.List.{Contains}
 use Rattle.proto_tree.specs.Tree.{Tree}
 use Rattle.proto_parts.specs.Numbers.{past}
-use Rattle.proto_parts.specs.Scenes.{Scene}
-use Rattle.proto_checks.specs.declared.flaw.Flaw.{Flaw}
-use Rattle.proto_checks.specs.Flaws.{IsLeast}
+use Rattle.proto_parts.specs.Scenes.{Scene, uncapped}
+use Rattle.proto_numbers.specs.declared.flaw.Flaw.{Flaw}
+use Rattle.proto_numbers.specs.Flaws.{IsLeast}
 use Rattle.proto_checks.specs.FileFlaws.{file_flaws}
-
--- the same file, with its numbers as they are
-abbrev pub uncapped : Scene → Scene
-uncapped scene = record scene { cap = None }
 
 -- the least flaw is the same with the cap and without it
 abbrev pub CapsKeepTheLeast : Type 0

@@ -1,20 +1,21 @@
 -- What is wrong with one field: its label, its type, its options and its default.
 use Rattle.std.specs.Prelude.{ℕ, ℤ, pos, negsuc, ◌^◌, ◌-◌, Bool, false, not, ◌&&◌, if◌then◌else◌, List, [], ◌∷◌, ◌++◌, map, flat_map, find, Option, Some, None, is_some, is_none, codes}
 use Rattle.std.specs.Str.{bytes_eq}
-use Rattle.proto_files.specs.declared.fault.FaultKind.TheVariants as kind
+use Rattle.proto_faults.specs.declared.fault.FaultKind.TheVariants as kind
 use Rattle.proto_tree.specs.declared.tree.Constant.{Constant}
 use Rattle.proto_tree.specs.declared.tree.Constant.TheVariants as constant
 use Rattle.proto_tree.specs.declared.tree.FieldType.{FieldType}
 use Rattle.proto_tree.specs.declared.tree.FieldType.TheVariants as field_type
-use Rattle.proto_names.specs.FromTree.{first_of}
+use Rattle.proto_tree.specs.References.{first_of}
+use Rattle.proto_parts.specs.Labels.{has_label}
 use Rattle.proto_parts.specs.Options.{is_allowed, is_named, is_one_of, truth_of, word_of}
 use Rattle.proto_parts.specs.Parts.{FieldOf, OptionOf}
 use Rattle.proto_parts.specs.Scenes.{Scene, EnumOf, signed_at, enum_meant, text}
 use Rattle.proto_parts.specs.declared.options.Element.{Element}
 use Rattle.proto_parts.specs.declared.options.Element.TheVariants as element
-use Rattle.proto_checks.specs.declared.flaw.Flaw.{Flaw}
-use Rattle.proto_checks.specs.Flaws.{flaw_if, after_earlier, marked}
-use Rattle.proto_checks.specs.NumberFlaws.{is_within, most_value, least_value}
+use Rattle.proto_numbers.specs.declared.flaw.Flaw.{Flaw}
+use Rattle.proto_numbers.specs.Flaws.{flaw_if, after_earlier, marked}
+use Rattle.proto_numbers.specs.NumberFlaws.{is_within, most_value, least_value}
 
 -- ---- options of any element
 
@@ -42,13 +43,6 @@ enum_of_type scene (field_type.Scalar t) = None
 enum_of_type scene (field_type.Reference r) = enum_meant scene r
 
 -- ---- labels
-
-abbrev pub is_label : Scene → List ℕ → Option ℕ → Bool
-is_label scene label None = false
-is_label scene label (Some t) = bytes_eq (text scene t) label
-
-abbrev pub has_label : Scene → List ℕ → FieldOf → Bool
-has_label scene label f = is_label scene label f.label
 
 -- a proto2 field without a label, but for those of oneofs and maps
 abbrev pub lacks_label : Scene → FieldOf → Bool

@@ -3,21 +3,21 @@ use Rattle.std.specs.Prelude.{ℕ, pos, Bool, true, false, not, ◌&&◌, if◌t
 use Rattle.std.specs.List.{list_any}
 use Rattle.std.specs.Ordering.{int_eq}
 use Rattle.std.specs.Str.{bytes_eq}
-use Rattle.proto_files.specs.declared.fault.FaultKind.TheVariants as kind
+use Rattle.proto_faults.specs.declared.fault.FaultKind.TheVariants as kind
 use Rattle.proto_tree.specs.declared.tree.Value.{Value}
 use Rattle.proto_tree.specs.declared.piece.Header.{Header}
 use Rattle.proto_tree.specs.declared.piece.Header.TheVariants as header
 use Rattle.proto_tree.specs.Tree.{Tree}
-use Rattle.proto_names.specs.EntryNames.{camel_from}
-use Rattle.proto_parts.specs.Options.{is_named, is_one_of, text_option, truth_of}
+use Rattle.proto_parts.specs.JsonNames.{json_name_of}
+use Rattle.proto_parts.specs.Options.{is_named, is_one_of, truth_of}
 use Rattle.proto_parts.specs.Parts.{FieldOf, OptionOf, statements, fields_in, values_in, closed_ranges, enum_ranges, reserved_names_in, extension_words, options_in, settings_of, blocks_in}
 use Rattle.proto_parts.specs.Scenes.{Scene, text, value}
 use Rattle.proto_parts.specs.declared.options.Element.TheVariants as element
-use Rattle.proto_checks.specs.declared.flaw.Flaw.{Flaw}
-use Rattle.proto_checks.specs.declared.numbers.NumberAt.{NumberAt}
-use Rattle.proto_checks.specs.declared.numbers.RangeAt.{RangeAt}
-use Rattle.proto_checks.specs.Flaws.{flaw_if, after_earlier, marked}
-use Rattle.proto_checks.specs.NumberFlaws.{number_of_field, number_of_value, range_of, enum_range_of, most_field, least_value, most_value, is_field_number, is_value_number, outside, broken_ranges, reserved_numbers, overlaps, repeated_numbers}
+use Rattle.proto_numbers.specs.declared.flaw.Flaw.{Flaw}
+use Rattle.proto_numbers.specs.declared.numbers.NumberAt.{NumberAt}
+use Rattle.proto_numbers.specs.declared.numbers.RangeAt.{RangeAt}
+use Rattle.proto_numbers.specs.Flaws.{flaw_if, after_earlier, marked}
+use Rattle.proto_numbers.specs.NumberFlaws.{field_number_flaws, number_of_field, number_of_value, range_of, enum_range_of, least_value, most_value, is_value_number, outside, broken_ranges, reserved_numbers, overlaps, repeated_numbers}
 use Rattle.proto_checks.specs.FieldFlaws.{field_flaws, option_flaws}
 
 -- ---- names
@@ -33,32 +33,11 @@ reserved_again scene reserved = marked kind.ReservedName reserved (after_earlier
 abbrev pub name_flaws : Scene → List ℕ → List ℕ → List Flaw
 name_flaws scene reserved names = with_reserved_name scene reserved names ++ reserved_again scene reserved
 
--- the JSON name of a word: no `_`, and the character after one in upper case
-abbrev pub json_word : List ℕ → List ℕ
-json_word word = camel_from false word
-
-abbrev pub written_or : Option (List ℕ) → List ℕ → List ℕ
-written_or None word = json_word word
-written_or (Some name) word = name
-
--- as `json_name` says, where it is a text
-abbrev pub json_name_of : Scene → FieldOf → List ℕ
-json_name_of scene f = written_or (text_option (text scene) (value scene) (codes "json_name") f.options) (text scene f.name)
-
 -- in proto3, a JSON name that an earlier field has
 abbrev pub json_clashes : Scene → List FieldOf → List Flaw
 json_clashes scene fs = if scene.is_proto3 then marked kind.JsonClash (map (λ f. f.name) fs) (after_earlier bytes_eq (map (json_name_of scene) fs)) else []
 
 -- ---- messages
-
--- the number flaws of a message's fields and ranges
-abbrev pub field_number_flaws : List RangeAt → List NumberAt → List Flaw
-field_number_flaws ranges numbers =
-    outside is_field_number numbers
-    ++ (marked kind.DuplicateNumber (map (λ n. n.token) numbers) (repeated_numbers numbers)
-    ++ (reserved_numbers ranges numbers
-    ++ (broken_ranges (pos 1) most_field ranges
-    ++ overlaps ranges)))
 
 -- `extensions` in a proto3 file
 abbrev pub extension_flaws : Scene → Tree → List Flaw

@@ -1,9 +1,3 @@
 pub mod Capped
-pub mod Deleted
 pub mod FieldFlaws
 pub mod FileFlaws
-pub mod Flaws
-pub mod Imports
-pub mod NumberFlaws
-pub mod RangeIndex
-pub mod Renamed

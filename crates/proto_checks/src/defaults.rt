@@ -5,14 +5,10 @@ ghost use Rattle.proto_parts.specs.Options.{is_one_of};
 ghost use Rattle.proto_parts.specs.Views.{enum_of, field_of, option_of};
 ghost use Rattle.proto_checks.specs.FieldFlaws.{holds_number, is_scalar_default, is_value_of, is_default_of, may_default, wrong_default, default_flaws, proto3_defaults};
 
-use crate::fields::has_label;
-use crate::flaw::{Flaw, add_if};
-use crate::numbers::{LEAST_VALUE, MOST_VALUE, is_within};
-use crate::option_values::{option_named, truth, word};
-use proto_files::FaultKind;
-use proto_parts::{EnumAt, FieldAt, OptionAt, Scene};
+use proto_faults::{FaultKind, NoMemory};
+use proto_numbers::{Flaw, LEAST_VALUE, MOST_VALUE, add_if, is_within};
+use proto_parts::{EnumAt, FieldAt, OptionAt, Scene, has_label, option_named, truth, word};
 use proto_tree::{Constant, FieldType};
-use std::alloc::AllocError;
 
 fn holds_number(scalar: &str, number: i128) -> bool
     ensures { result ≡ holds_number scalar.now number }
@@ -75,7 +71,7 @@ fn add_wrong_default(
     scene: &Scene,
     field: FieldAt,
     default: Option<OptionAt>,
-) -> Result<(), AllocError>
+) -> Result<(), NoMemory>
     ensures { OnOk result (found.new.items ≡ found.old.items ++ wrong_default scene.now (field_of field.entry) (option_map option_of default.entry)) }
 {
     match default {
@@ -93,7 +89,7 @@ pub(crate) fn add_default_flaws(
     scene: &Scene,
     field: FieldAt,
     options: &[OptionAt],
-) -> Result<(), AllocError>
+) -> Result<(), NoMemory>
     requires { map option_of options.now ≡ (field_of field).options }
     ensures { OnOk result (found.new.items ≡ found.old.items ++ default_flaws scene.now (field_of field.entry)) }
 {
@@ -109,7 +105,7 @@ pub(crate) fn add_proto3_defaults(
     scene: &Scene,
     field: FieldAt,
     options: &[OptionAt],
-) -> Result<(), AllocError>
+) -> Result<(), NoMemory>
     requires { map option_of options.now ≡ (field_of field).options }
     ensures { OnOk result (found.new.items ≡ found.old.items ++ proto3_defaults scene.now (field_of field.entry)) }
 {

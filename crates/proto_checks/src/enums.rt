@@ -1,33 +1,31 @@
 //! What is wrong with an enum: its numbers, names and options.
 
 ghost use Rattle.std.specs.Prelude.{◌≡◌, ◌++◌, ◌&&◌, [], codes, if◌then◌else◌, flat_map, map, IfOk, OnOk};
-ghost use Rattle.proto_files.specs.declared.fault.FaultKind.TheVariants as kind;
+ghost use Rattle.proto_faults.specs.declared.fault.FaultKind.TheVariants as kind;
 ghost use Rattle.proto_tree.specs.File.{enum_item_tree, trees};
 ghost use Rattle.proto_parts.specs.Options.{is_named, truth_of};
 ghost use Rattle.proto_parts.specs.Parts.{enum_ranges, options_in, reserved_names_in, statements};
 ghost use Rattle.proto_parts.specs.Scenes.{text};
 ghost use Rattle.proto_parts.specs.Views.{option_of};
 ghost use Rattle.proto_parts.specs.declared.options.Element.TheVariants as element;
-ghost use Rattle.proto_checks.specs.Flaws.{flaw_if, marked};
+ghost use Rattle.proto_numbers.specs.Flaws.{flaw_if, marked};
 ghost use Rattle.proto_checks.specs.FieldFlaws.{option_flaws};
-ghost use Rattle.proto_checks.specs.NumberFlaws.{enum_range_of, number_of_value, repeated_numbers};
+ghost use Rattle.proto_numbers.specs.NumberFlaws.{enum_range_of, number_of_value, repeated_numbers};
 ghost use Rattle.proto_checks.specs.FileFlaws.{allows_alias, enum_flaws, first_value_flaws, is_true, name_flaws, value_number_flaws, value_option_flaws};
 
-use crate::flaw::{Flaw, add_if, add_marked};
 use crate::names::add_name_flaws;
-use crate::number_lists::{value_numbers, value_ranges};
-use crate::numbers::{
-    NumberAt, RangeAt, add_outside_values, add_value_ranges, number_tokens, repeated,
-};
-use crate::option_values::truth;
 use crate::options::add_option_flaws;
-use proto_files::FaultKind;
+use proto_faults::{FaultKind, NoMemory};
+use proto_numbers::{
+    Flaw, NumberAt, RangeAt, add_if, add_marked, add_outside_values, add_value_ranges,
+    number_tokens, repeated, value_numbers, value_ranges,
+};
 use proto_parts::{
     Element, OptionAt, Scene, enum_options, enum_ranges, enum_reserved_names, options_between,
-    values,
+    truth, values,
 };
 use proto_tree::{Enum, EnumItem, Value};
-use std::alloc::{AllocError, Global};
+use std::alloc::Global;
 
 // ---- numbers
 
@@ -35,7 +33,7 @@ fn add_first_value(
     found: &mut Vec<Flaw>,
     scene: &Scene,
     numbers: &[NumberAt],
-) -> Result<(), AllocError>
+) -> Result<(), NoMemory>
     ensures { OnOk result (found.new.items ≡ found.old.items ++ first_value_flaws scene.now numbers.now) }
 {
     match numbers {
@@ -65,7 +63,7 @@ fn add_aliases(
     scene: &Scene,
     options: &[OptionAt],
     numbers: &[NumberAt],
-) -> Result<(), AllocError>
+) -> Result<(), NoMemory>
     ensures { OnOk result (found.new.items ≡ found.old.items ++ (if allows_alias scene.now (map option_of options.now) then [] else marked kind.AliasNotAllowed (map (λ n. n.token) numbers.now) (repeated_numbers numbers.now))) }
 {
     if allows_alias(scene, options) {
@@ -83,7 +81,7 @@ fn add_numbers(
     items: &[EnumItem],
     ranges: &[RangeAt],
     numbers: &[NumberAt],
-) -> Result<(), AllocError>
+) -> Result<(), NoMemory>
     ensures { OnOk result (found.new.items ≡ found.old.items ++ value_number_flaws scene.now (trees enum_item_tree items.now) ranges.now numbers.now) }
 {
     let options = enum_options(alloc, items)?;
@@ -99,7 +97,7 @@ fn add_number_flaws(
     scene: &Scene,
     items: &[EnumItem],
     values: &[&Value],
-) -> Result<(), AllocError>
+) -> Result<(), NoMemory>
     ensures { OnOk result (found.new.items ≡ found.old.items ++ value_number_flaws scene.now (trees enum_item_tree items.now) (map (enum_range_of scene.now) (flat_map enum_ranges (statements (trees enum_item_tree items.now)))) (map (number_of_value scene.now) (map (λ v. v.now) values.now))) }
 {
     let closed = enum_ranges(alloc, items)?;
@@ -110,7 +108,7 @@ fn add_number_flaws(
 
 // ---- names
 
-fn value_names(alloc: Global, values: &[&Value]) -> Result<Vec<u32>, AllocError>
+fn value_names(alloc: Global, values: &[&Value]) -> Result<Vec<u32>, NoMemory>
     ensures { IfOk result (λ names. names.items ≡ map (λ v. v.name) (map (λ v. v.now) values.now)) }
 {
     let mut names = Vec::new(alloc);
@@ -126,7 +124,7 @@ fn add_names(
     scene: &Scene,
     items: &[EnumItem],
     values: &[&Value],
-) -> Result<(), AllocError>
+) -> Result<(), NoMemory>
     ensures { OnOk result (found.new.items ≡ found.old.items ++ name_flaws scene.now (reserved_names_in (trees enum_item_tree items.now)) (map (λ v. v.name) (map (λ v. v.now) values.now))) }
 {
     let reserved = enum_reserved_names(alloc, items)?;
@@ -141,7 +139,7 @@ fn add_value_options(
     found: &mut Vec<Flaw>,
     scene: &Scene,
     value: &Value,
-) -> Result<(), AllocError>
+) -> Result<(), NoMemory>
     ensures { OnOk result (found.new.items ≡ found.old.items ++ value_option_flaws scene.now value.now) }
 {
     let options = options_between(alloc, value.settings.as_ref())?;
@@ -153,7 +151,7 @@ fn add_each_value(
     found: &mut Vec<Flaw>,
     scene: &Scene,
     values: &[&Value],
-) -> Result<(), AllocError>
+) -> Result<(), NoMemory>
     ensures { OnOk result (found.new.items ≡ found.old.items ++ flat_map (value_option_flaws scene.now) (map (λ v. v.now) values.now)) }
 {
     for value in values {
@@ -167,7 +165,7 @@ fn add_enum_options(
     found: &mut Vec<Flaw>,
     scene: &Scene,
     items: &[EnumItem],
-) -> Result<(), AllocError>
+) -> Result<(), NoMemory>
     ensures { OnOk result (found.new.items ≡ found.old.items ++ option_flaws scene.now element.Enum (options_in (trees enum_item_tree items.now))) }
 {
     let options = enum_options(alloc, items)?;
@@ -182,7 +180,7 @@ pub(crate) fn add_enum_flaws(
     found: &mut Vec<Flaw>,
     scene: &Scene,
     enumeration: &Enum,
-) -> Result<(), AllocError>
+) -> Result<(), NoMemory>
     ensures { OnOk result (found.new.items ≡ found.old.items ++ enum_flaws scene.now enumeration.now.name (trees enum_item_tree enumeration.now.members.items)) }
 {
     let items = enumeration.members.as_slice();

@@ -1,30 +1,21 @@
 //! What is wrong with one field: its label, its type, its options and its default.
 
 ghost use Rattle.std.specs.Prelude.{◌≡◌, ◌++◌, map, option_map, OnOk};
-ghost use Rattle.proto_files.specs.declared.fault.FaultKind.TheVariants as kind;
+ghost use Rattle.proto_faults.specs.declared.fault.FaultKind.TheVariants as kind;
 ghost use Rattle.proto_parts.specs.Views.{enum_of, field_of, option_of};
-ghost use Rattle.proto_checks.specs.Flaws.{flaw_if};
-ghost use Rattle.proto_checks.specs.FieldFlaws.{type_token, enum_of_type, has_label, lacks_label, required_flaws, map_key_flaws, starts_wrong, has_closed_enum, is_unpackable, is_packable_type, may_be_packed, packed_flaws, type_flaws, field_flaws};
+ghost use Rattle.proto_numbers.specs.Flaws.{flaw_if};
+ghost use Rattle.proto_parts.specs.Labels.{has_label};
+ghost use Rattle.proto_checks.specs.FieldFlaws.{type_token, enum_of_type, lacks_label, required_flaws, map_key_flaws, starts_wrong, has_closed_enum, is_unpackable, is_packable_type, may_be_packed, packed_flaws, type_flaws, field_flaws};
 
 use crate::defaults::{add_default_flaws, add_proto3_defaults};
-use crate::flaw::{Flaw, add_if};
 use crate::options::add_option_flaws;
-use proto_files::FaultKind;
-use proto_parts::{Element, EnumAt, FieldAt, OptionAt, Scene, options_between};
+use proto_faults::{FaultKind, NoMemory};
+use proto_numbers::{Flaw, add_if};
+use proto_parts::{Element, EnumAt, FieldAt, OptionAt, Scene, has_label, options_between};
 use proto_tree::FieldType;
-use std::alloc::{AllocError, Global};
+use std::alloc::Global;
 
 // ---- labels
-
-/// Whether a field has this label.
-pub(crate) fn has_label(scene: &Scene, label: &str, field: FieldAt) -> bool
-    ensures { result ≡ has_label scene.now label.now (field_of field.entry) }
-{
-    match field.label {
-        Some(token) => scene.text(token) == label,
-        None => false,
-    }
-}
 
 fn lacks_label(scene: &Scene, field: FieldAt) -> bool
     ensures { result ≡ lacks_label scene.now (field_of field.entry) }
@@ -36,7 +27,7 @@ fn add_required_flaws(
     found: &mut Vec<Flaw>,
     scene: &Scene,
     label: Option<u32>,
-) -> Result<(), AllocError>
+) -> Result<(), NoMemory>
     ensures { OnOk result (found.new.items ≡ found.old.items ++ required_flaws scene.now label) }
 {
     match label {
@@ -73,7 +64,7 @@ fn add_map_key_flaws(
     found: &mut Vec<Flaw>,
     scene: &Scene,
     map_key: Option<u32>,
-) -> Result<(), AllocError>
+) -> Result<(), NoMemory>
     ensures { OnOk result (found.new.items ≡ found.old.items ++ map_key_flaws scene.now map_key) }
 {
     match map_key {
@@ -103,7 +94,7 @@ fn has_closed_enum(scene: &Scene, field: FieldAt) -> bool
     }
 }
 
-fn add_type_flaws(found: &mut Vec<Flaw>, scene: &Scene, field: FieldAt) -> Result<(), AllocError>
+fn add_type_flaws(found: &mut Vec<Flaw>, scene: &Scene, field: FieldAt) -> Result<(), NoMemory>
     ensures { OnOk result (found.new.items ≡ found.old.items ++ type_flaws scene.now (field_of field.entry)) }
 {
     let token = type_token(field.kind);
@@ -152,7 +143,7 @@ fn add_packed_flaws(
     scene: &Scene,
     field: FieldAt,
     options: &[OptionAt],
-) -> Result<(), AllocError>
+) -> Result<(), NoMemory>
     requires { map option_of options.now ≡ (field_of field).options }
     ensures { OnOk result (found.new.items ≡ found.old.items ++ packed_flaws scene.now (field_of field.entry)) }
 {
@@ -171,7 +162,7 @@ pub(crate) fn add_field_flaws(
     found: &mut Vec<Flaw>,
     scene: &Scene,
     field: FieldAt,
-) -> Result<(), AllocError>
+) -> Result<(), NoMemory>
     ensures { OnOk result (found.new.items ≡ found.old.items ++ field_flaws scene.now (field_of field.entry)) }
 {
     let options = options_between(alloc, field.settings)?;

@@ -8,15 +8,15 @@ ghost use Rattle.proto_checks.specs.FieldFlaws.{option_flaws};
 ghost use Rattle.proto_checks.specs.FileFlaws.{file_flaws, flaws_in_blocks};
 
 use crate::enums::add_enum_flaws;
-use crate::flaw::{Flaw, add_if};
 use crate::messages::add_message_flaws;
 use crate::options::add_option_flaws;
-use proto_files::FaultKind;
+use proto_faults::{FaultKind, NoMemory};
+use proto_numbers::{Flaw, add_if};
 use proto_parts::{Element, Scene, file_options, method_options, service_options};
 use proto_tree::{
     Enum, File, Item, Member, Message, Method, MethodEnd, Oneof, Service, ServiceItem,
 };
-use std::alloc::{AllocError, Global};
+use std::alloc::Global;
 
 // ---- enums and oneofs
 
@@ -25,13 +25,13 @@ fn add_enum(
     found: &mut Vec<Flaw>,
     scene: &Scene,
     enumeration: &Enum,
-) -> Result<(), AllocError>
+) -> Result<(), NoMemory>
     ensures { OnOk result (found.new.items ≡ found.old.items ++ flaws_in_blocks scene.now (enum_tree enumeration.now)) }
 {
     add_enum_flaws(alloc, found, scene, enumeration)
 }
 
-fn add_oneof(found: &mut Vec<Flaw>, scene: &Scene, oneof: &Oneof) -> Result<(), AllocError>
+fn add_oneof(found: &mut Vec<Flaw>, scene: &Scene, oneof: &Oneof) -> Result<(), NoMemory>
     ensures { OnOk result (found.new.items ≡ found.old.items ++ flaws_in_blocks scene.now (oneof_tree oneof.now)) }
 {
     let is_empty = oneof.members.is_empty();
@@ -45,7 +45,7 @@ fn add_method(
     found: &mut Vec<Flaw>,
     scene: &Scene,
     method: &Method,
-) -> Result<(), AllocError>
+) -> Result<(), NoMemory>
     ensures { OnOk result (found.new.items ≡ found.old.items ++ flaws_in_blocks scene.now (method_tree method.now)) }
 {
     match &method.end {
@@ -62,7 +62,7 @@ fn add_service_item(
     found: &mut Vec<Flaw>,
     scene: &Scene,
     item: &ServiceItem,
-) -> Result<(), AllocError>
+) -> Result<(), NoMemory>
     ensures { OnOk result (found.new.items ≡ found.old.items ++ flaws_in_blocks scene.now (service_item_tree item.now)) }
 {
     match item {
@@ -76,7 +76,7 @@ fn add_service_items(
     found: &mut Vec<Flaw>,
     scene: &Scene,
     items: &[ServiceItem],
-) -> Result<(), AllocError>
+) -> Result<(), NoMemory>
     ensures { OnOk result (found.new.items ≡ found.old.items ++ flaws_in_blocks scene.now (trees service_item_tree items.now)) }
 {
     for item in items {
@@ -90,7 +90,7 @@ fn add_service(
     found: &mut Vec<Flaw>,
     scene: &Scene,
     service: &Service,
-) -> Result<(), AllocError>
+) -> Result<(), NoMemory>
     ensures { OnOk result (found.new.items ≡ found.old.items ++ flaws_in_blocks scene.now (service_tree service.now)) }
 {
     let options = service_options(alloc, &service.members)?;
@@ -106,7 +106,7 @@ fn add_message(
     found: &mut Vec<Flaw>,
     scene: &Scene,
     message: &Message,
-) -> Result<(), AllocError>
+) -> Result<(), NoMemory>
     ensures { OnOk result (found.new.items ≡ found.old.items ++ flaws_in_blocks scene.now (message_tree message.now)) }
 {
     add_message_flaws(alloc, found, scene, &message.members)?;
@@ -119,7 +119,7 @@ fn add_members(
     found: &mut Vec<Flaw>,
     scene: &Scene,
     members: &[Member],
-) -> Result<(), AllocError>
+) -> Result<(), NoMemory>
     ensures { OnOk result (found.new.items ≡ found.old.items ++ flaws_in_blocks scene.now (trees member_tree members.now)) }
 {
     for member in members {
@@ -134,7 +134,7 @@ fn add_member(
     found: &mut Vec<Flaw>,
     scene: &Scene,
     member: &Member,
-) -> Result<(), AllocError>
+) -> Result<(), NoMemory>
     ensures { OnOk result (found.new.items ≡ found.old.items ++ flaws_in_blocks scene.now (member_tree member.now)) }
 {
     match member {
@@ -152,7 +152,7 @@ fn add_item(
     found: &mut Vec<Flaw>,
     scene: &Scene,
     item: &Item,
-) -> Result<(), AllocError>
+) -> Result<(), NoMemory>
     ensures { OnOk result (found.new.items ≡ found.old.items ++ flaws_in_blocks scene.now (item_tree item.now)) }
 {
     match item {
@@ -168,7 +168,7 @@ fn add_items(
     found: &mut Vec<Flaw>,
     scene: &Scene,
     items: &[Item],
-) -> Result<(), AllocError>
+) -> Result<(), NoMemory>
     ensures { OnOk result (found.new.items ≡ found.old.items ++ flaws_in_blocks scene.now (trees item_tree items.now)) }
 {
     for item in items {
@@ -178,7 +178,7 @@ fn add_items(
 }
 
 /// What is wrong with a file that is linked, each by its token: first its options, then block by block.
-pub fn file_flaws(alloc: Global, scene: &Scene, file: &File) -> Result<Vec<Flaw>, AllocError>
+pub fn file_flaws(alloc: Global, scene: &Scene, file: &File) -> Result<Vec<Flaw>, NoMemory>
     ensures { IfOk result (λ found. found.items ≡ file_flaws scene.now (tree_of_file file.now)) }
 {
     let mut found = Vec::new(alloc);

@@ -1,37 +1,35 @@
 //! What is wrong with a message: its fields, numbers, names and options.
 
 ghost use Rattle.std.specs.Prelude.{◌≡◌, ◌++◌, flat_map, map, OnOk};
-ghost use Rattle.proto_files.specs.declared.fault.FaultKind.TheVariants as kind;
+ghost use Rattle.proto_faults.specs.declared.fault.FaultKind.TheVariants as kind;
 ghost use Rattle.proto_tree.specs.File.{member_tree, trees};
 ghost use Rattle.proto_parts.specs.Parts.{closed_ranges, options_in, reserved_names_in, statements};
 ghost use Rattle.proto_parts.specs.Views.{field_of};
 ghost use Rattle.proto_parts.specs.declared.options.Element.TheVariants as element;
-ghost use Rattle.proto_checks.specs.Flaws.{flaw_if};
+ghost use Rattle.proto_numbers.specs.Flaws.{flaw_if};
 ghost use Rattle.proto_checks.specs.FieldFlaws.{field_flaws, option_flaws};
-ghost use Rattle.proto_checks.specs.NumberFlaws.{number_of_field, range_of};
-ghost use Rattle.proto_checks.specs.FileFlaws.{extension_flaws, field_number_flaws, message_flaws, name_flaws};
+ghost use Rattle.proto_numbers.specs.NumberFlaws.{number_of_field, range_of, field_number_flaws};
+ghost use Rattle.proto_checks.specs.FileFlaws.{extension_flaws, message_flaws, name_flaws};
 
 use crate::fields::add_field_flaws;
-use crate::flaw::{Flaw, add_if};
-use crate::json_names::{add_json_clashes, name_tokens};
+use crate::json_clashes::{add_json_clashes, name_tokens};
 use crate::names::add_name_flaws;
-use crate::number_lists::{field_numbers, field_ranges};
-use crate::numbers::add_field_numbers;
 use crate::options::add_option_flaws;
-use proto_files::FaultKind;
+use proto_faults::{FaultKind, NoMemory};
+use proto_numbers::{Flaw, add_field_numbers, add_if, field_numbers, field_ranges};
 use proto_parts::{
     Element, FieldAt, Scene, closed_ranges, extension_words, fields_of, message_options,
     reserved_names,
 };
 use proto_tree::Member;
-use std::alloc::{AllocError, Global};
+use std::alloc::Global;
 
 fn add_each_field(
     alloc: Global,
     found: &mut Vec<Flaw>,
     scene: &Scene,
     fields: &[FieldAt],
-) -> Result<(), AllocError>
+) -> Result<(), NoMemory>
     ensures { OnOk result (found.new.items ≡ found.old.items ++ flat_map (field_flaws scene.now) (map field_of fields.now)) }
 {
     for field in fields {
@@ -46,7 +44,7 @@ fn add_numbers(
     scene: &Scene,
     members: &[Member],
     fields: &[FieldAt],
-) -> Result<(), AllocError>
+) -> Result<(), NoMemory>
     ensures { OnOk result (found.new.items ≡ found.old.items ++ field_number_flaws (map (range_of scene.now) (flat_map closed_ranges (statements (trees member_tree members.now)))) (map (number_of_field scene.now) (map field_of fields.now))) }
 {
     let closed = closed_ranges(alloc, members)?;
@@ -61,7 +59,7 @@ fn add_names(
     scene: &Scene,
     members: &[Member],
     fields: &[FieldAt],
-) -> Result<(), AllocError>
+) -> Result<(), NoMemory>
     ensures { OnOk result (found.new.items ≡ found.old.items ++ name_flaws scene.now (reserved_names_in (trees member_tree members.now)) (map (λ f. f.name) (map field_of fields.now))) }
 {
     let reserved = reserved_names(alloc, members)?;
@@ -69,7 +67,7 @@ fn add_names(
     add_name_flaws(alloc, found, scene, &reserved, &names)
 }
 
-fn add_extensions(found: &mut Vec<Flaw>, scene: &Scene, words: &[u32]) -> Result<(), AllocError>
+fn add_extensions(found: &mut Vec<Flaw>, scene: &Scene, words: &[u32]) -> Result<(), NoMemory>
     ensures { OnOk result (found.new.items ≡ found.old.items ++ flat_map (λ t. flaw_if scene.now.is_proto3 kind.NotInProto3 t) words.now) }
 {
     for word in words {
@@ -83,7 +81,7 @@ fn add_extension_flaws(
     found: &mut Vec<Flaw>,
     scene: &Scene,
     members: &[Member],
-) -> Result<(), AllocError>
+) -> Result<(), NoMemory>
     ensures { OnOk result (found.new.items ≡ found.old.items ++ extension_flaws scene.now (trees member_tree members.now)) }
 {
     let words = extension_words(alloc, members)?;
@@ -95,7 +93,7 @@ fn add_message_options(
     found: &mut Vec<Flaw>,
     scene: &Scene,
     members: &[Member],
-) -> Result<(), AllocError>
+) -> Result<(), NoMemory>
     ensures { OnOk result (found.new.items ≡ found.old.items ++ option_flaws scene.now element.Message (options_in (trees member_tree members.now))) }
 {
     let options = message_options(alloc, members)?;
@@ -108,7 +106,7 @@ pub(crate) fn add_message_flaws(
     found: &mut Vec<Flaw>,
     scene: &Scene,
     members: &[Member],
-) -> Result<(), AllocError>
+) -> Result<(), NoMemory>
     ensures { OnOk result (found.new.items ≡ found.old.items ++ message_flaws scene.now (trees member_tree members.now)) }
 {
     let fields = fields_of(alloc, members)?;

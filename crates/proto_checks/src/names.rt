@@ -4,18 +4,18 @@ ghost use Rattle.std.specs.Prelude.{◌≡◌, ◌++◌, ℕ, List, flat_map, le
 ghost use Rattle.std.specs.List.{list_any};
 ghost use Rattle.std.specs.Str.{bytes_eq};
 ghost use Rattle.std.specs.String.{string_bytes};
-ghost use Rattle.proto_files.specs.declared.fault.FaultKind.TheVariants as kind;
+ghost use Rattle.proto_faults.specs.declared.fault.FaultKind.TheVariants as kind;
 ghost use Rattle.proto_parts.specs.Scenes.{text, value};
-ghost use Rattle.proto_checks.specs.Flaws.{after_earlier, flaw_if, marked};
+ghost use Rattle.proto_numbers.specs.Flaws.{after_earlier, flaw_if, marked};
 ghost use Rattle.proto_checks.specs.FileFlaws.{name_flaws};
 
-use crate::flaw::{Flaw, add_if, add_marked, repeats};
 use indexmap::IndexSet;
-use proto_files::FaultKind;
+use proto_faults::{FaultKind, NoMemory};
+use proto_numbers::{Flaw, add_if, add_marked, repeats};
 use proto_parts::Scene;
-use std::alloc::{AllocError, Global};
+use std::alloc::Global;
 
-fn values(alloc: Global, scene: &Scene, tokens: &[u32]) -> Result<Vec<String>, AllocError>
+fn values(alloc: Global, scene: &Scene, tokens: &[u32]) -> Result<Vec<String>, NoMemory>
     ensures { IfOk result (λ values. map string_bytes values.items ≡ map (value scene.now) tokens.now) }
 {
     let mut values = Vec::new(alloc);
@@ -25,7 +25,7 @@ fn values(alloc: Global, scene: &Scene, tokens: &[u32]) -> Result<Vec<String>, A
     Ok(values)
 }
 
-fn known_names<'a>(alloc: Global, names: &'a [String]) -> Result<IndexSet<&'a str>, AllocError>
+fn known_names<'a>(alloc: Global, names: &'a [String]) -> Result<IndexSet<&'a str>, NoMemory>
     ensures { IfOk result (λ known. (w : List ℕ) → list_any (bytes_eq w) (map (λ k. k.now) known.keys) ≡ list_any (bytes_eq w) (map string_bytes names.entry.now)) }
 {
     let mut known = IndexSet::new(alloc);
@@ -46,7 +46,7 @@ fn add_known(
     scene: &Scene,
     known: &IndexSet<&str>,
     names: &[u32],
-) -> Result<(), AllocError>
+) -> Result<(), NoMemory>
     ensures { OnOk result (found.new.items ≡ found.old.items ++ flat_map (λ t. flaw_if (list_any (bytes_eq (text scene.now t)) (map (λ k. k.now) known.now.keys)) kind.ReservedName t) names.now) }
 {
     for name in names {
@@ -62,7 +62,7 @@ fn add_reserved(
     scene: &Scene,
     reserved: &[String],
     names: &[u32],
-) -> Result<(), AllocError>
+) -> Result<(), NoMemory>
     ensures { OnOk result (found.new.items ≡ found.old.items ++ flat_map (λ t. flaw_if (list_any (bytes_eq (text scene.now t)) (map string_bytes reserved.now)) kind.ReservedName t) names.now) }
 {
     let known = known_names(alloc, reserved)?;
@@ -74,7 +74,7 @@ fn add_repeated_names(
     found: &mut Vec<Flaw>,
     tokens: &[u32],
     names: Vec<String>,
-) -> Result<(), AllocError>
+) -> Result<(), NoMemory>
     requires { length tokens.now ≡ length names.items }
     ensures { OnOk result (found.new.items ≡ found.old.items ++ marked kind.ReservedName tokens.now (after_earlier bytes_eq (map string_bytes names.items))) }
 {
@@ -89,7 +89,7 @@ pub(crate) fn add_name_flaws(
     scene: &Scene,
     reserved: &[u32],
     names: &[u32],
-) -> Result<(), AllocError>
+) -> Result<(), NoMemory>
     ensures { OnOk result (found.new.items ≡ found.old.items ++ name_flaws scene.now reserved.now names.now) }
 {
     let values = values(alloc, scene, reserved)?;

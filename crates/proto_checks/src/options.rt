@@ -4,18 +4,17 @@ ghost use Rattle.std.specs.Prelude.{◌≡◌, ◌++◌, map, OnOk};
 ghost use Rattle.proto_parts.specs.Views.{option_of};
 ghost use Rattle.proto_checks.specs.FieldFlaws.{misplaced_options, repeated_options, option_flaws};
 
-use crate::flaw::{Flaw, add_if, add_marked, repeats};
-use crate::option_values::is_allowed;
-use proto_files::FaultKind;
-use proto_parts::{Element, OptionAt, Scene};
-use std::alloc::{AllocError, Global};
+use proto_faults::{FaultKind, NoMemory};
+use proto_numbers::{Flaw, add_if, add_marked, repeats};
+use proto_parts::{Element, OptionAt, Scene, is_allowed};
+use std::alloc::Global;
 
 fn add_misplaced(
     found: &mut Vec<Flaw>,
     scene: &Scene,
     element: Element,
     options: &[OptionAt],
-) -> Result<(), AllocError>
+) -> Result<(), NoMemory>
     ensures { OnOk result (found.new.items ≡ found.old.items ++ misplaced_options scene.now element (map option_of options.now)) }
 {
     for option in options {
@@ -30,7 +29,7 @@ fn add_repeated(
     found: &mut Vec<Flaw>,
     scene: &Scene,
     options: &[OptionAt],
-) -> Result<(), AllocError>
+) -> Result<(), NoMemory>
     ensures { OnOk result (found.new.items ≡ found.old.items ++ repeated_options scene.now (map option_of options.now)) }
 {
     let mut tokens = Vec::new(alloc);
@@ -50,7 +49,7 @@ pub(crate) fn add_option_flaws(
     scene: &Scene,
     element: Element,
     options: &[OptionAt],
-) -> Result<(), AllocError>
+) -> Result<(), NoMemory>
     ensures { OnOk result (found.new.items ≡ found.old.items ++ option_flaws scene.now element (map option_of options.now)) }
 {
     add_misplaced(found, scene, element, options)?;

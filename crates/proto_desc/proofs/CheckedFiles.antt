@@ -3,22 +3,23 @@ use Rattle.std.proofs.Common.{◌≡◌, ℕ, suc, ◌+◌, ◌<◌, List, [], �
 use Rattle.std.specs.List.{Contains}
 use Rattle.proto_tree.specs.Tree.{Tree}
 use Rattle.proto_files.specs.GivenFiles.{FileOf, file_at}
-use Rattle.proto_names.specs.Links.{Each, ReadOf, AreRead, read_at}
-use Rattle.proto_names.proofs.OneReading.{IsTreeOf, same_tree}
+use Rattle.proto_files.specs.FilesRead.{Each, ReadOf, AreRead, read_at}
+use Rattle.proto_files.proofs.OneReading.{IsTreeOf, same_tree}
 use Rattle.proto_parts.specs.Numbers.{past}
 use Rattle.proto_parts.specs.Scenes.{Scene}
 use Rattle.proto_checks.specs.FileFlaws.{file_flaws}
-use Rattle.proto_checks.specs.Flaws.{IsLeast}
-use Rattle.proto_checks.specs.declared.flaw.Flaw.{Flaw}
+use Rattle.proto_numbers.specs.Flaws.{IsLeast}
+use Rattle.proto_numbers.specs.declared.flaw.Flaw.{Flaw}
 use Rattle.proto_checks.proofs.CappedFlaws.{caps_keep_the_least}
-use Rattle.proto_desc.proofs.CappedDescriptors.{caps_keep_the_descriptor}
+use Rattle.proto_described.proofs.CappedDescriptors.{caps_keep_the_descriptor}
 use Rattle.proto_desc.specs.Checked.{described_from, flaws_of}
-use Rattle.proto_desc.specs.CheckSteps.{IsFaultOf, IsFileError, IsSceneOf}
-use Rattle.proto_desc.specs.declared.check_fault.CheckFault.{CheckFault}
-use Rattle.proto_desc.specs.declared.check_fault.CheckFault.TheVariants.{Schema, NoMemory}
-use Rattle.proto_desc.specs.Described.{file_described}
+use Rattle.proto_scenes.specs.Scenes.{IsSceneOf}
+use Rattle.proto_desc.specs.CheckSteps.{IsFaultOf, IsFileError}
+use Rattle.proto_faults.specs.declared.fault.SchemaFault.{SchemaFault}
+use Rattle.proto_faults.specs.declared.fault.SchemaFault.TheVariants.{Schema, NoMemory}
+use Rattle.proto_described.specs.Described.{file_described}
 use Rattle.proto_json.specs.Descriptors.{FileDesc}
-use Rattle.proto_desc.specs.SceneOf.{scene_of}
+use Rattle.proto_scenes.specs.SceneOf.{scene_of}
 use Rattle.proto_json.specs.Views.{file_desc}
 use Rattle.proto_json.specs.declared.file.FileDescriptor.{FileDescriptor}
 
@@ -55,6 +56,6 @@ all_described files reads ds e h =
     described_all files reads 0 ds reads e (λ (k : ℕ) (d : FileDescriptor) l. subst (λ (m : ℕ). file_desc (get_or ds k d) ≡ described_at files reads m (read_at reads k).tree) (omega arith) (h k d l))
 
 -- what is answered for a file with a flaw
-pub file_error : (files : List FileOf) (file : ℕ) (f : Flaw) (e : CheckFault) → IsFaultOf files file f e → ((reads : List ReadOf) → AreRead files reads → IsLeast (Contains (flaws_of files reads file)) (Some f)) → IsFileError files file e
+pub file_error : (files : List FileOf) (file : ℕ) (f : Flaw) (e : SchemaFault) → IsFaultOf files file f e → ((reads : List ReadOf) → AreRead files reads → IsLeast (Contains (flaws_of files reads file)) (Some f)) → IsFileError files file e
 file_error files file f (Schema fault) is least = record { flaw = f; fault = is; least = least }
 file_error files file f NoMemory is least = tt

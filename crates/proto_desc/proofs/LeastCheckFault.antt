@@ -5,23 +5,22 @@ use Rattle.std.specs.List.{Contains}
 use Rattle.std.proofs.lemmas.Bool.Decides.{nat_tests}
 use Rattle.std.proofs.lemmas.Bool.{eq-eqb}
 use Rattle.proto_text.specs.Texts.{offset_at}
-use Rattle.proto_files.specs.FaultTable.{number_of, phase_of}
+use Rattle.proto_faults.specs.FaultTable.{number_of, phase_of}
 use Rattle.proto_files.specs.Faults.{FaultAt, ComesBefore, IsLeastFault, HasNoFault}
 use Rattle.proto_files.specs.GivenFiles.{FileOf, AreWorkspaceFiles, file_at}
 use Rattle.proto_files.proofs.FaultOrder.{comes_before_cases}
-use Rattle.proto_names.specs.Links.{ReadOf, AreRead, read_at}
+use Rattle.proto_files.specs.FilesRead.{ReadOf, AreRead, read_at}
 use Rattle.proto_names.proofs.LeastLinkFault.{file_before, one_file, one_token, token_before}
-use Rattle.proto_names.proofs.ReadOnce.{read_once}
-use Rattle.proto_checks.specs.Flaws.{IsLeast, comes_before}
-use Rattle.proto_checks.specs.declared.flaw.Flaw.{Flaw}
+use Rattle.proto_files.proofs.ReadOnce.{read_once}
+use Rattle.proto_numbers.specs.Flaws.{IsLeast, comes_before}
+use Rattle.proto_numbers.specs.declared.flaw.Flaw.{Flaw}
 use Rattle.proto_checks.proofs.FlawTokens.{flaw_within}
 use Rattle.proto_checks.proofs.Phases.{flaws_are_of_checks}
-use Rattle.proto_desc.specs.Checked.{CheckFaults, of_flaw, fault_of, flaws_of}
+use Rattle.proto_desc.specs.Checked.{CheckFaults, of_flaw, fault_of, flaws_of, IsCheckError}
 use Rattle.proto_desc.specs.CheckSteps.{HasNoFlaw, IsFileError}
-use Rattle.proto_desc.specs.Checked.{IsCheckError}
-use Rattle.proto_desc.specs.SceneOf.{scene_of}
-use Rattle.proto_desc.specs.declared.check_fault.CheckFault.{CheckFault}
-use Rattle.proto_desc.specs.declared.check_fault.CheckFault.TheVariants.{Schema, NoMemory}
+use Rattle.proto_scenes.specs.SceneOf.{scene_of}
+use Rattle.proto_faults.specs.declared.fault.SchemaFault.{SchemaFault}
+use Rattle.proto_faults.specs.declared.fault.SchemaFault.TheVariants.{Schema, NoMemory}
 
 less : (a b : ℕ) → a < b → nat_lt a b ≡ true
 less a b l = grind (arith, nat_tests)
@@ -97,6 +96,6 @@ module _ (files : List FileOf) (reads : List ReadOf) (are : AreRead files reads)
     }
 
   -- what is answered
-  pub check_error : AreWorkspaceFiles files → (file : ℕ) → file < length files → ((k : ℕ) → k < file → HasNoFlaw files k) → (e : CheckFault) → IsFileError files file e → IsCheckError files e
+  pub check_error : AreWorkspaceFiles files → (file : ℕ) → file < length files → ((k : ℕ) → k < file → HasNoFlaw files k) → (e : SchemaFault) → IsFileError files file e → IsCheckError files e
   check_error are_files file within none (Schema f) h = subst (IsLeastFault (CheckFaults files)) (sym (h.fault reads are)) (least_fault are_files file within none h.flaw (h.least reads are))
   check_error are_files file within none NoMemory h = tt

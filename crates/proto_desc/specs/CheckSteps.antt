@@ -1,41 +1,29 @@
 -- What is said of one file as its checks go on.
-use Rattle.std.specs.Prelude.{◌≡◌, ℕ, List, length, Some}
+use Rattle.std.specs.Prelude.{◌≡◌, ℕ, List, Some}
 use Rattle.std.specs.List.{Contains}
 use Rattle.proto_files.specs.Faults.{fault_at}
 use Rattle.proto_files.specs.GivenFiles.{FileOf}
-use Rattle.proto_names.specs.Links.{Each, ReadOf, AreRead}
-use Rattle.proto_parts.specs.Numbers.{past}
-use Rattle.proto_parts.specs.Scenes.{Scene}
-use Rattle.proto_checks.specs.Flaws.{IsLeast}
-use Rattle.proto_checks.specs.declared.flaw.Flaw.{Flaw}
+use Rattle.proto_files.specs.FilesRead.{ReadOf, AreRead}
+use Rattle.proto_numbers.specs.Flaws.{IsLeast}
+use Rattle.proto_numbers.specs.declared.flaw.Flaw.{Flaw}
 use Rattle.proto_desc.specs.Checked.{fault_of, flaws_of}
-use Rattle.proto_desc.specs.SceneOf.{scene_of}
-use Rattle.proto_desc.specs.declared.check_fault.CheckFault.{CheckFault}
-use Rattle.proto_desc.specs.declared.check_fault.CheckFault.TheVariants.{Schema, NoMemory}
-
--- the file as it is read, its numbers up to a cap past every limit
-abbrev pub IsSceneOf : List FileOf → ℕ → Scene → Type 0
-IsSceneOf files file scene = (reads : List ReadOf) → AreRead files reads → scene ≡ scene_of (Some past) files reads file
-
--- the same of each file
-pub record AreScenes (files : List FileOf) (scenes : List Scene) : Type 0 where
-  pub len : length scenes ≡ length files
-  pub each : Each (λ k s. IsSceneOf files k s) scenes
+use Rattle.proto_faults.specs.declared.fault.SchemaFault.{SchemaFault}
+use Rattle.proto_faults.specs.declared.fault.SchemaFault.TheVariants.{Schema, NoMemory}
 
 abbrev pub HasNoFlaw : List FileOf → ℕ → Type 0
 HasNoFlaw files file = (reads : List ReadOf) → AreRead files reads → (f : Flaw) → Contains (flaws_of files reads file) f → ⊥
 
 -- the error is want of memory, or the flaw as a fault of the file
-abbrev pub IsFaultOf : List FileOf → ℕ → Flaw → CheckFault → Type 0
+abbrev pub IsFaultOf : List FileOf → ℕ → Flaw → SchemaFault → Type 0
 IsFaultOf files file f (Schema fault) = (reads : List ReadOf) → AreRead files reads → fault_at fault ≡ fault_of files reads file f
 IsFaultOf files file f NoMemory = Unit {0}
 
 -- it is the file's least flaw
-pub record IsLeastFlaw (files : List FileOf) (file : ℕ) (e : CheckFault) : Type 0 where
+pub record IsLeastFlaw (files : List FileOf) (file : ℕ) (e : SchemaFault) : Type 0 where
   pub flaw : Flaw
   pub fault : IsFaultOf files file flaw e
   pub least : (reads : List ReadOf) → AreRead files reads → IsLeast (Contains (flaws_of files reads file)) (Some flaw)
 
-abbrev pub IsFileError : List FileOf → ℕ → CheckFault → Type 0
+abbrev pub IsFileError : List FileOf → ℕ → SchemaFault → Type 0
 IsFileError files file (Schema fault) = IsLeastFlaw files file (Schema fault)
 IsFileError files file NoMemory = Unit {0}

@@ -1,18 +1,17 @@
 -- The faults of checks, and the descriptors of a workspace that has no fault.
-use Rattle.std.specs.Prelude.{◌≡◌, ℕ, suc, ◌<◌, List, [], ◌∷◌, length, codes, None}
+use Rattle.std.specs.Prelude.{◌≡◌, ℕ, suc, ◌<◌, List, [], ◌∷◌, length, None}
 use Rattle.std.specs.List.{Contains}
 use Rattle.proto_text.specs.Texts.{offset_at}
-use Rattle.proto_files.specs.FaultTable.{number_of, name_of}
 use Rattle.proto_files.specs.Faults.{FaultAt, IsLeastFault, fault_at}
 use Rattle.proto_files.specs.GivenFiles.{FileOf, file_at}
-use Rattle.proto_names.specs.Links.{ReadOf, AreRead, read_at}
+use Rattle.proto_files.specs.FilesRead.{ReadOf, AreRead, read_at}
 use Rattle.proto_checks.specs.FileFlaws.{file_flaws}
-use Rattle.proto_checks.specs.declared.flaw.Flaw.{Flaw}
-use Rattle.proto_desc.specs.Described.{file_described}
+use Rattle.proto_numbers.specs.declared.flaw.Flaw.{Flaw}
+use Rattle.proto_described.specs.Described.{file_described}
 use Rattle.proto_json.specs.Descriptors.{FileDesc}
-use Rattle.proto_desc.specs.SceneOf.{scene_of}
-use Rattle.proto_desc.specs.declared.check_fault.CheckFault.{CheckFault}
-use Rattle.proto_desc.specs.declared.check_fault.CheckFault.TheVariants.{Schema, NoMemory}
+use Rattle.proto_scenes.specs.SceneOf.{scene_of}
+use Rattle.proto_faults.specs.declared.fault.SchemaFault.{SchemaFault}
+use Rattle.proto_faults.specs.declared.fault.SchemaFault.TheVariants.{Schema, NoMemory}
 
 -- what is wrong with a file of the workspace
 abbrev pub flaws_of : List FileOf → List ReadOf → ℕ → List Flaw
@@ -40,16 +39,7 @@ AreDescribed files ds = (reads : List ReadOf) → AreRead files reads → ds ≡
 
 -- ---- what is answered where checks fail
 
--- want of memory is no fault of a schema
-abbrev pub answer_number : CheckFault → ℕ
-answer_number (Schema f) = number_of f.kind
-answer_number NoMemory = 0
-
-abbrev pub answer_name : CheckFault → List ℕ
-answer_name (Schema f) = name_of f.kind
-answer_name NoMemory = codes "NoMemory"
-
 -- the error is want of memory, or the least fault of the files
-abbrev pub IsCheckError : List FileOf → CheckFault → Type 0
+abbrev pub IsCheckError : List FileOf → SchemaFault → Type 0
 IsCheckError files (Schema f) = IsLeastFault (CheckFaults files) (fault_at f)
 IsCheckError files NoMemory = Unit {0}

@@ -2,58 +2,47 @@
 
 ghost use Rattle.std.specs.Prelude.{◌≡◌, ◌<◌, List, length, map, IfOk, IfErr};
 ghost use Rattle.std.specs.List.{Contains};
-ghost use Rattle.proto_text.specs.Texts.{offset_at};
 ghost use Rattle.proto_tree.specs.File.{tree_of_file};
 ghost use Rattle.proto_files.specs.Faults.{HasNoFault};
 ghost use Rattle.proto_names.specs.LinkOfFiles.{IsLinkOf};
-ghost use Rattle.proto_names.specs.Links.{ReadOf, AreRead};
+ghost use Rattle.proto_files.specs.FilesRead.{ReadOf, AreRead};
 ghost use Rattle.proto_checks.specs.FileFlaws.{file_flaws};
-ghost use Rattle.proto_checks.specs.Flaws.{IsLeast};
+ghost use Rattle.proto_numbers.specs.Flaws.{IsLeast};
 ghost use Rattle.proto_desc.specs.Checked.{AreDescribed, CheckFaults, IsCheckError};
-ghost use Rattle.proto_desc.specs.CheckSteps.{AreScenes, HasNoFlaw, IsFaultOf, IsFileError, IsSceneOf};
-ghost use Rattle.proto_desc.specs.Enums.{IsEnumTable};
+ghost use Rattle.proto_scenes.specs.Scenes.{AreScenes, IsSceneOf};
+ghost use Rattle.proto_desc.specs.CheckSteps.{HasNoFlaw, IsFaultOf, IsFileError};
+ghost use Rattle.proto_scenes.specs.Enums.{IsEnumTable};
 ghost use Rattle.proto_json.specs.Views.{file_desc, files_desc};
 
-use crate::check_fault::CheckFault;
-use crate::described_file::file_descriptor;
-use crate::enum_table::{EnumRow, enum_table};
-use crate::scenes::scenes;
 use indexmap::IndexMap;
 use proto_checks::{Flaw, file_flaws, least};
-use proto_files::{Fault, Files};
+use proto_described::file_descriptor;
+use proto_faults::{Fault, NoMemory, SchemaFault};
+use proto_files::{Files, offset_of};
 use proto_json::{Descriptors, FileDescriptor};
 use proto_names::{Link, are_read};
 use proto_parts::Scene;
-use proto_text::Token;
+use proto_scenes::enum_table::{EnumRow, enum_table};
+use proto_scenes::scenes::scenes;
 use proto_tree::File;
-use std::alloc::{AllocError, Global};
-
-/// Where a token begins, and 0 where there is no such token.
-fn offset(tokens: &[Token], token: u32) -> u32
-    ensures { result ≡ offset_at tokens.now token }
-{
-    match tokens.get(token as usize) {
-        Some(there) => there.span.start,
-        None => 0,
-    }
-}
+use std::alloc::Global;
 
 /// A flaw as a fault of its file.
-fn fault(alloc: Global, files: &Files, file: usize, flaw: Flaw) -> CheckFault
+fn fault(alloc: Global, files: &Files, file: usize, flaw: Flaw) -> SchemaFault
     requires { file < length files.now }
     ensures { IsFaultOf files.now file flaw result }
 {
     match String::from_str(alloc, files.path(file)) {
-        Ok(path) => CheckFault::Schema(Fault {
+        Ok(path) => SchemaFault::Schema(Fault {
             path,
-            offset: offset(files.tokens(file), flaw.token),
+            offset: offset_of(files.tokens(file), flaw.token),
             kind: flaw.kind,
         }),
-        Err(_) => CheckFault::NoMemory,
+        Err(_) => SchemaFault::NoMemory,
     }
 }
 
-fn least_flaw(alloc: Global, scene: &Scene, tree: &File) -> Result<Option<Flaw>, AllocError>
+fn least_flaw(alloc: Global, scene: &Scene, tree: &File) -> Result<Option<Flaw>, NoMemory>
     ensures { IfOk result (λ flaw. IsLeast (Contains (file_flaws scene.now (tree_of_file tree.now))) flaw) }
 {
     let found = file_flaws(alloc, scene, tree)?;
@@ -61,7 +50,7 @@ fn least_flaw(alloc: Global, scene: &Scene, tree: &File) -> Result<Option<Flaw>,
 }
 
 /// Whether a file has no flaw; else its least one.
-fn check_file(alloc: Global, files: &Files, scene: &Scene, file: usize) -> Result<(), CheckFault>
+fn check_file(alloc: Global, files: &Files, scene: &Scene, file: usize) -> Result<(), SchemaFault>
     requires file { file < length files.now }
     requires scene { IsSceneOf files.now file scene.now }
     ensures clean { IfOk result (λ _. HasNoFlaw files.now file) }
@@ -74,7 +63,7 @@ fn check_file(alloc: Global, files: &Files, scene: &Scene, file: usize) -> Resul
 }
 
 /// Whether no file has a flaw; else the least one of the first that has.
-fn check_files(alloc: Global, files: &Files, scenes: &[Scene]) -> Result<(), CheckFault>
+fn check_files(alloc: Global, files: &Files, scenes: &[Scene]) -> Result<(), SchemaFault>
     requires { AreScenes files.now scenes.now }
     ensures clean { IfOk result (λ _. HasNoFault (CheckFaults files.now)) }
     ensures fault { IfErr result (IsCheckError files.now) }
@@ -93,7 +82,7 @@ fn descriptors(
     alloc: Global,
     files: &Files,
     scenes: &[Scene],
-) -> Result<Vec<FileDescriptor>, AllocError>
+) -> Result<Vec<FileDescriptor>, NoMemory>
     requires { AreScenes files.now scenes.now }
     ensures { IfOk result (λ ds. AreDescribed files.now (map file_desc ds.items)) }
 {
@@ -111,7 +100,7 @@ fn check_with(
     files: &Files,
     link: &Link,
     table: &[IndexMap<u32, EnumRow>],
-) -> Result<Descriptors, CheckFault>
+) -> Result<Descriptors, SchemaFault>
     requires link { IsLinkOf files.now link.now }
     requires table { IsEnumTable files.now table.now }
     ensures clean { IfOk result (λ _. HasNoFault (CheckFaults files.now)) }
@@ -125,7 +114,7 @@ fn check_with(
 }
 
 /// The descriptors of linked files, where their checks find no fault; else the least fault by path, offset and number.
-pub fn check(alloc: Global, files: &Files, link: &Link) -> Result<Descriptors, CheckFault>
+pub fn check(alloc: Global, files: &Files, link: &Link) -> Result<Descriptors, SchemaFault>
     requires { IsLinkOf files.now link.now }
     ensures clean { IfOk result (λ _. HasNoFault (CheckFaults files.now)) }
     ensures descriptors { IfOk result (λ d. AreDescribed files.now (files_desc d)) }

@@ -1,8 +1,3 @@
-//! Laws of the definitions, for the layers above. None of these does anything.
+//! Laws of the definitions, for the layers above.
 
-ghost use Rattle.proto_desc.specs.Capped.{CapsKeepTheDescriptor};
-
-/// The descriptor of a file is the same whether its numbers stop at a cap past every limit or not.
-pub fn caps_keep_the_descriptor()
-    ensures { CapsKeepTheDescriptor }
-{}
+pub use proto_described::laws::caps_keep_the_descriptor;

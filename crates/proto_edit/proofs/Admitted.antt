@@ -4,12 +4,13 @@ use Rattle.proto_text.specs.declared.lexer.Token.{Token}
 use Rattle.proto_text.specs.Texts.{words}
 use Rattle.proto_tree.specs.Tree.{Tree}
 use Rattle.proto_files.specs.GivenFiles.{FileOf}
-use Rattle.proto_edit.specs.Shape.{messages_of}
-use Rattle.proto_edit.specs.Renames.{Compiles, Target, absent, no_field, a_field, target_in, Refused, unknown_target, kind_not_allowed}
-use Rattle.proto_edit.specs.Entries.{ChangeOf}
+use Rattle.proto_rename.specs.Shape.{messages_of}
+use Rattle.proto_rename.specs.Renames.{Compiles, Target, absent, no_field, a_field, target_in, Refused, unknown_target, kind_not_allowed}
+use Rattle.proto_entries.specs.Entries.{ChangeOf}
 use Rattle.proto_edit.specs.Workspaces.{Asked, rename, delete_field, add_import, drop_import, DeletionRefused, IsCompiled, IsAdmissible, AreChanges}
 use Rattle.proto_edit.specs.Laws.{EditsAreMade}
-use Rattle.proto_edit.proofs.Steps.{change_of_field, made}
+use Rattle.proto_rename.proofs.Made.{change_of_field}
+use Rattle.proto_edit.proofs.Steps.{made}
 use Rattle.proto_edit.proofs.StepEntries.{entry_is}
 use Rattle.proto_edit.proofs.WholeFirst.{first_compiled, first_or_not, is_first}
 

@@ -8,8 +8,8 @@ use Rattle.std.specs.Str.{bytes_eq}
 use Rattle.std.proofs.lemmas.Bool.{cases_Bool, cases_lt, cond-true, cond-false, both_ways, le-leb, lt-leb}
 use Rattle.std.proofs.lemmas.Bool.Decides.{Decides-int_eq}
 use Rattle.std.proofs.lemmas.List.Elements.{Contains-append_left, Contains-append_right, Contains-append_cases}
-use Rattle.proto_files.specs.declared.fault.FaultKind.{FaultKind}
-use Rattle.proto_files.specs.declared.fault.FaultKind.TheVariants as kind
+use Rattle.proto_faults.specs.declared.fault.FaultKind.{FaultKind}
+use Rattle.proto_faults.specs.declared.fault.FaultKind.TheVariants as kind
 use Rattle.proto_tree.specs.declared.tree.Field.{Field}
 use Rattle.proto_tree.specs.declared.tree.FieldType.{FieldType}
 use Rattle.proto_tree.specs.declared.tree.FieldType.TheVariants.{Scalar, Reference as Ref}
@@ -18,29 +18,28 @@ use Rattle.proto_tree.specs.declared.tree.Settings.{Settings}
 use Rattle.proto_tree.specs.declared.piece.Header.TheVariants as header
 use Rattle.proto_tree.specs.declared.piece.Heading.{Heading}
 use Rattle.proto_tree.specs.Tree.{Tree, End, Leaf, Block}
-use Rattle.proto_names.proofs.Basics.{contains_head, contains_later, contains_cases, contains_map, from_map, same_from_word, word_from_same}
-use Rattle.proto_names.proofs.Edited.{map_append}
+use Rattle.proto_text.proofs.Lists.{contains_head, contains_later, contains_cases, contains_map, from_map, same_from_word, word_from_same}
+use Rattle.proto_meaning.proofs.Edited.{map_append}
 use Rattle.proto_parts.specs.Numbers.{number_of as part_number}
 use Rattle.proto_parts.specs.Parts.{FieldOf, OptionOf, BlockOf, statements, plain_field, closed_ranges, reserved_names, reserved_names_in, extension_words, options_in, statement_options, settings_of, blocks_in}
 use Rattle.proto_parts.specs.Scenes.{MeantOf, Scene, text, number_at, up_to}
 use Rattle.proto_parts.specs.declared.options.Element.TheVariants as element
-use Rattle.proto_checks.specs.declared.flaw.Flaw.{Flaw}
-use Rattle.proto_checks.specs.declared.numbers.NumberAt.{NumberAt}
-use Rattle.proto_checks.specs.Flaws.{flaw, flaw_if, earlier, after_earlier, marked}
-use Rattle.proto_checks.specs.NumberFlaws.{is_field_number, number_of_field, range_of, outside, reserved_numbers, repeated_numbers}
+use Rattle.proto_numbers.specs.declared.flaw.Flaw.{Flaw}
+use Rattle.proto_numbers.specs.declared.numbers.NumberAt.{NumberAt}
+use Rattle.proto_numbers.specs.Flaws.{flaw, flaw_if, earlier, after_earlier, marked}
+use Rattle.proto_numbers.specs.NumberFlaws.{is_field_number, number_of_field, range_of, outside, reserved_numbers, repeated_numbers, field_number_flaws}
 use Rattle.proto_checks.specs.FieldFlaws.{enum_of_type, is_of_proto2, type_token, field_flaws, option_flaws}
-use Rattle.proto_checks.specs.FileFlaws.{name_flaws, with_reserved_name, json_name_of, json_clashes, field_number_flaws, message_flaws, block_flaws, file_flaws}
-use Rattle.proto_edit.specs.Sentences.{Sentence}
-use Rattle.proto_edit.specs.declared.shape.FieldAt.{FieldAt}
-use Rattle.proto_edit.specs.declared.shape.MessageAt.{MessageAt}
-use Rattle.proto_edit.specs.Named.{number_of, json_name, AfterEarlier, is_field_number as is_number}
-use Rattle.proto_edit.specs.Sentences.{sentence, sentence_if, marked as sentences_at, repeats_after}
-use Rattle.proto_edit.specs.Shape.{field_by, field_at, fields_of, messages_by, messages_of, ArePlainFields, ArePlainMessages, IsFirstShape}
+use Rattle.proto_parts.specs.JsonNames.{json_name_of}
+use Rattle.proto_checks.specs.FileFlaws.{name_flaws, with_reserved_name, json_clashes, message_flaws, block_flaws, file_flaws}
+use Rattle.proto_edit.specs.Sentences.{Sentence, sentence, sentence_if, marked as sentences_at, repeats_after}
+use Rattle.proto_rename.specs.declared.shape.FieldAt.{FieldAt}
+use Rattle.proto_rename.specs.declared.shape.MessageAt.{MessageAt}
+use Rattle.proto_rename.specs.Named.{number_of, json_name, AfterEarlier, is_field_number as is_number}
+use Rattle.proto_rename.specs.Shape.{field_by, field_at, fields_of, messages_by, messages_of, ArePlainFields, ArePlainMessages, IsFirstShape}
 use Rattle.proto_edit.proofs.BridgeParts.{IsPlainField, ArePlain, listed_in, listed_plain, fields_listed, parts_listed, no_part, no_blocks, no_statements}
 use Rattle.proto_edit.proofs.BridgeTrees.{field_name}
-use Rattle.proto_edit.proofs.Marks.{message_cases, syntax_cases}
-use Rattle.proto_edit.proofs.Placed.{Before, before_from}
-use Rattle.proto_edit.proofs.Placed.{after_earlier as after_one}
+use Rattle.proto_rename.proofs.Marks.{message_cases, syntax_cases}
+use Rattle.proto_edit.proofs.Placed.{Before, before_from, after_earlier as after_one}
 use Rattle.proto_edit.proofs.Repeating.{repeats_from, repeats_to}
 
 none : {A : Type 0} (x : A) → Contains [] x → ⊥

@@ -7,29 +7,30 @@ use Rattle.proto_text.specs.Texts.{words, offset_at}
 use Rattle.proto_text.specs.Tokens.{AreTokens}
 use Rattle.proto_tree.specs.Tree.{Tree}
 use Rattle.proto_tree.specs.Reads.{Reads}
-use Rattle.proto_files.specs.declared.fault.FaultKind.{FaultKind}
-use Rattle.proto_files.specs.declared.fault.FaultKind.TheVariants as kind
+use Rattle.proto_faults.specs.declared.fault.FaultKind.{FaultKind}
+use Rattle.proto_faults.specs.declared.fault.FaultKind.TheVariants as kind
 use Rattle.proto_files.specs.Faults.{FaultAt, HasNoFault}
 use Rattle.proto_files.specs.GivenFiles.{FileOf, file_at, paths_of}
-use Rattle.proto_names.specs.declared.kind.Kind.TheVariants.{Entry}
-use Rattle.proto_names.specs.EntryNames.{entry_name}
-use Rattle.proto_names.specs.Faults.{Fault, fault, Asked, imports_of, place_of, ImportFault, unknown, double, cycle, NameFault, earlier, of_package, ReferenceFault, unresolved, wrong_kind, of_entry}
-use Rattle.proto_names.specs.FromTree.{Wanted, file_names}
-use Rattle.proto_names.specs.Grown.{At, at, declared_of, used_in, file_declared, file_used}
-use Rattle.proto_names.specs.Links.{ReadOf, read_at, AreRead, text_of, asked_as, all_wanted, link_skeleton, LinkFaults, of_import, of_name, of_reference}
-use Rattle.proto_names.specs.Names.{Import, Symbol, Reference, Workspace, meaning}
-use Rattle.proto_names.specs.Skeleton.{Source, Token, EntryOf, Given, Declared, Used, Skeleton, name_of, symbol_of, reference_of, workspace_of, shifted_source, shifted_declared, shifted_used, shifted}
-use Rattle.proto_names.specs.Tree.{all_placed}
-use Rattle.proto_names.proofs.Basics.{contains_map, from_map}
-use Rattle.proto_names.proofs.Edited.{map_agree, map_map}
-use Rattle.proto_names.proofs.ReadOnce.{read_once}
-use Rattle.proto_names.proofs.Shifted.{workspace_shifted}
-use Rattle.proto_edit.specs.declared.shape.MessageAt.{MessageAt}
-use Rattle.proto_edit.specs.Named as named
-use Rattle.proto_edit.specs.Named.{message_members, use_of, uses, skeleton_of, names, Says, IsSound}
-use Rattle.proto_edit.specs.Shape.{messages_of, IsFirstShape}
+use Rattle.proto_meaning.specs.declared.kind.Kind.TheVariants.{Entry}
+use Rattle.proto_case.specs.Camel.{entry_name}
+use Rattle.proto_meaning.specs.Faults.{Fault, fault, Asked, imports_of, place_of, ImportFault, unknown, double, cycle, NameFault, earlier, of_package, ReferenceFault, unresolved, wrong_kind, of_entry}
+use Rattle.proto_listing.specs.FromTree.{Wanted, file_names}
+use Rattle.proto_meaning.specs.Grown.{At, at, declared_of, used_in, file_declared, file_used}
+use Rattle.proto_files.specs.FilesRead.{ReadOf, read_at, AreRead}
+use Rattle.proto_imports.specs.Links.{text_of, asked_as, all_wanted, link_skeleton, LinkFaults, of_import, of_name, of_reference}
+use Rattle.proto_meaning.specs.Names.{Import, Symbol, Reference, Workspace, meaning}
+use Rattle.proto_meaning.specs.Skeleton.{Source, Token, EntryOf, Given, Declared, Used, Skeleton, name_of, symbol_of, reference_of, workspace_of, shifted_source, shifted_declared, shifted_used, shifted}
+use Rattle.proto_meaning.specs.Tree.{all_placed}
+use Rattle.proto_text.proofs.Lists.{contains_map, from_map}
+use Rattle.proto_meaning.proofs.Edited.{map_agree, map_map}
+use Rattle.proto_files.proofs.ReadOnce.{read_once}
+use Rattle.proto_meaning.proofs.Shifted.{workspace_shifted}
+use Rattle.proto_rename.specs.declared.shape.MessageAt.{MessageAt}
+use Rattle.proto_rename.specs.Named as named
+use Rattle.proto_rename.specs.Named.{message_members, uses, skeleton_of, names, Says, IsSound}
+use Rattle.proto_rename.specs.Shape.{messages_of, IsFirstShape}
 use Rattle.proto_edit.proofs.BridgeTrees.{placed_are, uses_are, no_imports_in}
-use Rattle.proto_edit.proofs.Listed.{use_from, no_package, no_entry, last_token}
+use Rattle.proto_rename.proofs.Listed.{use_from, no_package, no_entry, last_token}
 use Rattle.proto_edit.proofs.Placed.{before_later, after_earlier, before_from, before_map, before_from_map}
 
 none : {A : Type 0} (x : A) → Contains [] x → ⊥

@@ -1,19 +1,16 @@
 -- The parts of a tree of plain fields, and the blocks of a file of the first language.
-use Rattle.std.proofs.Common.{◌≡◌, ℕ, List, [], ◌∷◌, ◌++◌, None, map, refl, ap, ◌∙◌, arith}
-use Rattle.std.specs.List.{Contains, flat_map}
+use Rattle.std.proofs.Common.{◌≡◌, ℕ, List, [], ◌∷◌, ◌++◌, None, map, refl, ap, ◌∙◌}
+use Rattle.std.specs.List.{flat_map}
 use Rattle.std.specs.Prelude.{find}
 use Rattle.proto_tree.specs.declared.tree.Field.{Field}
 use Rattle.proto_tree.specs.declared.piece.Statement.{Statement}
 use Rattle.proto_tree.specs.declared.piece.Statement.TheVariants as statement
 use Rattle.proto_tree.specs.Tree.{Tree, End, Leaf, Block}
 use Rattle.proto_parts.specs.Parts.{FieldOf, BlockOf, statements, plain_field, statement_fields, fields_from, blocks_in}
-use Rattle.proto_desc.specs.SceneOf.{is_enum_at}
-use Rattle.proto_edit.specs.declared.shape.FieldAt.{FieldAt}
-use Rattle.proto_edit.specs.Shape.{field_at, fields_by, fields_of, IsPlainType, ArePlainFields, ArePlainMessages, IsFirstShape}
-use Rattle.proto_edit.proofs.Marks.{plain_cases, message_cases}
-
-none : {A : Type 0} (x : A) → Contains [] x → ⊥
-none x c = omega (arith, c.1)
+use Rattle.proto_scenes.specs.SceneOf.{is_enum_at}
+use Rattle.proto_rename.specs.declared.shape.FieldAt.{FieldAt}
+use Rattle.proto_rename.specs.Shape.{field_at, fields_by, fields_of, IsPlainType, ArePlainFields, ArePlainMessages, IsFirstShape}
+use Rattle.proto_rename.proofs.Marks.{plain_cases, message_cases}
 
 abbrev pub IsPlainField : Field → Type 0
 IsPlainField f = (f.label ≡ None) × IsPlainType f.kind × (f.settings ≡ None)

@@ -21,19 +21,19 @@ use Rattle.proto_tree.specs.Reads.{Reads}
 use Rattle.proto_tree.specs.Tree.{Tree, End, Leaf, Block, flat}
 use Rattle.proto_tree.specs.Words.{Listed, class_in, listed, marks, class_by, classes}
 use Rattle.proto_files.specs.GivenFiles.{FileOf}
-use Rattle.proto_names.specs.Faults.{place_of}
+use Rattle.proto_meaning.specs.Faults.{place_of}
 use Rattle.proto_names.specs.FileReferences.{uses_of}
-use Rattle.proto_names.specs.Grown.{At}
-use Rattle.proto_names.specs.Links.{read_at}
-use Rattle.proto_names.specs.Skeleton.{Declared, Used}
-use Rattle.proto_names.proofs.Basics.{contains_cases, from_map, same_from_word}
+use Rattle.proto_meaning.specs.Grown.{At}
+use Rattle.proto_files.specs.FilesRead.{read_at}
+use Rattle.proto_meaning.specs.Skeleton.{Declared, Used}
+use Rattle.proto_text.proofs.Lists.{contains_cases, from_map, same_from_word}
 use Rattle.proto_parts.specs.Parts.{BlockOf, blocks_in, statements}
 use Rattle.proto_parts.specs.Scenes.{MeantOf, Scene, value_or_none, string_of, is_proto3, is_proto3_statement}
-use Rattle.proto_desc.specs.SceneOf.{lexemes_of, is_proto3_file, enum_within, is_enum_at, enum_at, declared_as, meant_as, meaning_of, scene_of}
-use Rattle.proto_edit.specs.Shape.{IsFirstShape, IsFirstLanguage, proto3, syntax_text, text_in}
+use Rattle.proto_scenes.specs.SceneOf.{lexemes_of, is_proto3_file, enum_within, is_enum_at, enum_at, declared_as, meant_as, meaning_of, scene_of}
+use Rattle.proto_rename.specs.Shape.{IsFirstShape, IsFirstLanguage, proto3, syntax_text, text_in}
 use Rattle.proto_edit.proofs.BridgeNames.{one_read}
 use Rattle.proto_edit.proofs.BridgeParts.{no_enum}
-use Rattle.proto_edit.proofs.Marks.{syntax_cases, syntax_in}
+use Rattle.proto_rename.proofs.Marks.{syntax_cases, syntax_in}
 
 none : {A : Type 0} (x : A) → Contains [] x → ⊥
 none x c = omega (arith, c.1)

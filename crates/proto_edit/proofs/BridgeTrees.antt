@@ -5,12 +5,13 @@ use Rattle.proto_tree.specs.declared.tree.Field.{Field}
 use Rattle.proto_tree.specs.declared.tree.FieldType.{FieldType}
 use Rattle.proto_tree.specs.declared.tree.FieldType.TheVariants.{Scalar, Reference as Ref}
 use Rattle.proto_tree.specs.Tree.{Tree, End, Leaf, Block}
-use Rattle.proto_names.specs.FromTree.{add_statement, members_in, file_statement, file_block, items_in, first_of, dotted, type_uses, statement_uses, member_uses, item_uses, file_names, statement_imports, imports_in}
-use Rattle.proto_names.specs.Skeleton.{Token, Used}
-use Rattle.proto_names.specs.Tree.{field, message, Members, member, package_of, placed, all_placed, items_placed, file_placed}
-use Rattle.proto_edit.specs.Named.{field_members, message_members, use_of, field_uses, uses}
-use Rattle.proto_edit.specs.Shape.{field_by, field_at, fields_by, fields_of, messages_by, messages_of, IsPlainType, ArePlainFields, ArePlainMessages, IsFirstShape}
-use Rattle.proto_edit.proofs.Marks.{plain_cases, message_cases, syntax_cases}
+use Rattle.proto_listing.specs.FromTree.{add_statement, members_in, file_statement, file_block, items_in, type_uses, statement_uses, member_uses, item_uses, file_names, statement_imports, imports_in}
+use Rattle.proto_tree.specs.References.{first_of, dotted}
+use Rattle.proto_meaning.specs.Skeleton.{Token, Used}
+use Rattle.proto_meaning.specs.Tree.{field, message, Members, member, package_of, placed, all_placed, items_placed, file_placed}
+use Rattle.proto_rename.specs.Named.{field_members, message_members, use_of, field_uses, uses}
+use Rattle.proto_rename.specs.Shape.{field_by, field_at, fields_by, fields_of, messages_by, messages_of, IsPlainType, ArePlainFields, ArePlainMessages, IsFirstShape}
+use Rattle.proto_rename.proofs.Marks.{plain_cases, message_cases, syntax_cases}
 
 -- ---- declarations
 

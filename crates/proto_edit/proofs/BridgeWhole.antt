@@ -9,24 +9,25 @@ use Rattle.proto_text.specs.declared.lexer.Token.{Token}
 use Rattle.proto_text.specs.Texts.{words}
 use Rattle.proto_tree.specs.Tree.{Tree}
 use Rattle.proto_tree.specs.Reads.{Reads}
-use Rattle.proto_files.specs.declared.fault.FaultKind.{FaultKind}
-use Rattle.proto_files.specs.declared.fault.FaultKind.TheVariants as kind
+use Rattle.proto_faults.specs.declared.fault.FaultKind.{FaultKind}
+use Rattle.proto_faults.specs.declared.fault.FaultKind.TheVariants as kind
 use Rattle.proto_files.specs.Faults.{FaultAt, HasNoFault}
 use Rattle.proto_files.specs.GivenFiles.{FileOf, paths_of}
 use Rattle.proto_files.specs.ReadFaults.{ReadFaults, IsTextFault}
 use Rattle.proto_files.specs.WorkspacePaths.{IsWorkspacePath}
-use Rattle.proto_names.specs.Links.{ReadOf, LinkFaults, of_import, of_name, of_reference}
-use Rattle.proto_names.proofs.Basics.{contains_head}
-use Rattle.proto_checks.specs.declared.flaw.Flaw.{Flaw}
-use Rattle.proto_checks.specs.Flaws.{flaw}
+use Rattle.proto_files.specs.FilesRead.{ReadOf}
+use Rattle.proto_imports.specs.Links.{LinkFaults, of_import, of_name, of_reference}
+use Rattle.proto_text.proofs.Lists.{contains_head}
+use Rattle.proto_numbers.specs.declared.flaw.Flaw.{Flaw}
+use Rattle.proto_numbers.specs.Flaws.{flaw}
 use Rattle.proto_desc.specs.Checked.{flaws_of, fault_of, CheckFaults, of_flaw}
-use Rattle.proto_edit.specs.declared.shape.MessageAt.{MessageAt}
+use Rattle.proto_rename.specs.declared.shape.MessageAt.{MessageAt}
 use Rattle.proto_edit.specs.Bridge.{FirstCompiles, WholeIsFirst}
-use Rattle.proto_edit.specs.Descriptors.{desc}
-use Rattle.proto_edit.specs.Faults.{at}
-use Rattle.proto_edit.specs.Named.{Says, duplicate_name, unresolved, number_range, duplicate_number, json_clash, IsSound}
-use Rattle.proto_edit.specs.Renames.{Compiles}
-use Rattle.proto_edit.specs.Shape.{messages_of, IsFirstLanguage}
+use Rattle.proto_rename.specs.Descriptors.{desc}
+use Rattle.proto_edit.specs.Compiled.{at}
+use Rattle.proto_rename.specs.Named.{Says, duplicate_name, unresolved, number_range, duplicate_number, json_clash, IsSound}
+use Rattle.proto_rename.specs.Renames.{Compiles}
+use Rattle.proto_rename.specs.Shape.{messages_of, IsFirstLanguage}
 use Rattle.proto_edit.specs.Workspaces.{NamedFile}
 use Rattle.proto_edit.proofs.BridgeFlaws.{FlawIn, range, number, json, IsWrong, flaws_from, flaws_to}
 use Rattle.proto_edit.proofs.BridgeNames.{no_import_fault, no_name_fault, no_reference_fault, one_read, are_read, only_reading, sound_is_linked, name_is_fault, reference_is_fault}

@@ -6,10 +6,10 @@ use Rattle.std.proofs.lemmas.List.{map_more, map_push, drop_more, take-append-dr
 use Rattle.proto_files.specs.GivenFiles.{FileOf}
 use Rattle.proto_edit.specs.Answers.{asked, IsReopened, IsUndoRefusal, IsUndoAllRefusal, LeadsBack}
 use Rattle.proto_edit.specs.declared.edit.Edit.{Edit}
-use Rattle.proto_edit.specs.declared.entry.Change.{Change}
-use Rattle.proto_edit.specs.declared.refusal.Refusal.{Refusal}
-use Rattle.proto_edit.specs.declared.refusal.Refusal.TheVariants as refusal
-use Rattle.proto_edit.specs.Entries.{ChangeOf, change_of}
+use Rattle.proto_entries.specs.declared.entry.Change.{Change}
+use Rattle.proto_entries.specs.declared.refusal.Refusal.{Refusal}
+use Rattle.proto_entries.specs.declared.refusal.Refusal.TheVariants as refusal
+use Rattle.proto_entries.specs.Entries.{ChangeOf, change_of}
 use Rattle.proto_edit.specs.Workspaces.{Asked, IsAdmissible, AreChanges, IsMappedStep, IsRefusal, IsUndo, Run, Undone}
 use Rattle.proto_edit.proofs.Steps.{mapped_step, run_more, undone_append, undone_once, leads_back, leads_somewhere}
 

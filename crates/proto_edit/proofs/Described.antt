@@ -3,25 +3,25 @@ use Rattle.std.proofs.Common.{◌≡◌, ℕ, Bool, true, false, List, [], ◌�
 use Rattle.std.specs.List.{Contains, list_any}
 use Rattle.std.specs.Str.{bytes_eq}
 use Rattle.std.proofs.lemmas.Bool.{cond-true, true_from_ne_false}
-use Rattle.proto_names.specs.EntryNames.{entry_name}
-use Rattle.proto_names.specs.Names.{Workspace, meaning}
-use Rattle.proto_names.specs.Skeleton.{reference_of}
-use Rattle.proto_names.proofs.Basics.{contains_head, contains_later}
+use Rattle.proto_case.specs.Camel.{entry_name}
+use Rattle.proto_meaning.specs.Names.{Workspace, meaning}
+use Rattle.proto_meaning.specs.Skeleton.{reference_of}
+use Rattle.proto_text.proofs.Lists.{contains_head, contains_later}
 use Rattle.proto_json.specs.declared.field.FieldType.{FieldType}
 use Rattle.proto_json.specs.declared.field.FieldType.TheVariants as field_type
 use Rattle.proto_json.specs.declared.field.Label.TheVariants as label
 use Rattle.proto_json.specs.declared.file.Syntax.TheVariants as syntax
 use Rattle.proto_json.specs.Descriptors.{FieldDesc, FileDesc, Messages, NoMessages, Message}
 use Rattle.proto_json.specs.Views.{messages_of}
-use Rattle.proto_files.specs.declared.fault.FaultKind.TheVariants as kind
-use Rattle.proto_edit.specs.declared.shape.FieldAt.{FieldAt}
-use Rattle.proto_edit.specs.declared.shape.MessageAt.{MessageAt}
-use Rattle.proto_edit.specs.Named.{names, use_of, number_of, is_field_number, json_name, unresolved, number_range, IsSound}
-use Rattle.proto_edit.specs.Descriptors.{scalar, named, field_desc, message_desc, desc}
+use Rattle.proto_faults.specs.declared.fault.FaultKind.TheVariants as kind
+use Rattle.proto_rename.specs.declared.shape.FieldAt.{FieldAt}
+use Rattle.proto_rename.specs.declared.shape.MessageAt.{MessageAt}
+use Rattle.proto_rename.specs.Named.{names, use_of, number_of, is_field_number, json_name, unresolved, number_range, IsSound}
+use Rattle.proto_rename.specs.Descriptors.{scalar, named, field_desc, message_desc, desc}
 use Rattle.proto_edit.specs.Printed.{scalar_type, type_of, type_name_of, no_field_options, no_message_options, no_file_options, printed_field, printed_messages, printed_file}
 use Rattle.proto_edit.specs.Plain.{plain_type, plain_type_name, plain_field, plain_message, plain_file}
 use Rattle.proto_edit.specs.Sentences.{number_or_zero, message_tokens}
-use Rattle.proto_edit.proofs.Listed.{use_to}
+use Rattle.proto_rename.proofs.Listed.{use_to}
 use Rattle.proto_edit.proofs.Meanings.{meaning_is}
 
 -- ---- one field

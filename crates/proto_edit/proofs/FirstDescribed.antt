@@ -5,25 +5,25 @@ use Rattle.proto_text.specs.declared.lexer.Token.{Token}
 use Rattle.proto_text.specs.Texts.{words}
 use Rattle.proto_tree.specs.Tree.{Tree, End, Leaf, Block}
 use Rattle.proto_files.specs.GivenFiles.{FileOf}
-use Rattle.proto_names.specs.FromTree.{Wanted, imports_in, items_in}
-use Rattle.proto_names.specs.Links.{ReadOf, AreRead}
-use Rattle.proto_names.specs.Tree.{package_of}
-use Rattle.proto_names.proofs.Basics.{contains_head, contains_later}
+use Rattle.proto_listing.specs.FromTree.{Wanted, imports_in, items_in}
+use Rattle.proto_files.specs.FilesRead.{ReadOf, AreRead}
+use Rattle.proto_meaning.specs.Tree.{package_of}
+use Rattle.proto_text.proofs.Lists.{contains_head, contains_later}
 use Rattle.proto_parts.specs.Parts.{OptionOf, statements, statement_options, options_in}
 use Rattle.proto_parts.specs.Scenes.{Scene, text, value}
 use Rattle.proto_json.specs.declared.file.Syntax.{Syntax}
 use Rattle.proto_json.specs.declared.file.Syntax.TheVariants as syntax
 use Rattle.proto_desc.specs.Checked.{described}
-use Rattle.proto_desc.specs.Described.{messages_described, enums_described, services_described, package_named, package_prefix, public_places, file_options, file_described, below}
+use Rattle.proto_described.specs.Described.{messages_described, enums_described, services_described, package_named, package_prefix, public_places, file_options, file_described, below}
 use Rattle.proto_json.specs.Descriptors.{EnumDesc, MessageDesc, Messages, NoMessages, Message, ServiceDesc, FileOptionsDesc, FileDesc}
 use Rattle.proto_json.specs.Views.{messages_of as listed_messages}
-use Rattle.proto_edit.specs.declared.shape.MessageAt.{MessageAt}
+use Rattle.proto_rename.specs.declared.shape.MessageAt.{MessageAt}
 use Rattle.proto_edit.specs.Bridge.{FirstIsDescribed}
-use Rattle.proto_edit.specs.Descriptors.{desc}
+use Rattle.proto_rename.specs.Descriptors.{desc}
 use Rattle.proto_edit.specs.Plain.{plain_message, plain_file}
 use Rattle.proto_edit.specs.Printed.{printed, printed_file}
-use Rattle.proto_edit.specs.Renames.{Compiles}
-use Rattle.proto_edit.specs.Shape.{fields_of, messages_by, messages_of, ArePlainMessages, IsFirstShape}
+use Rattle.proto_rename.specs.Renames.{Compiles}
+use Rattle.proto_rename.specs.Shape.{fields_of, messages_by, messages_of, ArePlainMessages, IsFirstShape}
 use Rattle.proto_edit.proofs.BridgeNames.{one_read, only_reading}
 use Rattle.proto_edit.proofs.BridgeParts.{no_statements}
 use Rattle.proto_edit.proofs.BridgeScene.{scene as file_scene, scene_is_proto3}
@@ -31,7 +31,7 @@ use Rattle.proto_edit.proofs.BridgeTrees.{no_package_in, no_imports_in}
 use Rattle.proto_edit.proofs.Described.{plain_is_printed}
 use Rattle.proto_edit.proofs.FirstDescribedFields.{AreClear, none_nested, message_same}
 use Rattle.proto_edit.proofs.FirstDescribedNames.{field_is_clear}
-use Rattle.proto_edit.proofs.Marks.{message_cases, syntax_cases}
+use Rattle.proto_rename.proofs.Marks.{message_cases, syntax_cases}
 
 -- ---- a file of messages alone has no enum, no service and no option
 

@@ -9,29 +9,29 @@ use Rattle.proto_tree.specs.declared.tree.FieldType.{FieldType as WrittenType}
 use Rattle.proto_tree.specs.declared.tree.FieldType.TheVariants.{Scalar, Reference as Ref}
 use Rattle.proto_tree.specs.declared.tree.Settings.{Settings}
 use Rattle.proto_tree.specs.Tree.{Tree, End, Leaf, Block}
-use Rattle.proto_names.specs.FromTree.{first_of}
-use Rattle.proto_names.proofs.Basics.{contains_head, contains_later}
+use Rattle.proto_tree.specs.References.{first_of}
+use Rattle.proto_text.proofs.Lists.{contains_head, contains_later}
 use Rattle.proto_parts.specs.Numbers.{number_of as part_number}
 use Rattle.proto_parts.specs.Parts.{FieldOf, OptionOf, statements, plain_field as plain_part, fields_in, extension_ranges, reserved_ranges, reserved_names, reserved_names_in, options_in, statement_options, settings_of}
 use Rattle.proto_parts.specs.Scenes.{MeantOf, Scene, text, value, number_at, up_to, meant_by}
-use Rattle.proto_checks.specs.NumberFlaws.{most_field, is_within, range_of}
+use Rattle.proto_numbers.specs.NumberFlaws.{most_field, is_within, range_of}
 use Rattle.proto_json.specs.declared.field.FieldType.{FieldType}
 use Rattle.proto_json.specs.declared.field.FieldType.TheVariants as field_type
 use Rattle.proto_json.specs.declared.field.Label.TheVariants as label
 use Rattle.proto_json.specs.declared.message.NumberRange.{NumberRange}
 use Rattle.proto_json.specs.declared.message.MessageOptions.{MessageOptions}
-use Rattle.proto_desc.specs.Described.{field_number, number_range, type_of, absolute, type_name_of, field_described, enums_described, oneof_names, message_options, message_described, messages_described}
+use Rattle.proto_described.specs.Described.{field_number, number_range, type_of, absolute, type_name_of, field_described, enums_described, oneof_names, message_options, message_described, messages_described}
 use Rattle.proto_json.specs.Descriptors.{FieldDesc, EnumDesc, MessageDesc, NoMessages}
-use Rattle.proto_edit.specs.declared.shape.FieldAt.{FieldAt}
-use Rattle.proto_edit.specs.declared.shape.MessageAt.{MessageAt}
-use Rattle.proto_edit.specs.Named.{number_of, json_name, is_field_number}
+use Rattle.proto_rename.specs.declared.shape.FieldAt.{FieldAt}
+use Rattle.proto_rename.specs.declared.shape.MessageAt.{MessageAt}
+use Rattle.proto_rename.specs.Named.{number_of, json_name, is_field_number}
 use Rattle.proto_edit.specs.Plain.{plain_type, plain_type_name, plain_field, plain_message}
 use Rattle.proto_edit.specs.Printed.{no_field_options}
 use Rattle.proto_edit.specs.Sentences.{number_or_zero}
-use Rattle.proto_edit.specs.Shape.{field_by, field_at, fields_of, IsPlainType, ArePlainFields}
+use Rattle.proto_rename.specs.Shape.{field_by, field_at, fields_of, IsPlainType, ArePlainFields}
 use Rattle.proto_edit.proofs.BridgeFlaws.{same_number}
 use Rattle.proto_edit.proofs.BridgeParts.{IsPlainField, ArePlain, listed_in, listed_plain, fields_listed, parts_listed, no_part}
-use Rattle.proto_edit.proofs.Marks.{plain_cases}
+use Rattle.proto_rename.proofs.Marks.{plain_cases}
 
 -- ---- numbers
 

@@ -8,28 +8,29 @@ use Rattle.proto_text.specs.declared.lexer.Token.{Token as Lexed}
 use Rattle.proto_text.specs.Texts.{words}
 use Rattle.proto_tree.specs.Tree.{Tree}
 use Rattle.proto_tree.specs.Reads.{Reads}
-use Rattle.proto_files.specs.declared.fault.FaultKind.TheVariants as kind
+use Rattle.proto_faults.specs.declared.fault.FaultKind.TheVariants as kind
 use Rattle.proto_files.specs.GivenFiles.{FileOf}
-use Rattle.proto_names.specs.EntryNames.{entry_name}
+use Rattle.proto_case.specs.Camel.{entry_name}
 use Rattle.proto_names.specs.FileReferences.{uses_of}
-use Rattle.proto_names.specs.Grown.{At, at}
-use Rattle.proto_names.specs.Links.{ReadOf, text_of, names_of_files}
-use Rattle.proto_names.specs.Names.{Workspace, meaning}
-use Rattle.proto_names.specs.Skeleton.{Used, reference_of, workspace_of}
-use Rattle.proto_names.proofs.Basics.{contains_cases, contains_head, contains_later, contains_map, from_map}
-use Rattle.proto_names.proofs.Shifted.{workspace_shifted}
+use Rattle.proto_meaning.specs.Grown.{At, at}
+use Rattle.proto_files.specs.FilesRead.{ReadOf}
+use Rattle.proto_imports.specs.Links.{text_of, names_of_files}
+use Rattle.proto_meaning.specs.Names.{Workspace, meaning}
+use Rattle.proto_meaning.specs.Skeleton.{Used, reference_of, workspace_of}
+use Rattle.proto_text.proofs.Lists.{contains_cases, contains_head, contains_later, contains_map, from_map}
+use Rattle.proto_meaning.proofs.Shifted.{workspace_shifted}
 use Rattle.proto_parts.specs.Scenes.{MeantOf}
-use Rattle.proto_desc.specs.SceneOf.{meant_as, meaning_of}
-use Rattle.proto_edit.specs.declared.shape.FieldAt.{FieldAt}
-use Rattle.proto_edit.specs.declared.shape.MessageAt.{MessageAt}
-use Rattle.proto_edit.specs.Named.{skeleton_of, names, uses, use_of, number_of, is_field_number, number_range, unresolved, IsSound}
+use Rattle.proto_scenes.specs.SceneOf.{meant_as, meaning_of}
+use Rattle.proto_rename.specs.declared.shape.FieldAt.{FieldAt}
+use Rattle.proto_rename.specs.declared.shape.MessageAt.{MessageAt}
+use Rattle.proto_rename.specs.Named.{skeleton_of, names, uses, use_of, number_of, is_field_number, number_range, unresolved, IsSound}
 use Rattle.proto_edit.specs.Sentences.{message_tokens}
-use Rattle.proto_edit.specs.Shape.{messages_of, IsFirstLanguage}
+use Rattle.proto_rename.specs.Shape.{messages_of, IsFirstLanguage}
 use Rattle.proto_edit.proofs.BridgeNames.{one_read, skeleton_is}
 use Rattle.proto_edit.proofs.BridgeScene.{scene, no_enum_is_meant}
 use Rattle.proto_edit.proofs.BridgeTrees.{uses_are}
 use Rattle.proto_edit.proofs.FirstDescribedFields.{IsMeant, IsClear}
-use Rattle.proto_edit.proofs.Listed.{use_from, use_to}
+use Rattle.proto_rename.proofs.Listed.{use_from, use_to}
 use Rattle.proto_edit.proofs.Meanings.{meaning_is}
 
 none : {A : Type 0} (x : A) → Contains [] x → ⊥

@@ -7,12 +7,12 @@ use Rattle.proto_text.specs.Tokens.{Lexeme, lexeme_at, AreTokens}
 use Rattle.proto_tree.specs.Tree.{Tree}
 use Rattle.proto_tree.specs.Reads.{Reads}
 use Rattle.proto_files.specs.GivenFiles.{FileOf, file_at}
-use Rattle.proto_names.specs.Links.{ReadOf, AreRead}
+use Rattle.proto_files.specs.FilesRead.{ReadOf, AreRead}
 use Rattle.proto_desc.specs.Checked.{AreDescribed}
 use Rattle.proto_json.specs.Descriptors.{FileDesc}
 use Rattle.proto_edit.specs.Compiled.{AreCompiled, IsOfFirstLanguage}
 use Rattle.proto_edit.specs.Printed.{AreDescribedBy}
-use Rattle.proto_edit.specs.Shape.{IsFirstLanguage}
+use Rattle.proto_rename.specs.Shape.{IsFirstLanguage}
 use Rattle.proto_edit.proofs.FirstDescribed.{first_is_described}
 use Rattle.proto_edit.proofs.WholeFirst.{first_compiled, language_again}
 

@@ -4,15 +4,15 @@ use Rattle.std.specs.List.{list_any}
 use Rattle.std.specs.Str.{bytes_eq}
 use Rattle.std.proofs.lemmas.Bool.{cases_Bool, both_ways, false_from_ne_true}
 use Rattle.std.proofs.lemmas.List.Folds.{list_any-append}
-use Rattle.proto_names.specs.Names.{Symbol, Reference, Workspace, same_name, is_type, sees, shows, hits_at, meaning_at, meaning}
-use Rattle.proto_names.specs.EntryNames.{entry_name}
-use Rattle.proto_names.specs.Tree.{Placed, all_placed}
-use Rattle.proto_names.specs.Grown.{declared_of}
-use Rattle.proto_names.specs.Skeleton.{Source, Token, Declared, name_of, symbol_of, reference_of}
-use Rattle.proto_names.proofs.Basics.{any_map, word_from_same, same_from_word}
-use Rattle.proto_edit.specs.declared.shape.FieldAt.{FieldAt}
-use Rattle.proto_edit.specs.declared.shape.MessageAt.{MessageAt}
-use Rattle.proto_edit.specs.Named.{field_members, message_members, use_of, names}
+use Rattle.proto_meaning.specs.Names.{Symbol, Reference, Workspace, same_name, is_type, sees, shows, hits_at, meaning_at, meaning}
+use Rattle.proto_case.specs.Camel.{entry_name}
+use Rattle.proto_meaning.specs.Tree.{Placed, all_placed}
+use Rattle.proto_meaning.specs.Grown.{declared_of}
+use Rattle.proto_meaning.specs.Skeleton.{Source, Token, Declared, name_of, symbol_of, reference_of}
+use Rattle.proto_text.proofs.Lists.{any_map, word_from_same, same_from_word}
+use Rattle.proto_rename.specs.declared.shape.FieldAt.{FieldAt}
+use Rattle.proto_rename.specs.declared.shape.MessageAt.{MessageAt}
+use Rattle.proto_rename.specs.Named.{field_members, message_members, use_of, names}
 use Rattle.proto_edit.specs.Sentences.{message_tokens}
 
 never : (b c : Bool) → (b && (false && c)) ≡ false

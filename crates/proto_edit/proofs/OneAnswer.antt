@@ -5,18 +5,20 @@ use Rattle.proto_text.specs.Texts.{words}
 use Rattle.proto_tree.specs.Tree.{Tree}
 use Rattle.proto_tree.specs.Reads.{Reads}
 use Rattle.proto_files.specs.GivenFiles.{FileOf}
-use Rattle.proto_edit.specs.declared.shape.FieldAt.{FieldAt}
-use Rattle.proto_edit.specs.declared.shape.MessageAt.{MessageAt}
-use Rattle.proto_edit.specs.Descriptors.{desc}
-use Rattle.proto_edit.specs.Shape.{messages_of}
-use Rattle.proto_edit.specs.Entries.{ChangeOf}
-use Rattle.proto_edit.specs.Renames.{a_field, target_in}
+use Rattle.proto_rename.specs.declared.shape.FieldAt.{FieldAt}
+use Rattle.proto_rename.specs.declared.shape.MessageAt.{MessageAt}
+use Rattle.proto_rename.specs.Descriptors.{desc}
+use Rattle.proto_rename.specs.Shape.{messages_of}
+use Rattle.proto_entries.specs.Entries.{ChangeOf}
+use Rattle.proto_rename.specs.Renames.{a_field, target_in}
 use Rattle.proto_edit.specs.Printed.{printed}
-use Rattle.proto_edit.specs.Workspaces.{Asked, rename, NamedFile, AreChanges, IsPut}
+use Rattle.proto_entries.specs.Putting.{IsPut}
+use Rattle.proto_edit.specs.Workspaces.{Asked, rename, NamedFile, AreChanges}
 use Rattle.proto_edit.specs.Laws.{CompilesOnce, DescribedOnce, StepsOnce, StepsArePrinted, StepsAreUndone}
-use Rattle.proto_edit.proofs.OneReading.{one_reading}
-use Rattle.proto_edit.proofs.Puts.{puts_are_once}
-use Rattle.proto_edit.proofs.Steps.{change_of_field, step_back, undo_once}
+use Rattle.proto_rename.proofs.OneReading.{one_reading}
+use Rattle.proto_entries.proofs.Puts.{puts_are_once}
+use Rattle.proto_rename.proofs.Made.{change_of_field}
+use Rattle.proto_edit.proofs.Steps.{step_back, undo_once}
 
 pub compiles_once : CompilesOnce
 compiles_once [] a b x y = x ∙ sym y

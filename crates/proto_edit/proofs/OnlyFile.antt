@@ -10,15 +10,15 @@ use Rattle.proto_tree.specs.Tree.{Tree}
 use Rattle.proto_tree.specs.Reads.{Reads}
 use Rattle.proto_files.specs.GivenFiles.{FileOf, file_at}
 use Rattle.proto_files.specs.WorkspacePaths.{IsWorkspacePath}
-use Rattle.proto_edit.specs.declared.refusal.Refusal.{Refusal}
-use Rattle.proto_edit.specs.declared.refusal.Refusal.TheVariants as refusal
-use Rattle.proto_edit.specs.Entries.{ChangeOf}
-use Rattle.proto_edit.specs.Regular.{IsRenameOf, IsRenameRefusal, IsDeletionRefusal}
-use Rattle.proto_edit.specs.Renames.{Compiles, Target, absent, no_field, a_field, target_in}
-use Rattle.proto_edit.specs.Shape.{messages_of}
+use Rattle.proto_entries.specs.declared.refusal.Refusal.{Refusal}
+use Rattle.proto_entries.specs.declared.refusal.Refusal.TheVariants as refusal
+use Rattle.proto_entries.specs.Entries.{ChangeOf}
+use Rattle.proto_rename.specs.Regular.{IsRenameOf, IsRenameRefusal, IsDeletionRefusal}
+use Rattle.proto_rename.specs.Renames.{Compiles, Target, absent, no_field, a_field, target_in}
+use Rattle.proto_rename.specs.Shape.{messages_of}
 use Rattle.proto_edit.specs.Workspaces.{rename, delete_field, DeletionRefused, IsCompiled, IsAdmissible, AreChanges, IsRefusal}
-use Rattle.proto_edit.proofs.OneReading.{one_reading}
-use Rattle.proto_edit.proofs.Puts.{same_file}
+use Rattle.proto_rename.proofs.OneReading.{one_reading}
+use Rattle.proto_entries.proofs.Puts.{same_file}
 use Rattle.proto_edit.proofs.Refusals.{refusal_of, renamed_admissible, renamed_changes, least_deletion, none_to_rename, none_to_delete}
 
 -- ---- the file

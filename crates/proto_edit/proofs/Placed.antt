@@ -2,8 +2,8 @@
 use Rattle.std.proofs.Common.{◌≡◌, ℕ, zero, suc, ◌<◌, List, [], ◌∷◌, ◌⊎◌, inl, inr, length, get_or, map, refl, sym, ap, subst, ◌∙◌, arith}
 use Rattle.std.specs.List.{Contains}
 use Rattle.std.proofs.lemmas.List.{get_or_default}
-use Rattle.proto_names.proofs.Basics.{contains_later, contains_map, from_map}
-use Rattle.proto_edit.specs.Named.{AfterEarlier}
+use Rattle.proto_text.proofs.Lists.{contains_later, contains_map, from_map}
+use Rattle.proto_rename.specs.Named.{AfterEarlier}
 
 -- x stands before y
 abbrev pub Before : {A : Type 0} → List A → A → A → Type 0

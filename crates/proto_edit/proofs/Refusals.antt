@@ -4,19 +4,19 @@ use Rattle.proto_text.specs.declared.lexer.Token.{Token}
 use Rattle.proto_text.specs.Texts.{words}
 use Rattle.proto_tree.specs.Tree.{Tree, flat}
 use Rattle.proto_files.specs.GivenFiles.{FileOf}
-use Rattle.proto_edit.specs.declared.refusal.Refusal.{Refusal}
-use Rattle.proto_edit.specs.declared.refusal.Refusal.TheVariants as refusal
-use Rattle.proto_edit.specs.declared.shape.FieldAt.{FieldAt}
+use Rattle.proto_entries.specs.declared.refusal.Refusal.{Refusal}
+use Rattle.proto_entries.specs.declared.refusal.Refusal.TheVariants as refusal
+use Rattle.proto_rename.specs.declared.shape.FieldAt.{FieldAt}
 use Rattle.proto_edit.specs.Compiled.{IsOfFirstLanguage}
-use Rattle.proto_edit.specs.Shape.{messages_of}
-use Rattle.proto_edit.specs.Regular.{IsRegular, IsLeastRefused, IsRenamed, IsRenameRefusal}
-use Rattle.proto_edit.specs.Renames.{Compiles, Target, absent, no_field, a_field, target_in, unknown_target}
+use Rattle.proto_rename.specs.Shape.{messages_of}
+use Rattle.proto_rename.specs.Regular.{IsRegular, IsLeastRefused, IsRenamed, IsRenameRefusal}
+use Rattle.proto_rename.specs.Renames.{Compiles, Target, absent, no_field, a_field, target_in, unknown_target}
 use Rattle.proto_edit.specs.Workspaces.{Asked, rename, delete_field, add_import, drop_import, DeletionRefused, IsCompiled, IsCaseOf, IsFirstCase, IsCase, IsLeastCase, IsAdmissible, AreChanges, IsRefusal}
-use Rattle.proto_edit.proofs.FieldCases.{holds, no_case}
-use Rattle.proto_edit.proofs.OneReading.{one_reading}
-use Rattle.proto_edit.proofs.Spans.{file_span}
-use Rattle.proto_edit.proofs.Steps.{change_of_field}
-use Rattle.proto_edit.proofs.TreeWords.{numbered_fit}
+use Rattle.proto_rename.proofs.FieldCases.{holds, no_case}
+use Rattle.proto_rename.proofs.OneReading.{one_reading}
+use Rattle.proto_rename.proofs.Spans.{file_span}
+use Rattle.proto_rename.proofs.Made.{change_of_field}
+use Rattle.proto_rename.proofs.TreeWords.{numbered_fit}
 
 -- a file that compiles has no fault, and its declarations are in order
 pub regular : (text : List ℕ) (tokens : List Token) (tree : Tree) → Compiles text tokens tree → IsRegular (words text tokens) (messages_of tree)

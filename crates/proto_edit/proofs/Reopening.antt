@@ -2,22 +2,20 @@
 use Rattle.std.proofs.Common.{List, length, refl, sym, subst, inl, inr}
 use Rattle.std.specs.Prelude.{Some, None}
 use Rattle.std.proofs.lemmas.Bool.{cases_lt}
-use Rattle.proto_files.specs.declared.fault.FaultKind.TheVariants as kind
+use Rattle.proto_faults.specs.declared.fault.FaultKind.TheVariants as kind
 use Rattle.proto_files.specs.Faults.{FaultAt, IsLeastFault}
 use Rattle.proto_files.specs.GivenFiles.{FileOf}
 use Rattle.proto_schema.specs.Whole.{IsSortedOf, of_read, WorkspaceFaults}
 use Rattle.proto_edit.specs.Answers.{IsReopened}
-use Rattle.proto_edit.specs.Compiled.{AreCompiled}
-use Rattle.proto_edit.specs.Entries.{ChangeOf, AreRising}
-use Rattle.proto_edit.specs.Faults.{at}
-use Rattle.proto_edit.specs.Putting.{ArePut}
-use Rattle.proto_edit.specs.Workspaces.{IsPut}
-use Rattle.proto_edit.proofs.Puts.{puts_are_once}
-use Rattle.proto_edit.proofs.Walks.{AreShort, put_by_paths, put_in_order, still_files}
+use Rattle.proto_edit.specs.Compiled.{AreCompiled, at}
+use Rattle.proto_entries.specs.Entries.{ChangeOf, AreRising}
+use Rattle.proto_entries.specs.Putting.{ArePut, AreShortFiles, IsPut}
+use Rattle.proto_entries.proofs.Puts.{puts_are_once}
+use Rattle.proto_entries.proofs.Walks.{put_by_paths, put_in_order, still_files}
 use Rattle.proto_edit.proofs.WholeFirst.{opens_again, sorted_again}
 
 -- no file of what compiles is too large
-are_short : (w : List FileOf) → AreCompiled w → AreShort w
+are_short : (w : List FileOf) → AreCompiled w → AreShortFiles w
 are_short w has g k = elim (cases_lt 1048576 (length g.bytes)) [
   | inl lt ↦ absurd (has.clean (at g.path 0 kind.TooLarge) (of_read (at g.path 0 kind.TooLarge) (inl (g, k, refl, (refl, lt)))))
   | inr le ↦ le

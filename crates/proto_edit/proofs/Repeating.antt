@@ -4,10 +4,9 @@ use Rattle.std.specs.List.{list_any, Contains}
 use Rattle.std.proofs.lemmas.Bool.{both_ways, or_left, or_right, or_cases}
 use Rattle.std.proofs.lemmas.List.Elements.{Contains-append_left, Contains-append_right, Contains-append_cases}
 use Rattle.std.proofs.lemmas.List.Folds.{list_any-append}
-use Rattle.proto_files.specs.declared.fault.FaultKind.{FaultKind}
-use Rattle.proto_names.proofs.Basics.{contains_head, contains_later, contains_cases}
-use Rattle.proto_edit.specs.Sentences.{Sentence}
-use Rattle.proto_edit.specs.Sentences.{sentence, sentence_if, marked, repeats_after}
+use Rattle.proto_faults.specs.declared.fault.FaultKind.{FaultKind}
+use Rattle.proto_text.proofs.Lists.{contains_head, contains_later, contains_cases}
+use Rattle.proto_edit.specs.Sentences.{Sentence, sentence, sentence_if, marked, repeats_after}
 use Rattle.proto_edit.proofs.Placed.{Before}
 
 none : {A : Type 0} (x : A) → Contains [] x → ⊥

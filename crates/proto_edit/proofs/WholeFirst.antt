@@ -8,8 +8,8 @@ use Rattle.proto_text.specs.Texts.{words}
 use Rattle.proto_text.proofs.OneEdit.{length_map}
 use Rattle.proto_tree.specs.Tree.{Tree}
 use Rattle.proto_tree.specs.Reads.{Reads}
-use Rattle.proto_files.specs.declared.fault.FaultKind.{FaultKind}
-use Rattle.proto_files.specs.declared.fault.FaultKind.TheVariants.{BadPath, DoublePath, TooManyFiles}
+use Rattle.proto_faults.specs.declared.fault.FaultKind.{FaultKind}
+use Rattle.proto_faults.specs.declared.fault.FaultKind.TheVariants.{BadPath, DoublePath, TooManyFiles}
 use Rattle.proto_files.specs.Faults.{FaultAt, IsLeastFault}
 use Rattle.proto_files.specs.GivenFiles.{FileOf, paths_of, AreWorkspaceFiles}
 use Rattle.proto_files.specs.PathFaults.{IsPathFault}
@@ -17,18 +17,18 @@ use Rattle.proto_files.specs.WorkspacePaths.{IsWorkspacePath, IsBefore}
 use Rattle.proto_files.proofs.Members.{Contains-from_member}
 use Rattle.proto_files.proofs.OneOrder.{one_order}
 use Rattle.proto_files.proofs.PathOrder.{Rises, count_once}
-use Rattle.proto_names.proofs.Basics.{from_map}
+use Rattle.proto_text.proofs.Lists.{from_map}
 use Rattle.proto_schema.specs.Whole.{IsSortedOf, FileFaults, of_read, of_link, of_check, WorkspaceFaults, of_path, of_files}
 use Rattle.proto_edit.specs.Bridge.{LanguagesAgree}
 use Rattle.proto_edit.specs.Compiled.{AreCompiled, IsOfFirstLanguage}
 use Rattle.proto_edit.specs.Laws.{WorkspacesAreClean}
-use Rattle.proto_edit.specs.Shape.{IsFirstLanguage}
+use Rattle.proto_rename.specs.Shape.{IsFirstLanguage}
 use Rattle.proto_edit.specs.Workspaces.{IsCompiled}
 use Rattle.proto_edit.proofs.BridgeWhole.{first_compiles, whole_is_first}
 use Rattle.proto_edit.proofs.Clean.{reads_cleanly}
 use Rattle.proto_edit.proofs.CleanCompiles.{file_is_read}
-use Rattle.proto_edit.proofs.EveryLanguage.{language_or_not}
-use Rattle.proto_edit.proofs.OneReading.{one_reading}
+use Rattle.proto_rename.proofs.EveryLanguage.{language_or_not}
+use Rattle.proto_rename.proofs.OneReading.{one_reading}
 
 -- ---- the two languages
 

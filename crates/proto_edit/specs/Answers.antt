@@ -4,11 +4,12 @@ use Rattle.std.specs.String.{string_bytes}
 use Rattle.proto_files.specs.GivenFiles.{FileOf}
 use Rattle.proto_edit.specs.declared.edit.Edit.{Edit}
 use Rattle.proto_edit.specs.declared.edit.Edit.TheVariants as edit
-use Rattle.proto_edit.specs.declared.refusal.Refusal.{Refusal}
-use Rattle.proto_edit.specs.declared.refusal.Refusal.TheVariants as refusal
+use Rattle.proto_entries.specs.declared.refusal.Refusal.{Refusal}
+use Rattle.proto_entries.specs.declared.refusal.Refusal.TheVariants as refusal
 use Rattle.proto_edit.specs.Compiled.{AreCompiled}
-use Rattle.proto_edit.specs.Entries.{ChangeOf}
-use Rattle.proto_edit.specs.Workspaces.{Asked, rename, delete_field, add_import, drop_import, IsPut, IsUndo, Run, accepted, Undone}
+use Rattle.proto_entries.specs.Entries.{ChangeOf}
+use Rattle.proto_entries.specs.Putting.{IsPut}
+use Rattle.proto_edit.specs.Workspaces.{Asked, rename, delete_field, add_import, drop_import, IsUndo, Run, accepted, Undone}
 
 abbrev pub asked : Edit → Asked
 asked (edit.Rename name to) = rename (string_bytes name) (string_bytes to)

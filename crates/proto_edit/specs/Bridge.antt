@@ -3,7 +3,8 @@ use Rattle.std.specs.Prelude.{◌↔◌, List}
 use Rattle.proto_files.specs.Faults.{HasNoFault}
 use Rattle.proto_files.specs.GivenFiles.{FileOf, AreWorkspaceFiles}
 use Rattle.proto_files.specs.ReadFaults.{ReadFaults}
-use Rattle.proto_names.specs.Links.{ReadOf, AreRead, LinkFaults}
+use Rattle.proto_files.specs.FilesRead.{ReadOf, AreRead}
+use Rattle.proto_imports.specs.Links.{LinkFaults}
 use Rattle.proto_desc.specs.Checked.{CheckFaults, described}
 use Rattle.proto_edit.specs.Compiled.{AreCompiled, IsOfFirstLanguage}
 use Rattle.proto_edit.specs.Printed.{AreDescribedBy}

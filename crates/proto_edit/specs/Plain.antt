@@ -6,9 +6,9 @@ use Rattle.proto_json.specs.declared.field.Label.TheVariants as label
 use Rattle.proto_json.specs.declared.file.Syntax.TheVariants as syntax
 use Rattle.proto_json.specs.Descriptors.{FieldDesc, NoMessages, FileDesc}
 use Rattle.proto_json.specs.Views.{MessageTree, messages_of}
-use Rattle.proto_edit.specs.declared.shape.FieldAt.{FieldAt}
-use Rattle.proto_edit.specs.declared.shape.MessageAt.{MessageAt}
-use Rattle.proto_edit.specs.Named.{json_name}
+use Rattle.proto_rename.specs.declared.shape.FieldAt.{FieldAt}
+use Rattle.proto_rename.specs.declared.shape.MessageAt.{MessageAt}
+use Rattle.proto_rename.specs.Named.{json_name}
 use Rattle.proto_edit.specs.Printed.{scalar_type, no_field_options, no_message_options, no_file_options}
 use Rattle.proto_edit.specs.Sentences.{number_or_zero}
 

@@ -1,7 +1,7 @@
 -- The descriptors of a workspace of the first language, as they are printed.
 use Rattle.std.specs.Prelude.{◌≡◌, ℕ, false, if◌then◌else◌, List, [], ◌∷◌, map, codes, Option, Some, None, option_map}
 use Rattle.std.specs.Str.{bytes_eq}
-use Rattle.proto_names.specs.Joined.{joined}
+use Rattle.proto_meaning.specs.Joined.{joined}
 use Rattle.proto_json.specs.declared.field.FieldType.{FieldType}
 use Rattle.proto_json.specs.declared.field.FieldType.TheVariants as field_type
 use Rattle.proto_json.specs.declared.field.Label.TheVariants as label
@@ -9,7 +9,7 @@ use Rattle.proto_json.specs.declared.field.FieldOptions.{FieldOptions}
 use Rattle.proto_json.specs.declared.message.MessageOptions.{MessageOptions}
 use Rattle.proto_json.specs.declared.file.Syntax.TheVariants as syntax
 use Rattle.proto_json.specs.Descriptors.{FieldDesc, MessageDesc, Messages, NoMessages, Message, FileOptionsDesc, FileDesc}
-use Rattle.proto_edit.specs.Descriptors.{Typed, scalar, named, NamedField, NamedMessage}
+use Rattle.proto_rename.specs.Descriptors.{Typed, scalar, named, NamedField, NamedMessage}
 use Rattle.proto_files.specs.GivenFiles.{FileOf}
 use Rattle.proto_edit.specs.Workspaces.{NamedFile, CompilesTo}
 

@@ -1,24 +1,22 @@
 -- A workspace under edits: when an edit is refused, what it changes, and runs of edits.
 use Rattle.std.specs.Prelude.{◌≡◌, ◌≢◌, ◌⊎◌, ℕ, ◌+◌, ◌-◌, ◌<◌, List, [], ◌∷◌, length, map, Result, Ok, Err}
-use Rattle.std.specs.List.{Contains}
 use Rattle.proto_text.specs.declared.lexer.Token.{Token}
-use Rattle.proto_text.specs.Edits.{Puts}
-use Rattle.proto_text.specs.Texts.{offset_at}
+use Rattle.proto_text.specs.Texts.{offset_at, words}
 use Rattle.proto_tree.specs.Tree.{Tree}
 use Rattle.proto_files.specs.GivenFiles.{FileOf}
 use Rattle.proto_files.specs.WorkspacePaths.{IsWorkspacePath}
-use Rattle.proto_names.specs.Edits.{Renaming}
-use Rattle.proto_edit.specs.declared.shape.FieldAt.{FieldAt}
-use Rattle.proto_edit.specs.declared.shape.MessageAt.{MessageAt}
-use Rattle.proto_edit.specs.declared.refusal.Refusal.{Refusal}
-use Rattle.proto_edit.specs.declared.refusal.Refusal.TheVariants as refusal
+use Rattle.proto_meaning.specs.Edits.{Renaming}
+use Rattle.proto_rename.specs.declared.shape.FieldAt.{FieldAt}
+use Rattle.proto_rename.specs.declared.shape.MessageAt.{MessageAt}
+use Rattle.proto_entries.specs.declared.refusal.Refusal.{Refusal}
+use Rattle.proto_entries.specs.declared.refusal.Refusal.TheVariants as refusal
 use Rattle.proto_edit.specs.Compiled.{AreCompiled, IsOfFirstLanguage}
-use Rattle.proto_edit.specs.Entries.{ChangeOf, turned_round}
-use Rattle.proto_edit.specs.RefusalTable.{number_of}
-use Rattle.proto_edit.specs.Shape.{messages_of}
-use Rattle.proto_edit.specs.Descriptors.{NamedMessage, desc, mapped}
-use Rattle.proto_text.specs.Texts.{words}
-use Rattle.proto_edit.specs.Renames.{Compiles, Target, absent, no_field, a_field, target_in, renaming, Refused}
+use Rattle.proto_entries.specs.Entries.{ChangeOf, inverted}
+use Rattle.proto_entries.specs.Putting.{IsPut}
+use Rattle.proto_entries.specs.RefusalTable.{number_of}
+use Rattle.proto_rename.specs.Shape.{messages_of}
+use Rattle.proto_rename.specs.Descriptors.{NamedMessage, desc, mapped}
+use Rattle.proto_rename.specs.Renames.{Compiles, Target, absent, no_field, a_field, target_in, renaming, Refused}
 
 -- ---- workspaces of the first language
 
@@ -98,23 +96,6 @@ pub record AreChanges (w : List FileOf) (e : Asked) (cs : List ChangeOf) : Type 
 abbrev pub name_map : (w : List FileOf) (e : Asked) (cs : List ChangeOf) → AreChanges w e cs → Renaming
 name_map w e cs s = renaming (words s.file.bytes s.tokens) s.m s.f s.to
 
--- a file is changed by the splices of its path, and stays where there are none
-pub record PutsFile (cs : List ChangeOf) (f g : FileOf) : Type 0 where
-  pub path : g.path ≡ f.path
-  pub changed : (c : ChangeOf) → Contains cs c → c.path ≡ f.path → (length f.bytes ≡ c.before) × Puts 0 f.bytes c.splices g.bytes
-  pub kept : ((c : ChangeOf) → Contains cs c → c.path ≢ f.path) → g.bytes ≡ f.bytes
-
-abbrev pub EachPuts : List ChangeOf → List FileOf → List FileOf → Type 0
-EachPuts cs [] [] = Unit {0}
-EachPuts cs [] (g ∷ gs) = ⊥
-EachPuts cs (f ∷ fs) [] = ⊥
-EachPuts cs (f ∷ fs) (g ∷ gs) = PutsFile cs f g × EachPuts cs fs gs
-
--- the files with the changes, each of which is of a file that is there
-pub record IsPut (w : List FileOf) (cs : List ChangeOf) (after : List FileOf) : Type 0 where
-  pub each : EachPuts cs w after
-  pub there : (c : ChangeOf) → Contains cs c → (f : FileOf) × Contains w f × (f.path ≡ c.path)
-
 -- ---- one edit
 
 pub record IsStep (w : List FileOf) (e : Asked) (cs : List ChangeOf) (after : List FileOf) : Type 0 where
@@ -155,10 +136,6 @@ abbrev pub accepted : List (Result (List ChangeOf) Refusal) → List (List Chang
 accepted [] = []
 accepted (Err r ∷ more) = accepted more
 accepted (Ok cs ∷ more) = cs ∷ accepted more
-
--- the changes that lead back
-abbrev pub inverted : List ChangeOf → List ChangeOf
-inverted cs = map turned_round cs
 
 -- the files before an entry, which compile
 pub record IsUndo (w : List FileOf) (cs : List ChangeOf) (before : List FileOf) : Type 0 where

@@ -2,26 +2,22 @@
 
 ghost use Rattle.std.specs.Prelude.{◌≡◌, ◌↔◌, ◌∷◌, [], IsTrue, map, reverse, IfOk, IfErr};
 ghost use Rattle.proto_edit.specs.Answers.{asked, IsUndoRefusal, IsReopened, IsUndoAllRefusal, LeadsBack};
-ghost use Rattle.proto_edit.specs.declared.refusal.Refusal.TheVariants as Refusal;
+ghost use Rattle.proto_entries.specs.declared.refusal.Refusal.TheVariants as Refusal;
 ghost use Rattle.proto_edit.specs.Compiled.{IsOfFirstLanguage};
-ghost use Rattle.proto_edit.specs.Entries.{change_of, AreRising};
+ghost use Rattle.proto_entries.specs.Entries.{change_of, AreRising};
 ghost use Rattle.proto_edit.specs.Workspaces.{rename, delete_field, IsAdmissible, AreChanges, IsRefusal, IsMappedStep, IsUndo, Run, Undone};
 
-use crate::change::all_turned_round;
 use crate::edit::Edit;
-use crate::entry::{Change, Entry};
-use crate::language::is_first_language;
-use crate::putting::put_all;
-use crate::refusal::Refusal;
-use crate::rename::{deletion_refusal, rename_in};
 use crate::workspace::Workspace;
+use proto_entries::{Change, Entry, Refusal, all_turned_round, put_all};
+use proto_faults::{NoMemory, SchemaFault};
 use proto_files::Words;
-use proto_schema::OpenFault;
-use std::alloc::{AllocError, Global};
+use proto_rename::{deletion_refusal, is_first_language, rename_in};
+use std::alloc::Global;
 
 impl Workspace {
     // Whether there is no file, or one of the first language.
-    fn is_of_first_language(&self, alloc: Global) -> Result<bool, AllocError>
+    fn is_of_first_language(&self, alloc: Global) -> Result<bool, NoMemory>
         ensures { IfOk result (λ is. IsTrue is ↔ IsOfFirstLanguage self.now) }
     {
         let files = self.files();
@@ -31,7 +27,7 @@ impl Workspace {
         if files.len() > 1 {
             return Ok(false);
         }
-        let words = Words::new(files.source(0), files.tokens(0));
+        let words = Words::new(files, 0);
         is_first_language(alloc, &words, files.tree(0))
     }
 
@@ -45,11 +41,13 @@ impl Workspace {
         if files.is_empty() {
             return Err(Refusal::UnknownTarget);
         }
+        let words = Words::new(files, 0);
         rename_in(
             alloc,
             files.path(0),
             files.source(0),
             files.tokens(0),
+            &words,
             files.tree(0),
             name,
             to,
@@ -57,7 +55,7 @@ impl Workspace {
     }
 
     // Why a field is not deleted.
-    fn kept(&self, alloc: Global, name: &str) -> Result<Refusal, AllocError>
+    fn kept(&self, alloc: Global, name: &str) -> Result<Refusal, NoMemory>
         requires { IsOfFirstLanguage self.now }
         ensures { IfOk result (IsRefusal self.now (delete_field name.now)) }
     {
@@ -65,7 +63,15 @@ impl Workspace {
         if files.is_empty() {
             return Ok(Refusal::UnknownTarget);
         }
-        deletion_refusal(alloc, files.source(0), files.tokens(0), files.tree(0), name)
+        let words = Words::new(files, 0);
+        deletion_refusal(
+            alloc,
+            files.source(0),
+            files.tokens(0),
+            &words,
+            files.tree(0),
+            name,
+        )
     }
 
     // What an edit changes, or the least case that refuses it.
@@ -97,8 +103,8 @@ impl Workspace {
         };
         match Workspace::open(alloc, list) {
             Ok(workspace) => Ok(Some(workspace)),
-            Err(OpenFault::NoMemory) => Err(Refusal::NoMemory),
-            Err(OpenFault::Schema(_)) => Ok(None),
+            Err(SchemaFault::NoMemory) => Err(Refusal::NoMemory),
+            Err(SchemaFault::Schema(_)) => Ok(None),
         }
     }
 
@@ -170,8 +176,8 @@ impl Workspace {
         }
         match Workspace::open(alloc, list) {
             Ok(workspace) => Ok(workspace),
-            Err(OpenFault::NoMemory) => Err(Refusal::NoMemory),
-            Err(OpenFault::Schema(_)) => unreachable!(),
+            Err(SchemaFault::NoMemory) => Err(Refusal::NoMemory),
+            Err(SchemaFault::Schema(_)) => unreachable!(),
         }
     }
 
@@ -180,12 +186,12 @@ impl Workspace {
         &self,
         alloc: Global,
         edits: &[Edit],
-    ) -> Result<(Workspace, Vec<Result<Entry, Refusal>>), AllocError>
+    ) -> Result<(Workspace, Vec<Result<Entry, Refusal>>), NoMemory>
         ensures { IfOk result (λ x. Run self.now (map asked edits.now) x.1.items x.0) }
     {
         let mut workspace = match self.copied(alloc) {
             Ok(workspace) => workspace,
-            Err(_) => return Err(AllocError),
+            Err(_) => return Err(NoMemory),
         };
         let mut answers = Vec::new(alloc);
         for edit in edits {
@@ -194,7 +200,7 @@ impl Workspace {
                     workspace = next;
                     Ok(entry)
                 }
-                Err(Refusal::NoMemory) => return Err(AllocError),
+                Err(Refusal::NoMemory) => return Err(NoMemory),
                 Err(refusal) => Err(refusal),
             };
             answers.push(answer)?;

@@ -5,15 +5,16 @@ ghost use Rattle.proto_desc.specs.Checked.{AreDescribed};
 ghost use Rattle.proto_json.specs.Views.{files_desc};
 ghost use Rattle.proto_files.specs.Faults.{HasNoFault};
 ghost use Rattle.proto_files.specs.GivenFiles.{files_of};
-ghost use Rattle.proto_names.specs.Links.{ReadOf, AreRead};
+ghost use Rattle.proto_files.specs.FilesRead.{ReadOf, AreRead};
 ghost use Rattle.proto_schema.specs.Answers.{IsOpenError};
 ghost use Rattle.proto_schema.specs.Whole.{WorkspaceFaults, IsSortedOf};
 ghost use Rattle.proto_edit.specs.Compiled.{AreCompiled, IsOfFirstLanguage};
 ghost use Rattle.proto_edit.specs.Printed.{AreDescribedBy};
 
 use proto_desc::Descriptors;
+use proto_faults::SchemaFault;
 use proto_files::Files;
-use proto_schema::{OpenFault, Schema};
+use proto_schema::Schema;
 use std::alloc::Global;
 use std::marker::Model;
 
@@ -39,7 +40,7 @@ impl Model for Workspace {
 impl Workspace {
     /// The files given, in the order of their paths, where they compile; else their least fault by phase, path, offset
     /// and number.
-    pub fn open(alloc: Global, files: Vec<(String, Vec<u8>)>) -> Result<Workspace, OpenFault>
+    pub fn open(alloc: Global, files: Vec<(String, Vec<u8>)>) -> Result<Workspace, SchemaFault>
         ensures files { IfOk result (λ w. IsSortedOf (files_of files.items) w) }
         ensures compiled { IfOk result (λ w. AreCompiled w) }
         ensures clean { IfOk result (λ _. HasNoFault (WorkspaceFaults (files_of files.items))) }

@@ -3,6 +3,7 @@
 
 use super::calls::*;
 use proto_edit::*;
+use proto_faults::SchemaFault;
 use std::alloc::Global;
 use std::test::Fail;
 
@@ -28,7 +29,7 @@ fn is_before(alloc: Global, workspace: &Workspace) -> bool {
 // Opened, at the second call if the first has no memory.
 fn reopened(alloc: Global) -> Result<Workspace, Fail> {
     match opened(alloc, BEFORE) {
-        Err(OpenFault::NoMemory) => workspace_of(alloc, BEFORE),
+        Err(SchemaFault::NoMemory) => workspace_of(alloc, BEFORE),
         answer => Ok(answer?),
     }
 }

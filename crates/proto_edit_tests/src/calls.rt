@@ -1,7 +1,8 @@
 //! Each public call once, with what tests say of its answer.
 
 use proto_edit::*;
-use std::alloc::{AllocError, Global};
+use proto_faults::{NoMemory, SchemaFault};
+use std::alloc::Global;
 use std::test::Fail;
 
 pub(crate) const ROW: &str = "syntax = \"proto3\"; message A { string b_c = 1; }";
@@ -13,7 +14,7 @@ pub(crate) type Said = (u32, &'static str);
 pub(crate) fn given(
     alloc: Global,
     texts: &[(&str, &str)],
-) -> Result<Vec<(String, Vec<u8>)>, AllocError> {
+) -> Result<Vec<(String, Vec<u8>)>, NoMemory> {
     let mut files = Vec::new(alloc);
     for &(path, text) in texts {
         let path = String::from_str(alloc, path)?;
@@ -23,7 +24,7 @@ pub(crate) fn given(
 }
 
 /// The workspace of one file, `a.proto`.
-pub(crate) fn opened(alloc: Global, text: &str) -> Result<Workspace, OpenFault> {
+pub(crate) fn opened(alloc: Global, text: &str) -> Result<Workspace, SchemaFault> {
     Workspace::open(alloc, given(alloc, &[("a.proto", text)])?)
 }
 
@@ -36,7 +37,7 @@ pub(crate) fn workspace_of(alloc: Global, text: &str) -> Result<Workspace, Fail>
     Ok(opened(alloc, text)?)
 }
 
-pub(crate) fn json_of(alloc: Global, workspace: &Workspace) -> Result<String, AllocError> {
+pub(crate) fn json_of(alloc: Global, workspace: &Workspace) -> Result<String, NoMemory> {
     to_json(alloc, workspace.descriptors())
 }
 
@@ -59,7 +60,7 @@ pub(crate) fn are_texts(workspace: &Workspace, texts: &[(&str, &str)]) -> bool {
     true
 }
 
-pub(crate) fn rename(alloc: Global, name: &str, to: &str) -> Result<Edit, AllocError> {
+pub(crate) fn rename(alloc: Global, name: &str, to: &str) -> Result<Edit, NoMemory> {
     Ok(Edit::Rename {
         name: String::from_str(alloc, name)?,
         to: String::from_str(alloc, to)?,

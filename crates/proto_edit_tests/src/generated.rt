@@ -4,7 +4,8 @@
 ghost use Rattle.std.specs.Prelude.{◌<◌};
 
 use super::calls::{apply, is_text, undo, workspace_of};
-use std::alloc::{AllocError, Global};
+use proto_faults::NoMemory;
+use std::alloc::Global;
 use std::test::Fail;
 
 const SCALARS: [&str; 5] = ["string", "int32", "bool", "fixed64", "bytes"];
@@ -38,13 +39,13 @@ impl Writer<'_> {
         (self.state >> 33) % limit
     }
 
-    fn push(&mut self, word: &str) -> Result<(), AllocError> {
+    fn push(&mut self, word: &str) -> Result<(), NoMemory> {
         let space = self.roll(6) as usize;
         self.text.push_str(SPACES[space])?;
-        self.text.push_str(word)
+        Ok(self.text.push_str(word)?)
     }
 
-    fn push_type(&mut self, alloc: Global, messages: u64) -> Result<(), AllocError>
+    fn push_type(&mut self, alloc: Global, messages: u64) -> Result<(), NoMemory>
         requires { 0 < messages }
     {
         if self.roll(3) == 0 {
@@ -56,7 +57,7 @@ impl Writer<'_> {
         }
     }
 
-    fn push_name(&mut self, alloc: Global, message: u64, field: u64) -> Result<(), AllocError> {
+    fn push_name(&mut self, alloc: Global, message: u64, field: u64) -> Result<(), NoMemory> {
         if message == self.target_message && field == self.target_field {
             if let Some(to) = self.to {
                 return self.push(to);
@@ -65,7 +66,7 @@ impl Writer<'_> {
         self.push(format!(in alloc; "f{field}")?.as_str())
     }
 
-    fn push_message(&mut self, alloc: Global, message: u64, messages: u64) -> Result<(), AllocError>
+    fn push_message(&mut self, alloc: Global, message: u64, messages: u64) -> Result<(), NoMemory>
         requires { 0 < messages }
     {
         self.push("message")?;
@@ -85,7 +86,7 @@ impl Writer<'_> {
 }
 
 // The schema of a seed, with this name for the field at one place.
-fn schema(alloc: Global, seed: u64, to: Option<&str>) -> Result<String, AllocError> {
+fn schema(alloc: Global, seed: u64, to: Option<&str>) -> Result<String, NoMemory> {
     let messages = 1 + seed % 4;
     let mut writer = Writer {
         text: String::from_str(alloc, "syntax = \"proto3\";")?,

@@ -2,7 +2,8 @@
 
 use super::calls::{given, json_of};
 use proto_edit::*;
-use std::alloc::{AllocError, Global};
+use proto_faults::{NoMemory, SchemaFault};
+use std::alloc::Global;
 use std::test::Fail;
 
 // The descriptors of files, or their fault as `path:offset: number name`.
@@ -17,14 +18,14 @@ pub(crate) fn answer(alloc: Global, texts: &[(&str, &str)]) -> Result<String, Fa
     answer_to(alloc, given(alloc, texts)?)
 }
 
-fn fault_of(alloc: Global, fault: OpenFault) -> Result<String, AllocError> {
+fn fault_of(alloc: Global, fault: SchemaFault) -> Result<String, NoMemory> {
     match fault {
-        OpenFault::Schema(fault) => {
+        SchemaFault::Schema(fault) => {
             let (offset, number, name) = (fault.offset, fault.number(), fault.name());
             let path = fault.path.as_str();
-            format!(in alloc; "{path}:{offset}: {number} {name}")
+            Ok(format!(in alloc; "{path}:{offset}: {number} {name}")?)
         }
-        OpenFault::NoMemory => String::from_str(alloc, "no memory"),
+        SchemaFault::NoMemory => Ok(String::from_str(alloc, "no memory")?),
     }
 }
 

@@ -2,7 +2,8 @@
 
 use super::calls::*;
 use proto_edit::*;
-use std::alloc::{AllocError, Global};
+use proto_faults::NoMemory;
+use std::alloc::Global;
 use std::test::Fail;
 
 const RENAMED: &str = "syntax = \"proto3\"; message A { string d_e = 1; }";
@@ -56,7 +57,7 @@ fn names_refuse_a_rename(rt: HostRuntime) -> Result<(), Fail> {
 }
 
 // The text, and spaces behind it up to the greatest length of a file.
-fn filled(alloc: Global, text: &str) -> Result<String, AllocError> {
+fn filled(alloc: Global, text: &str) -> Result<String, NoMemory> {
     let mut filled = String::from_str(alloc, text)?;
     for _ in text.len()..1048576 {
         filled.push(' ')?;
@@ -82,7 +83,7 @@ fn said_of_edit(alloc: Global, workspace: &Workspace, edit: Edit) -> Said {
     said(workspace.with_edit(alloc, &edit))
 }
 
-fn said_of_deletion(alloc: Global, workspace: &Workspace, name: &str) -> Result<Said, AllocError> {
+fn said_of_deletion(alloc: Global, workspace: &Workspace, name: &str) -> Result<Said, NoMemory> {
     let name = String::from_str(alloc, name)?;
     Ok(said_of_edit(alloc, workspace, Edit::DeleteField { name }))
 }

@@ -1,4 +1,4 @@
--- What the errors of the lexer and of the parser say of a file.
+-- What the errors of the lexer and of the parser say of a file (for the crates above).
 use Rattle.std.proofs.Common.{◌≡◌, ℕ, List, Err, refl, sym, ap, subst, inl, inr, ⊎_elim, arith, ◌⊎◌}
 use Rattle.std.specs.Prelude.{String}
 use Rattle.std.specs.Global.{Global}
@@ -14,8 +14,8 @@ use Rattle.proto_text.proofs.Once.{one_token_list, no_fault_with_tokens}
 use Rattle.proto_tree.specs.declared.parsing.ParseFault.{ParseFault}
 use Rattle.proto_tree.specs.declared.parsing.ParseFault.TheVariants as grammar
 use Rattle.proto_tree.specs.Reads.{IsFault, is_fault_or_memory, IsSyntaxAt, IsTooDeepAt}
-use Rattle.proto_files.specs.declared.fault.FaultKind.{FaultKind}
-use Rattle.proto_files.specs.declared.fault.FaultKind.TheVariants as kind
+use Rattle.proto_faults.specs.declared.fault.FaultKind.{FaultKind}
+use Rattle.proto_faults.specs.declared.fault.FaultKind.TheVariants as kind
 use Rattle.proto_files.specs.GivenFiles.{FileOf}
 use Rattle.proto_files.specs.ReadFaults.{IsText, IsTextFault, IsGrammarFault}
 use Rattle.proto_files.specs.Reading.{lex_kind, text_error, grammar_error, HasNone, IsFileError}

@@ -1,9 +1,9 @@
 -- The first file that has a fault, in a loop over files.
 use Rattle.std.proofs.Common.{◌≡◌, ℕ, zero, suc, ◌<◌, ◌≤◌, List, [], ◌∷◌, ◌++◌, length, map, take, get_or, refl, sym, ap, ◌∙◌, subst, inl, inr, arith}
 use Rattle.std.specs.List.{All}
-use Rattle.proto_files.specs.declared.fault.FaultKind.{FaultKind}
-use Rattle.proto_files.specs.declared.fault.FilesFault.{FilesFault}
-use Rattle.proto_files.specs.declared.fault.FilesFault.TheVariants.{Schema, NoMemory}
+use Rattle.proto_faults.specs.declared.fault.FaultKind.{FaultKind}
+use Rattle.proto_faults.specs.declared.fault.SchemaFault.{SchemaFault}
+use Rattle.proto_faults.specs.declared.fault.SchemaFault.TheVariants.{Schema, NoMemory}
 use Rattle.proto_files.specs.declared.stages.LexedFile.{LexedFile}
 use Rattle.proto_files.specs.declared.stages.ReadFile.{ReadFile}
 use Rattle.proto_files.specs.Faults.{fault_at}
@@ -41,7 +41,7 @@ length-map v [] = refl
 length-map v (x ∷ xs) = ap suc (length-map v xs)
 
 -- what a loop over `all` knows where it comes to x with an error
-pub first_error : {X : Type 0} (v : X → FileOf) (says : List ℕ → ℕ → FaultKind → Type 0) (all yielded : List X) (x : X) (done : List FileOf) (e : FilesFault) → map (λ y. y) yielded ≡ take (length yielded) all → (length yielded < length all) × (x ≡ get_or all (length yielded) x) → done ≡ map v yielded → NoneOf says done → IsFileError says (v x) e → IsFirstError says (map v all) e
+pub first_error : {X : Type 0} (v : X → FileOf) (says : List ℕ → ℕ → FaultKind → Type 0) (all yielded : List X) (x : X) (done : List FileOf) (e : SchemaFault) → map (λ y. y) yielded ≡ take (length yielded) all → (length yielded < length all) × (x ≡ get_or all (length yielded) x) → done ≡ map v yielded → NoneOf says done → IsFileError says (v x) e → IsFirstError says (map v all) e
 first_error v says all yielded x done NoMemory so_far at is none h = tt
 first_error {X} v says all yielded x done (Schema fault) so_far at is none h =
     let n = length yielded in

@@ -4,7 +4,7 @@ use Rattle.std.specs.Prelude.{IsPermutation, String}
 use Rattle.std.specs.Global.{Vec, Global}
 use Rattle.std.specs.String.{string_bytes}
 use Rattle.std.proofs.lemmas.List.Sorted.{IsPermutation-map}
-use Rattle.proto_files.specs.declared.fault.FaultKind.{FaultKind}
+use Rattle.proto_faults.specs.declared.fault.FaultKind.{FaultKind}
 use Rattle.proto_files.specs.declared.stages.NamedFile.{NamedFile}
 use Rattle.proto_files.specs.WorkspacePaths.{IsInPathOrder}
 use Rattle.proto_files.specs.Faults.{IsLeastFault, HasNoFault}

@@ -6,13 +6,13 @@ use Rattle.proto_text.specs.Tokens.{AreTokens}
 use Rattle.proto_text.proofs.Once.{one_token_list}
 use Rattle.proto_tree.specs.File.{tree_of_file}
 use Rattle.proto_tree.specs.Reads.{Reads}
-use Rattle.proto_files.specs.declared.fault.FaultKind.{FaultKind}
-use Rattle.proto_files.specs.declared.fault.FaultKind.TheVariants as kind
-use Rattle.proto_files.specs.declared.fault.FilesFault.{FilesFault}
-use Rattle.proto_files.specs.declared.fault.FilesFault.TheVariants.{Schema, NoMemory}
+use Rattle.proto_faults.specs.declared.fault.FaultKind.{FaultKind}
+use Rattle.proto_faults.specs.declared.fault.FaultKind.TheVariants as kind
+use Rattle.proto_faults.specs.declared.fault.SchemaFault.{SchemaFault}
+use Rattle.proto_faults.specs.declared.fault.SchemaFault.TheVariants.{Schema, NoMemory}
 use Rattle.proto_files.specs.declared.stages.LexedFile.{LexedFile}
 use Rattle.proto_files.specs.declared.stages.ReadFile.{ReadFile}
-use Rattle.proto_files.specs.FaultTable.{number_of, phase_of}
+use Rattle.proto_faults.specs.FaultTable.{number_of, phase_of}
 use Rattle.proto_files.specs.WorkspacePaths.{IsBefore}
 use Rattle.proto_files.specs.Faults.{FaultAt, fault_at, ComesBefore, IsLeastFault, HasNoFault, IsFilesError}
 use Rattle.proto_files.specs.GivenFiles.{FileOf, file_at, AreWorkspaceFiles}
@@ -97,7 +97,7 @@ no_fault_of : (says : List ℕ → ℕ → FaultKind → Type 0) (files : List F
 no_fault_of says files h y f = h f.0 (member_from_Contains f.0 files f.1) y.offset y.kind f.3
 
 -- the first file with a fault of its text has the least fault
-pub least_text : (given files : List FileOf) → given ≡ files → AreWorkspaceFiles files → (e : FilesFault) → IsFirstError IsTextFault given e → IsFilesError (ReadFaults files) e
+pub least_text : (given files : List FileOf) → given ≡ files → AreWorkspaceFiles files → (e : SchemaFault) → IsFirstError IsTextFault given e → IsFilesError (ReadFaults files) e
 least_text given files is w NoMemory h = tt
 least_text given files is w (Schema fault) h =
     let x = fault_at fault in
@@ -112,7 +112,7 @@ pub clean_texts : (lexed : List LexedFile) (files : List FileOf) → lexed_files
 clean_texts lexed files is h = subst (λ (fs : List FileOf). HasNoFault (TextFaults fs)) is (no_fault_of IsTextFault (lexed_files lexed) (none_lexed lexed h))
 
 -- where no text has a fault, the first file with a fault of its grammar has the least fault
-pub least_grammar : (lexed : List LexedFile) (files : List FileOf) → lexed_files lexed ≡ files → All IsLexedFile lexed → AreWorkspaceFiles files → (e : FilesFault) → IsFirstError IsGrammarFault (lexed_files lexed) e → IsFilesError (ReadFaults files) e
+pub least_grammar : (lexed : List LexedFile) (files : List FileOf) → lexed_files lexed ≡ files → All IsLexedFile lexed → AreWorkspaceFiles files → (e : SchemaFault) → IsFirstError IsGrammarFault (lexed_files lexed) e → IsFilesError (ReadFaults files) e
 least_grammar lexed files is all w NoMemory h = tt
 least_grammar lexed files is all w (Schema fault) h =
     let x = fault_at fault in
@@ -124,7 +124,7 @@ clean_files_read lexed read files is is' all all' =
     none_of_both (TextFaults files) (GrammarFaults files) (clean_texts lexed files is all)
     (subst (λ (fs : List FileOf). HasNoFault (GrammarFaults fs)) is' (no_fault_of IsGrammarFault (read_files read) (none_read read all')))
 
-file_at-read : (files : List ReadFile) (place : ℕ) (d : ReadFile) → place < length files → file_at (read_files files) place ≡ read_file (get_or files place d)
+pub file_at-read : (files : List ReadFile) (place : ℕ) (d : ReadFile) → place < length files → file_at (read_files files) place ≡ read_file (get_or files place d)
 file_at-read [] place d lt = absurd (omega arith)
 file_at-read (f ∷ files) zero d lt = refl
 file_at-read (f ∷ files) (suc place) d lt = file_at-read files place d (omega arith)

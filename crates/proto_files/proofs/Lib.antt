@@ -12,3 +12,7 @@ pub mod OneLeast
 mod Rows
 pub mod OneOrder
 pub mod WordsAt
+pub mod OwnTokens
+pub mod FilesAreRead
+pub mod OneReading
+pub mod ReadOnce

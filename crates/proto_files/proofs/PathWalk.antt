@@ -9,9 +9,9 @@ use Rattle.std.proofs.lemmas.Bool.{false≢true}
 use Rattle.std.proofs.lemmas.Slice.Eq.{bytes_eq-Decides}
 use Rattle.std.proofs.lemmas.List.Sums.{sum_by-append, count_by-le-length}
 use Rattle.std.proofs.lemmas.List.Sorted.{IsPermutation-sym, Contains-permutation, length_permutation, sum_by-IsPermutation}
-use Rattle.proto_files.specs.declared.fault.FaultKind.{FaultKind}
-use Rattle.proto_files.specs.declared.fault.FaultKind.TheVariants.{BadPath, DoublePath, TooManyFiles}
-use Rattle.proto_files.specs.FaultTable.{number_of, phase_of}
+use Rattle.proto_faults.specs.declared.fault.FaultKind.{FaultKind}
+use Rattle.proto_faults.specs.declared.fault.FaultKind.TheVariants.{BadPath, DoublePath, TooManyFiles}
+use Rattle.proto_faults.specs.FaultTable.{number_of, phase_of}
 use Rattle.proto_files.specs.WorkspacePaths.{IsBefore, IsInPathOrder, IsWorkspacePath, is_workspace_path}
 use Rattle.proto_files.specs.Faults.{IsLeastFault, HasNoFault}
 use Rattle.proto_files.specs.PathFaults.{IsPathFault, PathFaults}

@@ -4,11 +4,11 @@ use Rattle.std.specs.Ordering.{nat_cmp, ordering_then}
 use Rattle.std.specs.String.{string_bytes}
 use Rattle.std.specs.declared.cmp.Ordering.{Ordering}
 use Rattle.std.specs.declared.cmp.Ordering.TheVariants.{Less}
-use Rattle.proto_files.specs.declared.fault.FaultKind.{FaultKind}
-use Rattle.proto_files.specs.declared.fault.Fault.{Fault}
-use Rattle.proto_files.specs.declared.fault.FilesFault.{FilesFault}
-use Rattle.proto_files.specs.declared.fault.FilesFault.TheVariants.{Schema, NoMemory}
-use Rattle.proto_files.specs.FaultTable.{number_of, phase_of}
+use Rattle.proto_faults.specs.declared.fault.FaultKind.{FaultKind}
+use Rattle.proto_faults.specs.declared.fault.Fault.{Fault}
+use Rattle.proto_faults.specs.declared.fault.SchemaFault.{SchemaFault}
+use Rattle.proto_faults.specs.declared.fault.SchemaFault.TheVariants.{Schema, NoMemory}
+use Rattle.proto_faults.specs.FaultTable.{number_of, phase_of}
 use Rattle.proto_files.specs.WorkspacePaths.{path_cmp}
 
 -- a fault of a kind at an offset of the file at a path
@@ -39,6 +39,6 @@ abbrev pub HasNoFault : (FaultAt → Type 0) → Type 0
 HasNoFault faults = (y : FaultAt) → faults y → ⊥
 
 -- the error is want of memory, or the least fault
-abbrev pub IsFilesError : (FaultAt → Type 0) → FilesFault → Type 0
+abbrev pub IsFilesError : (FaultAt → Type 0) → SchemaFault → Type 0
 IsFilesError faults (Schema fault) = IsLeastFault faults (fault_at fault)
 IsFilesError faults NoMemory = Unit {0}

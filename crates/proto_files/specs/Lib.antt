@@ -1,4 +1,3 @@
-pub mod FaultTable
 pub mod WorkspacePaths
 pub mod Faults
 pub mod GivenFiles
@@ -7,4 +6,6 @@ pub mod Stages
 pub mod FirstFault
 pub mod ReadFaults
 pub mod Reading
+pub mod FileTokens
+pub mod FilesRead
 pub mod Laws

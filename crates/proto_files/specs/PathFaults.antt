@@ -1,8 +1,8 @@
 -- The faults of the paths of a workspace's files: no workspace path, a path given twice, too many files.
 use Rattle.std.specs.Prelude.{◌≡◌, ℕ, ◌<◌, List, length, count_by, Contains, IsPermutation, slice_index_or}
 use Rattle.std.specs.Str.{bytes_eq}
-use Rattle.proto_files.specs.declared.fault.FaultKind.{FaultKind}
-use Rattle.proto_files.specs.declared.fault.FaultKind.TheVariants.{BadPath, DoublePath, TooManyFiles}
+use Rattle.proto_faults.specs.declared.fault.FaultKind.{FaultKind}
+use Rattle.proto_faults.specs.declared.fault.FaultKind.TheVariants.{BadPath, DoublePath, TooManyFiles}
 use Rattle.proto_files.specs.WorkspacePaths.{IsWorkspacePath, IsInPathOrder}
 use Rattle.proto_files.specs.Faults.{FaultAt}
 

@@ -11,10 +11,10 @@ use Rattle.proto_tree.specs.declared.parsing.ParseFault.{ParseFault}
 use Rattle.proto_tree.specs.declared.parsing.ParseFault.TheVariants as grammar
 use Rattle.proto_tree.specs.File.{tree_of_file}
 use Rattle.proto_tree.specs.Reads.{Reads}
-use Rattle.proto_files.specs.declared.fault.FaultKind.{FaultKind}
-use Rattle.proto_files.specs.declared.fault.FaultKind.TheVariants as kind
-use Rattle.proto_files.specs.declared.fault.FilesFault.{FilesFault}
-use Rattle.proto_files.specs.declared.fault.FilesFault.TheVariants.{Schema, NoMemory}
+use Rattle.proto_faults.specs.declared.fault.FaultKind.{FaultKind}
+use Rattle.proto_faults.specs.declared.fault.FaultKind.TheVariants as kind
+use Rattle.proto_faults.specs.declared.fault.SchemaFault.{SchemaFault}
+use Rattle.proto_faults.specs.declared.fault.SchemaFault.TheVariants.{Schema, NoMemory}
 use Rattle.proto_files.specs.declared.stages.LexedFile.{LexedFile}
 use Rattle.proto_files.specs.declared.stages.ReadFile.{ReadFile}
 use Rattle.proto_files.specs.Faults.{FaultAt, fault_at}
@@ -30,14 +30,14 @@ lex_kind lex.BadEscape = kind.BadEscape
 lex_kind lex.BadNumber = kind.BadNumber
 
 -- a fault of the text at a path
-abbrev pub text_error : String Global → TextFault → FilesFault
+abbrev pub text_error : String Global → TextFault → SchemaFault
 text_error path text.TooLarge = Schema (record { path = path; offset = 0; kind = kind.TooLarge })
 text_error path text.NotUtf8 = Schema (record { path = path; offset = 0; kind = kind.NotUtf8 })
 text_error path (text.At offset fault) = Schema (record { path = path; offset = offset; kind = lex_kind fault })
 text_error path text.NoMemory = NoMemory
 
 -- a fault of the grammar at a path
-abbrev pub grammar_error : String Global → ParseFault → FilesFault
+abbrev pub grammar_error : String Global → ParseFault → SchemaFault
 grammar_error path (grammar.Syntax offset) = Schema (record { path = path; offset = offset; kind = kind.Syntax })
 grammar_error path (grammar.TooDeep offset) = Schema (record { path = path; offset = offset; kind = kind.TooDeep })
 grammar_error path grammar.NoMemory = NoMemory
@@ -52,7 +52,7 @@ pub record IsOnlyFault (says : List ℕ → ℕ → FaultKind → Type 0) (file 
   pub is_fault : says file.bytes x.offset x.kind
   pub only : (offset : ℕ) (kind : FaultKind) → says file.bytes offset kind → (offset ≡ x.offset) × (kind ≡ x.kind)
 
-abbrev pub IsFileError : (List ℕ → ℕ → FaultKind → Type 0) → FileOf → FilesFault → Type 0
+abbrev pub IsFileError : (List ℕ → ℕ → FaultKind → Type 0) → FileOf → SchemaFault → Type 0
 IsFileError says file (Schema fault) = IsOnlyFault says file (fault_at fault)
 IsFileError says file NoMemory = Unit {0}
 
@@ -63,7 +63,7 @@ pub record IsFirstFault (says : List ℕ → ℕ → FaultKind → Type 0) (file
   pub none_before : (k : ℕ) → k < place → HasNone says (file_at files k).bytes
   pub is_only : IsOnlyFault says (file_at files place) x
 
-abbrev pub IsFirstError : (List ℕ → ℕ → FaultKind → Type 0) → List FileOf → FilesFault → Type 0
+abbrev pub IsFirstError : (List ℕ → ℕ → FaultKind → Type 0) → List FileOf → SchemaFault → Type 0
 IsFirstError says files (Schema fault) = IsFirstFault says files (fault_at fault)
 IsFirstError says files NoMemory = Unit {0}
 

@@ -1,20 +1,24 @@
 //! The files of a workspace, read.
 
-ghost use Rattle.std.specs.Prelude.{◌≡◌, ◌<◌, ◌==◌, List, length, All, IfOk, IfErr};
+ghost use Rattle.std.specs.Prelude.{◌≡◌, ◌<◌, ◌==◌, List, length, slice_get, All, IfOk, IfErr, Some};
 ghost use Rattle.proto_text.specs.declared.lexer.Token.{Token};
-ghost use Rattle.proto_text.specs.SourceFacts.{IsSpan};
+ghost use Rattle.std.specs.String.{string_bytes};
+ghost use Rattle.proto_text.specs.SourceFacts.{IsSpan, text_at};
+ghost use Rattle.proto_text.specs.Texts.{words};
 ghost use Rattle.proto_text.specs.Tokens.{AreTokens};
+ghost use Rattle.proto_text.specs.Values.{StandsFor, value_of};
 ghost use Rattle.proto_tree.specs.File.{tree_of_file};
 ghost use Rattle.proto_tree.specs.Reads.{Reads};
 ghost use Rattle.proto_files.specs.Faults.{HasNoFault, IsFilesError};
+ghost use Rattle.proto_files.specs.FileTokens.{AreTokensOf, HasToken, HasString};
 ghost use Rattle.proto_files.specs.GivenFiles.{AreWorkspaceFiles, file_at};
 ghost use Rattle.proto_files.specs.ReadFaults.{ReadFaults};
 
-use crate::fault::FilesFault;
 use crate::paths::Paths;
 use crate::reading::{lex_files, parse_files};
 use crate::stages::ReadFile;
-use proto_text::{Source, Token};
+use proto_faults::{NoMemory, SchemaFault};
+use proto_text::{Source, Token, string_value};
 use proto_tree::File;
 use std::alloc::Global;
 use std::marker::Model;
@@ -43,7 +47,7 @@ impl Model for Files {
 impl Files {
     /// Reads the files. Where a text or the grammar of a file has a fault, the least fault is answered: all texts
     /// come before all trees.
-    pub fn read(alloc: Global, paths: Paths) -> Result<Files, FilesFault>
+    pub fn read(alloc: Global, paths: Paths) -> Result<Files, SchemaFault>
         ensures clean { IfOk result (λ _. HasNoFault (ReadFaults paths)) }
         ensures same { IfOk result (λ files. files ≡ paths) }
         ensures fault { IfErr result (IsFilesError (ReadFaults paths)) }
@@ -103,5 +107,30 @@ impl Files {
             → Reads (file_at self.now place).bytes tokens (tree_of_file result.now) }
     {
         &self.files[place].tree
+    }
+
+    /// The text of a token of the file at a place: the part of its source at the token's span. Takes no memory.
+    pub fn token_text(&self, file: u32, token: u32) -> &str
+        requires file { file < length self.now }
+        requires token { HasToken self.now file token }
+        ensures slice { (tokens : List Token) (t : Token) → AreTokensOf self.now file tokens → slice_get tokens token ≡ Some t
+            → result.now ≡ text_at (file_at self.now file).bytes t.span }
+        // The same, as the word of this index among those of the tokens.
+        ensures word { (tokens : List Token) → AreTokensOf self.now file tokens → result.now ≡ words (file_at self.now file).bytes tokens token }
+    {
+        let read = &self.files[file as usize];
+        read.source.text(read.tokens[token as usize].span)
+    }
+
+    /// The value of a string token of the file at a place, after its escapes. Refused for want of memory alone.
+    pub fn string_value(&self, alloc: Global, file: u32, token: u32) -> Result<String, NoMemory>
+        requires file { file < length self.now }
+        requires token { HasString self.now file token }
+        ensures means { (tokens : List Token) → AreTokensOf self.now file tokens
+            → IfOk result (λ value. StandsFor (words (file_at self.now file).bytes tokens token) (string_bytes value)) }
+        ensures value { (tokens : List Token) → AreTokensOf self.now file tokens
+            → IfOk result (λ value. value_of (words (file_at self.now file).bytes tokens token) ≡ Some (string_bytes value)) }
+    {
+        string_value(alloc, self.token_text(file, token))
     }
 }

@@ -1,20 +1,20 @@
 //! The files of a workspace: their paths, their sources, tokens and trees, and what may be wrong with them.
 #![tactic(auto)]
 
-mod fault;
 mod files;
 pub mod laws;
+mod looking;
 mod path;
 mod paths;
 mod reading;
 mod stages;
+mod tokens;
 mod words;
 
-pub use fault::{Fault, FaultKind, FilesFault};
 pub use files::Files;
+pub use looking::{all_paths, are_read, file_named};
 pub use path::{MAX_PATH_LEN, is_workspace_path};
 pub use paths::{MAX_FILES, Paths};
+pub use proto_faults::{Fault, FaultKind, SchemaFault as FilesFault};
+pub use tokens::{fault_at_token, offset_of};
 pub use words::Words;
-
-#[cfg(test)]
-mod tests;

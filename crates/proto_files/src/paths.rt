@@ -9,9 +9,9 @@ ghost use Rattle.proto_files.specs.WorkspacePaths.{IsInPathOrder};
 ghost use Rattle.proto_files.specs.PathFaults.{PathFaults};
 ghost use Rattle.proto_files.specs.FirstFault.{begins_with, fault_before, first_fault};
 
-use crate::fault::{Fault, FaultKind, FilesFault};
 use crate::path::is_workspace_path;
 use crate::stages::NamedFile;
+use proto_faults::{Fault, FaultKind, SchemaFault};
 use std::alloc::{AllocError, Global};
 use std::marker::Model;
 
@@ -98,7 +98,7 @@ fn first_fault(files: &[NamedFile], limit: usize) -> Option<(usize, FaultKind)>
 impl Paths {
     /// The files in the order of their paths. Where a path is no workspace path, is given twice, or there are more
     /// than `MAX_FILES` files, the least such fault is answered.
-    pub fn new(alloc: Global, files: Vec<(String, Vec<u8>)>) -> Result<Paths, FilesFault>
+    pub fn new(alloc: Global, files: Vec<(String, Vec<u8>)>) -> Result<Paths, SchemaFault>
         ensures clean { IfOk result (λ _. HasNoFault (PathFaults MAX_FILES (paths_of (files_of files.items)))) }
         ensures same { IfOk result (λ paths. IsPermutation (files_of files.items) paths) }
         ensures in_order { IfOk result (λ paths. AreWorkspaceFiles paths) }
@@ -112,7 +112,7 @@ impl Paths {
         alloc: Global,
         limit: usize,
         files: Vec<(String, Vec<u8>)>,
-    ) -> Result<Paths, FilesFault>
+    ) -> Result<Paths, SchemaFault>
         requires { limit ≤ MAX_FILES }
         ensures clean { IfOk result (λ _. HasNoFault (PathFaults limit (paths_of (files_of files.items)))) }
         ensures same { IfOk result (λ paths. IsPermutation (files_of files.items) paths) }
@@ -125,7 +125,7 @@ impl Paths {
             None => Ok(Paths { files }),
             Some((place, kind)) => {
                 let file = files.swap_remove(place);
-                Err(FilesFault::Schema(Fault {
+                Err(SchemaFault::Schema(Fault {
                     path: file.path,
                     offset: 0,
                     kind,

@@ -5,8 +5,8 @@ ghost use Rattle.proto_files.specs.ReadFaults.{IsTextFault, IsGrammarFault};
 ghost use Rattle.proto_files.specs.Reading.{lex_kind, text_error, grammar_error, IsFileError, IsFirstError, IsLexedFile, IsReadFile};
 ghost use Rattle.proto_files.specs.Stages.{named_file, named_files, lexed_file, lexed_files, read_file, read_files};
 
-use crate::fault::{Fault, FaultKind, FilesFault};
 use crate::stages::{LexedFile, NamedFile, ReadFile};
+use proto_faults::{Fault, FaultKind, SchemaFault};
 use proto_text::{LexFault, Source, TextFault, lex};
 use proto_tree::{ParseFault, parse};
 use std::alloc::Global;
@@ -23,30 +23,30 @@ fn lex_kind(fault: LexFault) -> FaultKind
     }
 }
 
-fn text_error(path: String, fault: TextFault) -> FilesFault
+fn text_error(path: String, fault: TextFault) -> SchemaFault
     ensures { result ≡ text_error path fault }
 {
     let (offset, kind) = match fault {
         TextFault::TooLarge => (0, FaultKind::TooLarge),
         TextFault::NotUtf8 => (0, FaultKind::NotUtf8),
         TextFault::At { offset, fault } => (offset, lex_kind(fault)),
-        TextFault::NoMemory => return FilesFault::NoMemory,
+        TextFault::NoMemory => return SchemaFault::NoMemory,
     };
-    FilesFault::Schema(Fault { path, offset, kind })
+    SchemaFault::Schema(Fault { path, offset, kind })
 }
 
-fn grammar_error(path: String, fault: ParseFault) -> FilesFault
+fn grammar_error(path: String, fault: ParseFault) -> SchemaFault
     ensures { result ≡ grammar_error path fault }
 {
     let (offset, kind) = match fault {
         ParseFault::Syntax { offset } => (offset, FaultKind::Syntax),
         ParseFault::TooDeep { offset } => (offset, FaultKind::TooDeep),
-        ParseFault::NoMemory => return FilesFault::NoMemory,
+        ParseFault::NoMemory => return SchemaFault::NoMemory,
     };
-    FilesFault::Schema(Fault { path, offset, kind })
+    SchemaFault::Schema(Fault { path, offset, kind })
 }
 
-fn lex_file(alloc: Global, file: NamedFile) -> Result<LexedFile, FilesFault>
+fn lex_file(alloc: Global, file: NamedFile) -> Result<LexedFile, SchemaFault>
     ensures same { IfOk result (λ lexed. lexed_file lexed ≡ named_file file) }
     ensures lexed { IfOk result IsLexedFile }
     ensures fault { IfErr result (IsFileError IsTextFault (named_file file)) }
@@ -67,7 +67,7 @@ fn lex_file(alloc: Global, file: NamedFile) -> Result<LexedFile, FilesFault>
 }
 
 /// The files with their tokens, or the fault of the first whose text has one.
-pub fn lex_files(alloc: Global, files: Vec<NamedFile>) -> Result<Vec<LexedFile>, FilesFault>
+pub fn lex_files(alloc: Global, files: Vec<NamedFile>) -> Result<Vec<LexedFile>, SchemaFault>
     ensures same { IfOk result (λ lexed. lexed_files lexed.items ≡ named_files files.items) }
     ensures lexed { IfOk result (λ lexed. All IsLexedFile lexed.items) }
     ensures fault { IfErr result (IsFirstError IsTextFault (named_files files.items)) }
@@ -79,7 +79,7 @@ pub fn lex_files(alloc: Global, files: Vec<NamedFile>) -> Result<Vec<LexedFile>,
     Ok(lexed)
 }
 
-fn parse_file(alloc: Global, file: LexedFile) -> Result<ReadFile, FilesFault>
+fn parse_file(alloc: Global, file: LexedFile) -> Result<ReadFile, SchemaFault>
     requires { IsLexedFile file }
     ensures same { IfOk result (λ read. read_file read ≡ lexed_file file) }
     ensures read { IfOk result IsReadFile }
@@ -102,7 +102,7 @@ fn parse_file(alloc: Global, file: LexedFile) -> Result<ReadFile, FilesFault>
 }
 
 /// The files with their trees, or the fault of the first whose tokens have none.
-pub fn parse_files(alloc: Global, files: Vec<LexedFile>) -> Result<Vec<ReadFile>, FilesFault>
+pub fn parse_files(alloc: Global, files: Vec<LexedFile>) -> Result<Vec<ReadFile>, SchemaFault>
     requires { All IsLexedFile files.items }
     ensures same { IfOk result (λ read. read_files read.items ≡ lexed_files files.items) }
     ensures read { IfOk result (λ read. All IsReadFile read.items) }

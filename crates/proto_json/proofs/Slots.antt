@@ -1,5 +1,5 @@
 -- The slots of a list of members, one after another.
-use Rattle.std.proofs.Common.{◌≡◌, ℕ, List, [], ◌∷◌, Option, Some, None, option_map, refl, ap, ◌∙◌}
+use Rattle.std.proofs.Common.{◌≡◌, ℕ, List, ◌∷◌, Option, Some, None, option_map, refl, ap, ◌∙◌}
 use Rattle.proto_json.specs.JsonText.{Slot}
 
 pub slots-cons : {s : Slot} {key : List ℕ} {v w : Option (List ℕ)} {ss ts : List Slot} → s ≡ (key, v) → v ≡ w → ss ≡ ts → s ∷ ss ≡ (key, w) ∷ ts

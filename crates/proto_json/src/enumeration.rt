@@ -8,7 +8,8 @@ ghost use Rattle.proto_json.specs.Views.{enum_desc, enum_value_desc};
 use crate::json_value::Json;
 use crate::object::{Member, object, object_if_any};
 use crate::values::{ToJson, array_if_any, optional};
-use std::alloc::{AllocError, Global};
+use proto_faults::NoMemory;
+use std::alloc::Global;
 
 /// An enum. All lists are in source order.
 #[derive(Drop)]
@@ -50,7 +51,7 @@ pub struct EnumValueOptions {
 impl ToJson for EnumDescriptor {
     ghost text = { λ e. enum_text (enum_desc e) };
 
-    fn to_json(&self, alloc: Global) -> Result<Json, AllocError> {
+    fn to_json(&self, alloc: Global) -> Result<Json, NoMemory> {
         let members = vec![in alloc;
             Member::new("name", Some(self.name.to_json(alloc)?)),
             Member::new("options", self.options.to_json(alloc)?),
@@ -65,7 +66,7 @@ impl ToJson for EnumDescriptor {
 impl ToJson for EnumValueDescriptor {
     ghost text = { λ v. enum_value_text (enum_value_desc v) };
 
-    fn to_json(&self, alloc: Global) -> Result<Json, AllocError> {
+    fn to_json(&self, alloc: Global) -> Result<Json, NoMemory> {
         let members = vec![in alloc;
             Member::new("name", Some(self.name.to_json(alloc)?)),
             Member::new("number", Some(self.number.to_json(alloc)?)),
@@ -78,7 +79,7 @@ impl ToJson for EnumValueDescriptor {
 impl ToJson for EnumReservedRange {
     ghost text = { λ r. enum_range_text r };
 
-    fn to_json(&self, alloc: Global) -> Result<Json, AllocError> {
+    fn to_json(&self, alloc: Global) -> Result<Json, NoMemory> {
         let members = vec![in alloc;
             Member::new("end", Some(self.end.to_json(alloc)?)),
             Member::new("start", Some(self.start.to_json(alloc)?)),
@@ -88,7 +89,7 @@ impl ToJson for EnumReservedRange {
 }
 
 impl EnumOptions {
-    fn to_json(&self, alloc: Global) -> Result<Option<Json>, AllocError>
+    fn to_json(&self, alloc: Global) -> Result<Option<Json>, NoMemory>
         ensures { IfOk result (λ o. o ≡ object_if_any (enum_options_slots self.now)) }
     {
         let members = vec![in alloc;
@@ -100,7 +101,7 @@ impl EnumOptions {
 }
 
 impl EnumValueOptions {
-    fn to_json(&self, alloc: Global) -> Result<Option<Json>, AllocError>
+    fn to_json(&self, alloc: Global) -> Result<Option<Json>, NoMemory>
         ensures { IfOk result (λ o. o ≡ object_if_any (enum_value_options_slots self.now)) }
     {
         let members = vec![in alloc;

@@ -1,14 +1,16 @@
 //! Fields of messages.
 
-ghost use Rattle.std.specs.Prelude.{◌≡◌, IfOk};
-ghost use Rattle.proto_json.specs.DescriptorText.{label_name, field_type_name, field_text, field_options_slots};
+ghost use Rattle.std.specs.Prelude.{◌≡◌, IfOk, take, drop};
+ghost use Rattle.proto_json.specs.DescriptorText.{label_name, field_type_name, field_text, field_slots, field_options_slots};
 ghost use Rattle.proto_json.specs.JsonText.{quoted, object_if_any};
+ghost use Rattle.proto_json.specs.Members.{slots_of};
 ghost use Rattle.proto_json.specs.Views.{field_desc};
 
 use crate::json_value::Json;
-use crate::object::{Member, object, object_if_any};
+use crate::object::{Member, joined, object, object_if_any};
 use crate::values::{ToJson, optional};
-use std::alloc::{AllocError, Global};
+use proto_faults::NoMemory;
+use std::alloc::Global;
 
 /// A field.
 #[derive(Drop)]
@@ -108,7 +110,7 @@ impl FieldType {
 impl ToJson for Label {
     ghost text = { λ l. quoted (label_name l) };
 
-    fn to_json(&self, alloc: Global) -> Result<Json, AllocError> {
+    fn to_json(&self, alloc: Global) -> Result<Json, NoMemory> {
         Json::text(alloc, self.name())
     }
 }
@@ -116,13 +118,13 @@ impl ToJson for Label {
 impl ToJson for FieldType {
     ghost text = { λ t. quoted (field_type_name t) };
 
-    fn to_json(&self, alloc: Global) -> Result<Json, AllocError> {
+    fn to_json(&self, alloc: Global) -> Result<Json, NoMemory> {
         Json::text(alloc, self.name())
     }
 }
 
 impl FieldOptions {
-    fn to_json(&self, alloc: Global) -> Result<Option<Json>, AllocError>
+    fn to_json(&self, alloc: Global) -> Result<Option<Json>, NoMemory>
         ensures { IfOk result (λ o. o ≡ object_if_any (field_options_slots self.now)) }
     {
         let members = vec![in alloc;
@@ -133,22 +135,41 @@ impl FieldOptions {
     }
 }
 
-impl ToJson for FieldDescriptor {
-    ghost text = { λ f. field_text (field_desc f) };
-
-    fn to_json(&self, alloc: Global) -> Result<Json, AllocError> {
+impl FieldDescriptor {
+    /// The members from `defaultValue` to `number`.
+    fn first_members(&self, alloc: Global) -> Result<Vec<Member>, NoMemory>
+        ensures { IfOk result (λ ms. slots_of ms.items ≡ take 5 (field_slots (field_desc self.now))) }
+    {
         let members = vec![in alloc;
             Member::new("defaultValue", optional(alloc, &self.default_value)?),
             Member::new("jsonName", optional(alloc, &self.json_name)?),
             Member::new("label", Some(self.label.to_json(alloc)?)),
             Member::new("name", Some(self.name.to_json(alloc)?)),
             Member::new("number", Some(Json::number(self.number))),
+        ]?;
+        Ok(members)
+    }
+
+    /// The members from `oneofIndex` to `typeName`.
+    fn last_members(&self, alloc: Global) -> Result<Vec<Member>, NoMemory>
+        ensures { IfOk result (λ ms. slots_of ms.items ≡ drop 5 (field_slots (field_desc self.now))) }
+    {
+        let members = vec![in alloc;
             Member::new("oneofIndex", optional(alloc, &self.oneof_index)?),
             Member::new("options", self.options.to_json(alloc)?),
             Member::new("proto3Optional", Json::mark(self.proto3_optional)),
             Member::new("type", Some(self.field_type.to_json(alloc)?)),
             Member::new("typeName", optional(alloc, &self.type_name)?),
         ]?;
+        Ok(members)
+    }
+}
+
+impl ToJson for FieldDescriptor {
+    ghost text = { λ f. field_text (field_desc f) };
+
+    fn to_json(&self, alloc: Global) -> Result<Json, NoMemory> {
+        let members = joined(self.first_members(alloc)?, self.last_members(alloc)?)?;
         object(alloc, members)
     }
 }

@@ -1,17 +1,19 @@
 //! A set of files, and one file.
 
-ghost use Rattle.std.specs.Prelude.{◌≡◌, IfOk, string_bytes, option_map};
-ghost use Rattle.proto_json.specs.DescriptorText.{optimize_mode_name, syntax_name, file_text, file_options_slots, json_text};
+ghost use Rattle.std.specs.Prelude.{◌≡◌, IfOk, string_bytes, option_map, take, drop};
+ghost use Rattle.proto_json.specs.DescriptorText.{optimize_mode_name, syntax_name, file_text, file_slots, file_options_slots, json_text};
 ghost use Rattle.proto_json.specs.JsonText.{quoted, object_if_any};
+ghost use Rattle.proto_json.specs.Members.{slots_of};
 ghost use Rattle.proto_json.specs.Views.{file_desc, files_desc, file_options_desc};
 
 use crate::enumeration::EnumDescriptor;
 use crate::json_value::Json;
 use crate::message::{MessageDescriptor, messages_json};
-use crate::object::{Member, object, object_if_any};
+use crate::object::{Member, joined, object, object_if_any};
 use crate::service::ServiceDescriptor;
 use crate::values::{ToJson, array_if_any, optional};
-use std::alloc::{AllocError, Global};
+use proto_faults::NoMemory;
+use std::alloc::Global;
 
 /// The descriptors of a workspace: one per file, in the order of the paths.
 #[derive(Drop)]
@@ -68,7 +70,7 @@ pub enum OptimizeMode {
 
 /// The JSON text of the descriptors: one compact object, keys in the order of their bytes.
 /// Numbers and options are always written; empty lists, empty option objects and false marks are left out.
-pub fn to_json(alloc: Global, descriptors: &Descriptors) -> Result<String, AllocError>
+pub fn to_json(alloc: Global, descriptors: &Descriptors) -> Result<String, NoMemory>
     ensures { IfOk result (λ s. string_bytes s ≡ json_text (files_desc descriptors.now)) }
 {
     let members = vec![in alloc; Member::new("file", array_if_any(alloc, &descriptors.file)?)]?;
@@ -78,7 +80,7 @@ pub fn to_json(alloc: Global, descriptors: &Descriptors) -> Result<String, Alloc
 
 impl Syntax {
     /// The name of a version that is written: a file without one is proto2.
-    fn to_json(self, alloc: Global) -> Result<Option<Json>, AllocError>
+    fn to_json(self, alloc: Global) -> Result<Option<Json>, NoMemory>
         ensures { IfOk result (λ o. o ≡ option_map quoted (syntax_name self)) }
     {
         match self {
@@ -104,15 +106,16 @@ impl OptimizeMode {
 impl ToJson for OptimizeMode {
     ghost text = { λ m. quoted (optimize_mode_name m) };
 
-    fn to_json(&self, alloc: Global) -> Result<Json, AllocError> {
+    fn to_json(&self, alloc: Global) -> Result<Json, NoMemory> {
         Json::text(alloc, self.name())
     }
 }
 
-impl ToJson for FileDescriptor {
-    ghost text = { λ f. file_text (file_desc f) };
-
-    fn to_json(&self, alloc: Global) -> Result<Json, AllocError> {
+impl FileDescriptor {
+    /// The members from `dependency` to `options`.
+    fn first_members(&self, alloc: Global) -> Result<Vec<Member>, NoMemory>
+        ensures { IfOk result (λ ms. slots_of ms.items ≡ take 5 (file_slots (file_desc self.now))) }
+    {
         let messages = messages_json(alloc, &self.message_type)?;
         let members = vec![in alloc;
             Member::new("dependency", array_if_any(alloc, &self.dependency)?),
@@ -120,6 +123,15 @@ impl ToJson for FileDescriptor {
             Member::new("messageType", messages.into_array_if_any()),
             Member::new("name", Some(self.name.to_json(alloc)?)),
             Member::new("options", self.options.to_json(alloc)?),
+        ]?;
+        Ok(members)
+    }
+
+    /// The members from `package` to `syntax`.
+    fn last_members(&self, alloc: Global) -> Result<Vec<Member>, NoMemory>
+        ensures { IfOk result (λ ms. slots_of ms.items ≡ drop 5 (file_slots (file_desc self.now))) }
+    {
+        let members = vec![in alloc;
             Member::new("package", optional(alloc, &self.package)?),
             Member::new(
                 "publicDependency",
@@ -128,13 +140,23 @@ impl ToJson for FileDescriptor {
             Member::new("service", array_if_any(alloc, &self.service)?),
             Member::new("syntax", self.syntax.to_json(alloc)?),
         ]?;
+        Ok(members)
+    }
+}
+
+impl ToJson for FileDescriptor {
+    ghost text = { λ f. file_text (file_desc f) };
+
+    fn to_json(&self, alloc: Global) -> Result<Json, NoMemory> {
+        let members = joined(self.first_members(alloc)?, self.last_members(alloc)?)?;
         object(alloc, members)
     }
 }
 
 impl FileOptions {
-    fn to_json(&self, alloc: Global) -> Result<Option<Json>, AllocError>
-        ensures { IfOk result (λ o. o ≡ object_if_any (file_options_slots (file_options_desc self.now))) }
+    /// The members from `ccEnableArenas` to `javaMultipleFiles`.
+    fn first_members(&self, alloc: Global) -> Result<Vec<Member>, NoMemory>
+        ensures { IfOk result (λ ms. slots_of ms.items ≡ take 5 (file_options_slots (file_options_desc self.now))) }
     {
         let members = vec![in alloc;
             Member::new("ccEnableArenas", optional(alloc, &self.cc_enable_arenas)?),
@@ -145,6 +167,15 @@ impl FileOptions {
                 "javaMultipleFiles",
                 optional(alloc, &self.java_multiple_files)?
             ),
+        ]?;
+        Ok(members)
+    }
+
+    /// The members from `javaOuterClassname` to `phpNamespace`.
+    fn last_members(&self, alloc: Global) -> Result<Vec<Member>, NoMemory>
+        ensures { IfOk result (λ ms. slots_of ms.items ≡ drop 5 (file_options_slots (file_options_desc self.now))) }
+    {
+        let members = vec![in alloc;
             Member::new(
                 "javaOuterClassname",
                 optional(alloc, &self.java_outer_classname)?
@@ -154,6 +185,13 @@ impl FileOptions {
             Member::new("optimizeFor", optional(alloc, &self.optimize_for)?),
             Member::new("phpNamespace", optional(alloc, &self.php_namespace)?),
         ]?;
+        Ok(members)
+    }
+
+    fn to_json(&self, alloc: Global) -> Result<Option<Json>, NoMemory>
+        ensures { IfOk result (λ o. o ≡ object_if_any (file_options_slots (file_options_desc self.now))) }
+    {
+        let members = joined(self.first_members(alloc)?, self.last_members(alloc)?)?;
         object_if_any(alloc, members)
     }
 }

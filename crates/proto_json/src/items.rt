@@ -6,8 +6,9 @@ ghost use Rattle.serde_json.specs.View.{view as data_of, items_view};
 ghost use Rattle.proto_json.specs.JsonText.{array_if_any};
 
 use crate::json_value::Json;
+use proto_faults::NoMemory;
 use serde_json::Value;
-use std::alloc::{AllocError, Global};
+use std::alloc::Global;
 use std::marker::Model;
 
 /// Values without floats, seen as their texts.
@@ -33,7 +34,7 @@ impl Items {
         }
     }
 
-    pub(crate) fn push(&mut self, json: Json) -> Result<(), AllocError>
+    pub(crate) fn push(&mut self, json: Json) -> Result<(), NoMemory>
         ensures { OnOk result (self.new ≡ self.old ++ json ∷ []) }
     {
         let Json { value } = json;

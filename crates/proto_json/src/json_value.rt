@@ -6,8 +6,9 @@ ghost use Rattle.serde_json.specs.Written.{compact_text, has_float, items_have_f
 ghost use Rattle.serde_json.specs.View.{view as data_of, items_view};
 ghost use Rattle.proto_json.specs.JsonText.{quoted, boolean_text, object_text, object_if_any, array_text, mark, keys_of, are_rising};
 
+use proto_faults::NoMemory;
 use serde_json::Value;
-use std::alloc::{AllocError, Global};
+use std::alloc::Global;
 use std::marker::Model;
 
 /// A value without floats.
@@ -25,7 +26,7 @@ impl Model for Json {
 }
 
 impl Json {
-    pub(crate) fn text(alloc: Global, text: &str) -> Result<Json, AllocError>
+    pub(crate) fn text(alloc: Global, text: &str) -> Result<Json, NoMemory>
         ensures { IfOk result (λ j. j ≡ quoted text.now) }
     {
         let value = Value::try_from_str(alloc, text)?;
@@ -76,9 +77,9 @@ impl Json {
     }
 
     /// The compact text.
-    pub(crate) fn print(&self, alloc: Global) -> Result<String, AllocError>
+    pub(crate) fn print(&self, alloc: Global) -> Result<String, NoMemory>
         ensures { IfOk result (λ s. string_bytes s ≡ self.now) }
     {
-        self.value.to_string(alloc)
+        Ok(self.value.to_string(alloc)?)
     }
 }

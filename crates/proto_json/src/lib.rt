@@ -10,8 +10,6 @@ mod key_order;
 mod message;
 mod object;
 mod service;
-#[cfg(test)]
-mod tests;
 mod values;
 
 pub use enumeration::{

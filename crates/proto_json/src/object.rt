@@ -7,8 +7,9 @@ ghost use Rattle.proto_json.specs.Members.{slot_of, slots_of, held, there, IsAbo
 ghost use Rattle.proto_json.specs.JsonText.{object_text, object_if_any, keys_of, are_rising};
 
 use crate::json_value::Json;
+use proto_faults::NoMemory;
 use serde_json::{Map, Value};
-use std::alloc::{AllocError, Global};
+use std::alloc::Global;
 
 /// A key of an object and, where it is there, its value.
 #[derive(Drop)]
@@ -25,8 +26,18 @@ impl Member {
     }
 }
 
+/// The members of the one list, and those of the other behind them.
+pub(crate) fn joined(first: Vec<Member>, last: Vec<Member>) -> Result<Vec<Member>, NoMemory>
+    ensures { IfOk result (λ all. slots_of all.items ≡ slots_of first.items ++ slots_of last.items) }
+{
+    let mut all = first;
+    let mut behind = last;
+    all.append(&mut behind)?;
+    Ok(all)
+}
+
 /// The object of the members that are there. The keys are in the order of their bytes.
-pub(crate) fn object(alloc: Global, members: Vec<Member>) -> Result<Json, AllocError>
+pub(crate) fn object(alloc: Global, members: Vec<Member>) -> Result<Json, NoMemory>
     requires { are_rising (keys_of (slots_of members.items)) ≡ true }
     ensures { IfOk result (λ j. j ≡ object_text (slots_of members.items)) }
 {
@@ -37,7 +48,7 @@ pub(crate) fn object(alloc: Global, members: Vec<Member>) -> Result<Json, AllocE
 }
 
 /// The same, which is left out where it has no members.
-pub(crate) fn object_if_any(alloc: Global, members: Vec<Member>) -> Result<Option<Json>, AllocError>
+pub(crate) fn object_if_any(alloc: Global, members: Vec<Member>) -> Result<Option<Json>, NoMemory>
     requires { are_rising (keys_of (slots_of members.items)) ≡ true }
     ensures { IfOk result (λ o. o ≡ object_if_any (slots_of members.items)) }
 {
@@ -51,7 +62,7 @@ pub(crate) fn object_if_any(alloc: Global, members: Vec<Member>) -> Result<Optio
 }
 
 /// The members that are there, in a map.
-fn map_of(alloc: Global, members: Vec<Member>) -> Result<Map<String, Value>, AllocError>
+fn map_of(alloc: Global, members: Vec<Member>) -> Result<Map<String, Value>, NoMemory>
     requires { are_rising (keys_of (slots_of members.items)) ≡ true }
     ensures members { IfOk result
         (λ map. held (members_view map.entries) ≡ there (slots_of members.items)) }
@@ -65,7 +76,7 @@ fn map_of(alloc: Global, members: Vec<Member>) -> Result<Map<String, Value>, All
 }
 
 /// Puts in a member that is there. Its key is above all others.
-fn insert(alloc: Global, map: &mut Map<String, Value>, member: Member) -> Result<(), AllocError>
+fn insert(alloc: Global, map: &mut Map<String, Value>, member: Member) -> Result<(), NoMemory>
     requires above { IsAbove member.key.now (held (members_view map.old.entries)) }
     requires whole { members_have_float (members_view map.old.entries) ≡ false }
     ensures members { OnOk result (held (members_view map.new.entries)

@@ -8,7 +8,8 @@ ghost use Rattle.proto_json.specs.Views.{service_desc, method_desc};
 use crate::json_value::Json;
 use crate::object::{Member, object, object_if_any};
 use crate::values::{ToJson, array_if_any, optional};
-use std::alloc::{AllocError, Global};
+use proto_faults::NoMemory;
+use std::alloc::Global;
 
 #[derive(Drop)]
 pub struct ServiceDescriptor {
@@ -66,7 +67,7 @@ impl IdempotencyLevel {
 impl ToJson for IdempotencyLevel {
     ghost text = { λ l. quoted (idempotency_level_name l) };
 
-    fn to_json(&self, alloc: Global) -> Result<Json, AllocError> {
+    fn to_json(&self, alloc: Global) -> Result<Json, NoMemory> {
         Json::text(alloc, self.name())
     }
 }
@@ -74,7 +75,7 @@ impl ToJson for IdempotencyLevel {
 impl ToJson for ServiceDescriptor {
     ghost text = { λ s. service_text (service_desc s) };
 
-    fn to_json(&self, alloc: Global) -> Result<Json, AllocError> {
+    fn to_json(&self, alloc: Global) -> Result<Json, NoMemory> {
         let members = vec![in alloc;
             Member::new("method", array_if_any(alloc, &self.method)?),
             Member::new("name", Some(self.name.to_json(alloc)?)),
@@ -87,7 +88,7 @@ impl ToJson for ServiceDescriptor {
 impl ToJson for MethodDescriptor {
     ghost text = { λ m. method_text (method_desc m) };
 
-    fn to_json(&self, alloc: Global) -> Result<Json, AllocError> {
+    fn to_json(&self, alloc: Global) -> Result<Json, NoMemory> {
         let members = vec![in alloc;
             Member::new("clientStreaming", Json::mark(self.client_streaming)),
             Member::new("inputType", Some(self.input_type.to_json(alloc)?)),
@@ -101,7 +102,7 @@ impl ToJson for MethodDescriptor {
 }
 
 impl ServiceOptions {
-    fn to_json(&self, alloc: Global) -> Result<Option<Json>, AllocError>
+    fn to_json(&self, alloc: Global) -> Result<Option<Json>, NoMemory>
         ensures { IfOk result (λ o. o ≡ object_if_any (service_options_slots self.now)) }
     {
         let members = vec![in alloc;
@@ -112,7 +113,7 @@ impl ServiceOptions {
 }
 
 impl MethodOptions {
-    fn to_json(&self, alloc: Global) -> Result<Option<Json>, AllocError>
+    fn to_json(&self, alloc: Global) -> Result<Option<Json>, NoMemory>
         ensures { IfOk result (λ o. o ≡ object_if_any (method_options_slots self.now)) }
     {
         let members = vec![in alloc;

@@ -6,19 +6,20 @@ ghost use Rattle.proto_json.specs.JsonText.{quoted, boolean_text, array_if_any};
 
 use crate::items::Items;
 use crate::json_value::Json;
-use std::alloc::{AllocError, Global};
+use proto_faults::NoMemory;
+use std::alloc::Global;
 
 pub(crate) trait ToJson {
     ghost text: { Self → List ℕ };
 
-    fn to_json(&self, alloc: Global) -> Result<Json, AllocError>
+    fn to_json(&self, alloc: Global) -> Result<Json, NoMemory>
         ensures { IfOk result (λ j. j ≡ text self.now) };
 }
 
 impl ToJson for String {
     ghost text = { λ s. quoted (string_bytes s) };
 
-    fn to_json(&self, alloc: Global) -> Result<Json, AllocError> {
+    fn to_json(&self, alloc: Global) -> Result<Json, NoMemory> {
         Json::text(alloc, self.as_str())
     }
 }
@@ -26,7 +27,7 @@ impl ToJson for String {
 impl ToJson for usize {
     ghost text = { λ n. decimal n };
 
-    fn to_json(&self, _alloc: Global) -> Result<Json, AllocError> {
+    fn to_json(&self, _alloc: Global) -> Result<Json, NoMemory> {
         Ok(Json::index(*self))
     }
 }
@@ -34,7 +35,7 @@ impl ToJson for usize {
 impl ToJson for i32 {
     ghost text = { λ n. signed_decimal n };
 
-    fn to_json(&self, _alloc: Global) -> Result<Json, AllocError> {
+    fn to_json(&self, _alloc: Global) -> Result<Json, NoMemory> {
         Ok(Json::integer(*self))
     }
 }
@@ -42,7 +43,7 @@ impl ToJson for i32 {
 impl ToJson for bool {
     ghost text = { λ b. boolean_text b };
 
-    fn to_json(&self, _alloc: Global) -> Result<Json, AllocError> {
+    fn to_json(&self, _alloc: Global) -> Result<Json, NoMemory> {
         Ok(Json::boolean(*self))
     }
 }
@@ -51,7 +52,7 @@ impl ToJson for bool {
 pub(crate) fn optional<T: ToJson>(
     alloc: Global,
     value: &Option<T>,
-) -> Result<Option<Json>, AllocError>
+) -> Result<Option<Json>, NoMemory>
     ensures { IfOk result (λ o. o ≡ option_map T.text value.now) }
 {
     match value {
@@ -64,7 +65,7 @@ pub(crate) fn optional<T: ToJson>(
 pub(crate) fn array_if_any<T: ToJson>(
     alloc: Global,
     values: &Vec<T>,
-) -> Result<Option<Json>, AllocError>
+) -> Result<Option<Json>, NoMemory>
     ensures { IfOk result (λ o. o ≡ array_if_any (map T.text values.now.items)) }
 {
     let mut items = Items::new(alloc);

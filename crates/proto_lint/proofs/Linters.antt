@@ -2,20 +2,23 @@
 use Rattle.std.proofs.Common.{◌≡◌, ℕ, ◌<◌, Bool, List, [], ◌++◌, length, get_or, sym, ap, ◌∙◌, append_assoc, arith}
 use Rattle.proto_tree.specs.Tree.{Tree}
 use Rattle.proto_files.specs.GivenFiles.{FileOf, file_at, paths_of}
-use Rattle.proto_names.specs.Joined.{joined}
-use Rattle.proto_names.specs.Links.{ReadOf, AreRead, names_of_files, read_at}
-use Rattle.proto_names.proofs.OneReading.{IsTreeOf, same_tree}
-use Rattle.proto_lint.specs.Blocks.{file_blocks, package_words}
-use Rattle.proto_lint.specs.Findings.{all_messages, blocks_finds, file_finds, head_of_file, heads, read_of_file}
-use Rattle.proto_lint.specs.Imports.{imports_finds}
-use Rattle.proto_lint.specs.Packages.{Head, head_finds, package_name}
-use Rattle.proto_lint.specs.Placed.{Found}
-use Rattle.proto_lint.specs.Readings.{Reading}
-use Rattle.proto_lint.proofs.FileByFile.{head_is, heads_count}
+use Rattle.proto_meaning.specs.Joined.{joined}
+use Rattle.proto_files.specs.FilesRead.{ReadOf, AreRead, read_at}
+use Rattle.proto_imports.specs.Links.{names_of_files}
+use Rattle.proto_files.proofs.OneReading.{IsTreeOf, same_tree}
+use Rattle.proto_findings.specs.Readings.{package_words, read_of_file, Reading}
+use Rattle.proto_findings.specs.Placed.{Found}
+use Rattle.proto_block_rules.specs.Blocks.{file_blocks}
+use Rattle.proto_block_rules.specs.BlockFinds.{all_messages, blocks_finds}
+use Rattle.proto_file_rules.specs.Heads.{head_of_file, heads}
+use Rattle.proto_file_rules.specs.Imports.{imports_finds}
+use Rattle.proto_file_rules.specs.Packages.{Head, head_finds, package_name}
+use Rattle.proto_file_rules.proofs.FileHeads.{heads_at, heads_count}
+use Rattle.proto_lint.specs.Findings.{file_finds}
 
 -- each file has a head
 pub is_headed : (files : List FileOf) (reads : List ReadOf) → AreRead files reads → (hs : List Head) → hs ≡ heads files reads → (file : ℕ) → file < length files → file < length hs
-is_headed files reads are hs same file within = let n = ap length same ∙ heads_count files reads are in omega (arith, n, within)
+is_headed files reads are hs same file within = let n = ap length same ∙ heads_count files reads ∙ are.same in omega (arith, n, within)
 
 three : (a b c x y z : List Found) → a ≡ [] ++ x → b ≡ a ++ y → c ≡ b ++ z → c ≡ x ++ (y ++ z)
 three a b c x y z p q r = r ∙ ap (λ (fs : List Found). fs ++ z) (q ∙ ap (λ (fs : List Found). fs ++ y) p) ∙ append_assoc x y z
@@ -26,7 +29,7 @@ moved a b f n m e p = p ∙ ap (λ (k : ℕ). a ++ f k) e
 
 module _ (files : List FileOf) (reads : List ReadOf) (are : AreRead files reads) (file : ℕ) (within : file < length files) (r : Reading) (read : r ≡ read_of_file files reads file) (tree : Tree) (of_file : IsTreeOf (file_at files file).bytes tree) (hs : List Head) (heads_are : hs ≡ heads files reads) where
   head_there : (d : Head) → get_or hs file d ≡ head_of_file files reads file
-  head_there d = ap (λ (xs : List Head). get_or xs file d) heads_are ∙ head_is files reads are file d within
+  head_there d = ap (λ (xs : List Head). get_or xs file d) heads_are ∙ heads_at files reads file d (let n = are.same in omega (arith, n, within))
 
   same : (read_at reads file).tree ≡ tree
   same = same_tree files reads file tree are within of_file

@@ -1,15 +1,4 @@
-pub mod Blocks
 pub mod Findings
-pub mod Heads
-pub mod ImportTables
-pub mod Imports
-pub mod Laws
 pub mod Linters
-pub mod Methods
-pub mod NameRules
-pub mod Packages
-pub mod Placed
-pub mod Readings
-pub mod Rules
-pub mod Views
-pub mod Walks
+pub use Rattle.proto_findings.specs.Rules
+pub use Rattle.proto_findings.specs.Views

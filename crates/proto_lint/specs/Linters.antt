@@ -1,10 +1,11 @@
 -- A workspace with what the rules look up in it.
 use Rattle.std.specs.Prelude.{◌≡◌, List}
+use Rattle.proto_files.specs.FilesRead.{ReadOf, AreRead}
 use Rattle.proto_names.specs.LinkOfFiles.{IsLinkOf}
-use Rattle.proto_names.specs.Links.{ReadOf, AreRead}
+use Rattle.proto_block_rules.specs.BlockFinds.{all_messages}
+use Rattle.proto_file_rules.specs.Heads.{heads}
+use Rattle.proto_file_rules.specs.ImportTables.{AreImportsOf}
 use Rattle.proto_lint.specs.declared.linting.Linter.{Linter}
-use Rattle.proto_lint.specs.Findings.{all_messages, heads}
-use Rattle.proto_lint.specs.ImportTables.{AreImportsOf}
 
 pub record IsLinter (l : Linter) : Type 0 where
   pub linked : IsLinkOf l.files.now l.link.now

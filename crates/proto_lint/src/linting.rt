@@ -1,25 +1,20 @@
 //! Linting.
 
 ghost use Rattle.std.specs.Prelude.{◌≡◌, ◌<◌, ◌++◌, List, length, map, IfOk, OnOk};
+ghost use Rattle.proto_files.specs.FilesRead.{ReadOf, AreRead};
 ghost use Rattle.proto_names.specs.LinkOfFiles.{IsLinkOf};
-ghost use Rattle.proto_names.specs.Links.{ReadOf, AreRead};
-ghost use Rattle.proto_lint.specs.Findings.{IsListingOf, file_finds, findings, found_in};
+ghost use Rattle.proto_findings.specs.Listings.{IsListingOf, found_in};
+ghost use Rattle.proto_findings.specs.Views.{finding_of, found_of};
+ghost use Rattle.proto_lint.specs.Findings.{file_finds, findings};
 ghost use Rattle.proto_lint.specs.Linters.{IsLinter};
-ghost use Rattle.proto_lint.specs.Views.{finding_of, found_of};
 
-use crate::finding::Finding;
-use crate::found::Found;
-use crate::heads::Heads;
-use crate::imports::{Imports, add_imports};
-use crate::method_types::all_messages;
-use crate::packages::add_head;
-use crate::reading::Reading;
-use crate::rule_set::RuleSet;
-use crate::shared::Messages;
-use crate::walk::{Walk, add_blocks};
+use proto_block_rules::{Messages, Walk, add_blocks, all_messages};
+use proto_faults::NoMemory;
+use proto_file_rules::{Heads, Imports, add_head, add_imports};
 use proto_files::Files;
+use proto_findings::{Finding, Found, Reading, RuleSet, listed};
 use proto_names::{Link, are_read};
-use std::alloc::{AllocError, Global};
+use std::alloc::Global;
 
 /// A workspace with what the rules look up in it.
 #[derive(Drop)]
@@ -38,7 +33,7 @@ fn add_findings(
     all: &mut Vec<Finding>,
     path: &str,
     found: Vec<Found>,
-) -> Result<(), AllocError>
+) -> Result<(), NoMemory>
     ensures { OnOk result (map finding_of all.new.items ≡ map finding_of all.old.items ++ map (found_in path.now) (map found_of found.items)) }
 {
     for Found { offset, rule, name } in found {
@@ -60,7 +55,7 @@ impl<'a> Linter<'a> {
         files: &'a Files,
         link: &'a Link,
         rules: &'a RuleSet,
-    ) -> Result<Linter<'a>, AllocError>
+    ) -> Result<Linter<'a>, NoMemory>
         requires { IsLinkOf files.now link.now }
         ensures linter { IfOk result IsLinter }
         ensures files { IfOk result (λ l. l.files.now ≡ files.now) }
@@ -78,7 +73,7 @@ impl<'a> Linter<'a> {
     }
 
     /// What the rules find in a file.
-    fn finds_in(&self, alloc: Global, file: u32) -> Result<Vec<Found>, AllocError>
+    fn finds_in(&self, alloc: Global, file: u32) -> Result<Vec<Found>, NoMemory>
         requires linter { IsLinter self.now }
         requires file { file < length self.now.files.now }
         ensures { IfOk result (λ found. (reads : List ReadOf) → AreRead self.now.files.now reads → map found_of found.items ≡ file_finds self.now.rules.now.chosen self.now.files.now reads file) }
@@ -107,7 +102,7 @@ impl<'a> Linter<'a> {
     }
 
     /// What the rules find, file after file.
-    fn findings(&self, alloc: Global) -> Result<Vec<Finding>, AllocError>
+    fn findings(&self, alloc: Global) -> Result<Vec<Finding>, NoMemory>
         requires { IsLinter self.now }
         ensures { IfOk result (λ found. (reads : List ReadOf) → AreRead self.now.files.now reads → map finding_of found.items ≡ findings self.now.rules.now.chosen self.now.files.now reads) }
     {
@@ -120,15 +115,6 @@ impl<'a> Linter<'a> {
     }
 }
 
-/// The findings in order, each once.
-fn listed(mut found: Vec<Finding>) -> Vec<Finding>
-    ensures { IsListingOf (map finding_of found.items) (map finding_of result.items) }
-{
-    found.sort_unstable();
-    found.dedup();
-    found
-}
-
 /// What the rules of the set find in linked files, in the order of path, offset, rule identifier and name; each finding
 /// once.
 pub fn lint(
@@ -136,7 +122,7 @@ pub fn lint(
     files: &Files,
     link: &Link,
     rules: &RuleSet,
-) -> Result<Vec<Finding>, AllocError>
+) -> Result<Vec<Finding>, NoMemory>
     requires { IsLinkOf files.now link.now }
     ensures { IfOk result (λ found. (reads : List ReadOf) → AreRead files.now reads → IsListingOf (findings rules.now.chosen files.now reads) (map finding_of found.items)) }
 {

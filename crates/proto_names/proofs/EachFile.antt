@@ -1,35 +1,20 @@
 -- What is said of each file, and of one file more.
-use Rattle.std.proofs.Common.{◌≡◌, ℕ, zero, suc, ◌+◌, ◌<◌, List, [], ◌∷◌, ◌++◌, length, get_or, map, refl, sym, ◌∙◌, ap, subst, arith}
+use Rattle.std.proofs.Common.{◌≡◌, ℕ, suc, ◌+◌, ◌<◌, List, [], ◌∷◌, ◌++◌, length, get_or, map, refl, sym, ◌∙◌, ap, subst, arith}
 use Rattle.std.specs.List.{All}
 use Rattle.std.proofs.lemmas.List.{length-map, get_or-map}
 use Rattle.std.proofs.lemmas.List.Elements.{All-append, All-cons, All-nil}
-use Rattle.proto_names.specs.Faults.{Asked}
-use Rattle.proto_names.specs.FromTree.{imports_in, items_in}
-use Rattle.proto_names.specs.Grown.{At, at}
-use Rattle.proto_names.specs.Importing.{asked_by, all_asked}
-use Rattle.proto_names.specs.LastWords.{named_as}
-use Rattle.proto_names.specs.Links.{Each, ReadOf, read_at, asked_as, all_wanted, names_in}
-use Rattle.proto_names.specs.Listing.{package_first}
-use Rattle.proto_names.specs.Naming.{tree_named}
-use Rattle.proto_names.specs.Spelled.{Named, named_in, all_named}
-use Rattle.proto_names.specs.declared.import.WrittenImport.{WrittenImport}
-use Rattle.proto_names.specs.declared.spelled.Spelled.{Spelled}
-
-alone : {A : Type 0} (P : ℕ → A → Type 0) (x : A) → P 0 x → Each P (x ∷ [])
-alone P x p zero d l = p
-alone P x p (suc k) d l = absurd (omega (arith, l))
-
-before : {A : Type 0} (P : ℕ → A → Type 0) (x : A) (xs : List A) → P 0 x → Each (λ k. P (suc k)) xs → Each P (x ∷ xs)
-before P x xs p h zero d l = p
-before P x xs p h (suc k) d l = h k d (omega (arith, l))
-
--- one more
-one_more : {A : Type 0} (P : ℕ → A → Type 0) (xs : List A) (x : A) → Each P xs → P (length xs) x → Each P (xs ++ x ∷ [])
-one_more P [] x h p = alone P x p
-one_more P (y ∷ xs) x h p = before P y (xs ++ x ∷ []) (h 0 y (omega arith)) (one_more (λ k. P (suc k)) xs x (λ k d l. h (suc k) d (omega (arith, l))) p)
-
-pub each_pushed : {A : Type 0} (P : ℕ → A → Type 0) (xs after : List A) (x : A) (k : ℕ) → after ≡ xs ++ x ∷ [] → length xs ≡ k → Each P xs → P k x → Each P after
-each_pushed P xs after x k a n h p = subst (Each P) (sym a) (one_more P xs x h (subst (λ (i : ℕ). P i x) (sym n) p))
+use Rattle.proto_meaning.specs.Faults.{Asked}
+use Rattle.proto_listing.specs.FromTree.{imports_in, items_in}
+use Rattle.proto_meaning.specs.Grown.{At, at}
+use Rattle.proto_imports.specs.Importing.{asked_by, all_asked}
+use Rattle.proto_table.specs.LastWords.{named_as}
+use Rattle.proto_imports.specs.Links.{asked_as, all_wanted, names_in}
+use Rattle.proto_files.specs.FilesRead.{Each, ReadOf, read_at}
+use Rattle.proto_listing.specs.Listing.{package_first}
+use Rattle.proto_table.specs.Naming.{tree_named}
+use Rattle.proto_table.specs.Spelled.{Named, named_in, all_named}
+use Rattle.proto_imports.specs.declared.import.WrittenImport.{WrittenImport}
+use Rattle.proto_table.specs.declared.spelled.Spelled.{Spelled}
 
 pub all_pushed : {A : Type 0} (P : A → Type 0) (xs after : List A) (x : A) → after ≡ xs ++ x ∷ [] → All P xs → P x → All P after
 all_pushed P xs after x a h p = subst (All P) (sym a) (All-append P xs (x ∷ []) h (All-cons P x [] p (All-nil P)))

@@ -11,29 +11,30 @@ use Rattle.proto_text.specs.declared.lexer.Token.{Token}
 use Rattle.proto_text.specs.Texts.{words, word_at}
 use Rattle.proto_text.specs.Tokens.{Lexeme, lexeme_at, AreTokens}
 use Rattle.proto_files.specs.GivenFiles.{FileOf, file_at}
-use Rattle.proto_names.specs.EntryNames.{entry_name}
+use Rattle.proto_case.specs.Camel.{entry_name}
 use Rattle.proto_names.specs.FileReferences.{declared_names, uses_of, AreFileMeant, AreLinked, IsFileLinked, IsFirstFlawed, IsFileError}
-use Rattle.proto_names.specs.FromTree.{dotted}
-use Rattle.proto_names.specs.Grown.{At, at}
-use Rattle.proto_names.specs.Joined.{ArePlain}
-use Rattle.proto_names.specs.Links.{ReadOf, AreRead, read_at, text_of, names_of_files, IsListing}
-use Rattle.proto_names.specs.Listing.{read, whole, path_of, used_by}
-use Rattle.proto_names.specs.Names.{Reference, Workspace}
-use Rattle.proto_names.specs.Naming.{used_named}
+use Rattle.proto_tree.specs.References.{dotted}
+use Rattle.proto_meaning.specs.Grown.{At, at}
+use Rattle.proto_meaning.specs.Joined.{ArePlain}
+use Rattle.proto_files.specs.FilesRead.{ReadOf, AreRead, read_at}
+use Rattle.proto_imports.specs.Links.{text_of, names_of_files, IsListing}
+use Rattle.proto_listing.specs.Listing.{read, whole, path_of, used_by}
+use Rattle.proto_meaning.specs.Names.{Reference, Workspace}
+use Rattle.proto_table.specs.Naming.{used_named}
 use Rattle.proto_names.specs.Referring.{reference_by, first_token, IsFaultless, IsFlawed, IsFirstBad, IsReferenceError, AreMeant}
-use Rattle.proto_names.specs.Skeleton.{Source, Token as TokenOf, EntryOf, Given, Used, name_of, shifted_source}
-use Rattle.proto_names.specs.Tree.{Placed}
-use Rattle.proto_names.specs.declared.listing.Listing.{Listing}
-use Rattle.proto_names.specs.declared.listing.Use.{Use}
+use Rattle.proto_meaning.specs.Skeleton.{Source, Token as TokenOf, EntryOf, Given, Used, name_of, shifted_source}
+use Rattle.proto_meaning.specs.Tree.{Placed}
+use Rattle.proto_listing.specs.declared.listing.Listing.{Listing}
+use Rattle.proto_listing.specs.declared.listing.Use.{Use}
 use Rattle.proto_names.specs.declared.references.BadReference.{BadReference}
 use Rattle.proto_names.specs.declared.references.Meant.{Meant}
 use Rattle.proto_names.specs.declared.references.ReferenceError.{ReferenceError}
 use Rattle.proto_names.specs.declared.references.ReferenceError.TheVariants.{Bad, NoMemory}
-use Rattle.proto_names.specs.declared.table.Table.{Table}
-use Rattle.proto_names.proofs.Basics.{contains_map}
-use Rattle.proto_names.proofs.Edited.{map_agree, map_map}
-use Rattle.proto_names.proofs.ReadOnce.{one_reading}
-use Rattle.proto_names.proofs.ReadTrees.{uses_plain}
+use Rattle.proto_table.specs.declared.table.Table.{Table}
+use Rattle.proto_text.proofs.Lists.{contains_map}
+use Rattle.proto_meaning.proofs.Edited.{map_agree, map_map}
+use Rattle.proto_files.proofs.ReadOnce.{one_reading}
+use Rattle.proto_listing.proofs.ReadTrees.{uses_plain}
 
 -- ---- what is read of a file
 

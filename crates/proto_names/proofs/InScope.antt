@@ -7,18 +7,19 @@ use Rattle.std.proofs.lemmas.Simd.{map-map}
 use Rattle.proto_text.specs.Texts.{word_at}
 use Rattle.proto_text.specs.Tokens.{Lexeme}
 use Rattle.proto_tree.specs.declared.tree.Behind.{Behind}
-use Rattle.proto_names.specs.Forest.{under, front}
-use Rattle.proto_names.specs.Joined.{joined, ArePlain}
-use Rattle.proto_names.specs.Names.{Reference, Workspace, fits, greatest, hits_at, hit, shows, meaning, meaning_at, typed}
-use Rattle.proto_names.specs.Resolved.{IsIndexOf, MarksSeen, under_all, IsAsked, IsTypeAt}
+use Rattle.proto_meaning.specs.Forest.{under, front}
+use Rattle.proto_meaning.specs.Joined.{joined, ArePlain}
+use Rattle.proto_meaning.specs.Names.{Reference, Workspace, fits, greatest, hits_at, hit, shows, meaning, meaning_at, typed}
+use Rattle.proto_table.specs.Resolved.{IsIndexOf, under_all, IsAsked, IsTypeAt}
+use Rattle.proto_meaning.specs.Marks.{MarksSeen}
 use Rattle.proto_names.specs.Scopes.{IsScopeFront}
-use Rattle.proto_names.specs.Search.{HitsAt, IsHit}
-use Rattle.proto_names.specs.Tables.{names_of, IsTable}
-use Rattle.proto_names.specs.declared.table.Table.{Table}
-use Rattle.proto_names.proofs.Basics.{greatest_is}
-use Rattle.proto_names.proofs.Resolved.{Step, one_step, shows_to, under_all_named, is_empty_list, empty_is, relative_is, relative_none}
+use Rattle.proto_table.specs.Search.{HitsAt, IsHit}
+use Rattle.proto_table.specs.Tables.{names_of, IsTable}
+use Rattle.proto_table.specs.declared.table.Table.{Table}
+use Rattle.proto_meaning.proofs.Basics.{greatest_is}
+use Rattle.proto_table.proofs.Resolved.{Step, one_step, shows_to, under_all_named, is_empty_list, empty_is, relative_is, relative_none}
 use Rattle.proto_names.proofs.Scopes.{plain_parts}
-use Rattle.proto_names.proofs.Search.{joined_more, plain_take, outermost}
+use Rattle.proto_table.proofs.Search.{joined_more, plain_take, outermost}
 
 -- ---- the words behind the first
 

@@ -7,28 +7,30 @@ use Rattle.std.proofs.lemmas.List.Elements.{All-contains, Contains-append_cases,
 use Rattle.std.proofs.Math.Seq.{get_or-append_seam}
 use Rattle.proto_tree.specs.Tree.{End}
 use Rattle.proto_files.specs.GivenFiles.{FileOf, file_at}
-use Rattle.proto_names.specs.Faults.{Fault, fault, IsBefore, IsLeast, ReferenceFault}
+use Rattle.proto_meaning.specs.Faults.{Fault, fault, IsBefore, IsLeast, ReferenceFault}
 use Rattle.proto_names.specs.FileReferences.{flaw_number, uses_of, IsFirstFlawed, IsFileError, IsLeastBad}
-use Rattle.proto_names.specs.Grown.{FileNames, At, at}
-use Rattle.proto_names.specs.Joined.{joined}
-use Rattle.proto_names.specs.Links.{ReadOf, AreRead, read_at, text_of, names_in, link_imports, link_skeleton, names_of_files}
-use Rattle.proto_names.specs.Names.{Entry, Enum, Symbol, Reference, Workspace, meaning}
-use Rattle.proto_names.specs.Naming as by_number
-use Rattle.proto_names.specs.Naming.{UseFault, used_named}
+use Rattle.proto_meaning.specs.Grown.{FileNames, At, at}
+use Rattle.proto_meaning.specs.Joined.{joined}
+use Rattle.proto_files.specs.FilesRead.{ReadOf, AreRead, read_at}
+use Rattle.proto_imports.specs.Links.{text_of, names_in, link_imports, link_skeleton, names_of_files}
+use Rattle.proto_meaning.specs.declared.kind.Kind.TheVariants.{Entry, Enum}
+use Rattle.proto_meaning.specs.Names.{Symbol, Reference, Workspace, meaning}
+use Rattle.proto_table.specs.Naming as by_number
+use Rattle.proto_table.specs.Naming.{used_named}
 use Rattle.proto_names.specs.Referring.{IsFaultless, IsFlawed}
-use Rattle.proto_names.specs.Resolved.{IsIndexOf}
-use Rattle.proto_names.specs.Skeleton.{Skeleton, Used}
-use Rattle.proto_names.specs.Tables.{IsTable}
+use Rattle.proto_table.specs.Resolved.{IsIndexOf}
+use Rattle.proto_meaning.specs.Skeleton.{Skeleton, Used}
+use Rattle.proto_table.specs.Tables.{IsTable}
 use Rattle.proto_names.specs.declared.references.BadReference.{BadReference}
 use Rattle.proto_names.specs.declared.references.ReferenceError.{ReferenceError}
 use Rattle.proto_names.specs.declared.references.ReferenceError.TheVariants.{Bad, NoMemory}
 use Rattle.proto_names.specs.declared.references.ReferenceFlaw.{ReferenceFlaw}
 use Rattle.proto_names.specs.declared.references.ReferenceFlaw.TheVariants.{Unresolved, WrongKind, MapEntry}
-use Rattle.proto_names.specs.declared.table.Table.{Table}
-use Rattle.proto_names.proofs.Basics.{contains_cases, contains_head, contains_map}
-use Rattle.proto_names.proofs.ReadTrees.{uses_rising}
+use Rattle.proto_table.specs.declared.table.Table.{Table}
+use Rattle.proto_text.proofs.Lists.{contains_cases, contains_head, contains_map}
+use Rattle.proto_listing.proofs.ReadTrees.{uses_rising}
 use Rattle.proto_names.proofs.Referring.{row_kind}
-use Rattle.proto_names.proofs.UseFaults.{use_faults}
+use Rattle.proto_table.proofs.UseFaults.{use_faults}
 
 -- ---- flaws and their numbers
 

@@ -1,80 +1,21 @@
-pub mod Basics
-pub mod Ren
-pub mod Rename
-pub mod Symbols
-pub mod Renamed
-pub mod Imports
-pub mod Deleted
-pub mod Seeing
-pub mod Edited
-pub mod Cycles
-pub mod Tree
-pub mod Decided
-pub mod Examples
-pub mod Joined
-pub mod Shifted
-pub mod Grown
-pub mod Items
-pub mod Files
-pub mod EntryNames
-pub mod Sound
-pub mod FromTree
-pub mod Forest
-pub mod Tables
-pub mod Search
-pub mod Walks
-pub mod Resolved
-pub mod Indexed
-pub mod Behind
-pub mod Growing
-pub mod Listed
-pub mod PackageFirst
-pub mod PathFaults
-pub mod FilesAsked
-pub mod Turned
-pub mod CycleFaults
-pub mod Resolving
-pub mod ImportGraph
-pub mod ImportFaults
-pub mod SeenFiles
-pub mod Camel
-pub mod SpelledNames
-pub mod Mapped
-pub mod Referring
-pub mod Following
-pub mod Gathered
-pub mod NameFaults
-pub mod UseFaults
-pub mod RisingLists
-pub mod MarkedTokens
-pub mod MarkedNames
-pub mod MarkedUses
-pub mod ReadTrees
-pub mod Kept
-pub mod Naming
-pub mod Clashing
-pub mod Held
-pub mod Filled
-pub mod Passes
-pub mod ReadOnce
-pub mod InTokens
+mod EachFile
 pub mod FaultPlaces
-pub mod LeastLinkFault
-pub mod FileMeanings
-pub mod LeastFlaws
-pub mod Linking
-pub mod MeantBy
-pub mod EachFile
-pub mod OneReading
 pub mod FileLists
-pub mod TableNames
-pub mod NameErrors
-pub mod LinkErrors
-pub mod LinkParts
-pub mod Scopes
-pub mod InScope
-pub mod PlainNames
-pub mod LinkIndex
-pub mod FirstTokens
+mod FileMeanings
+mod FirstTokens
+mod InScope
+mod LeastFlaws
+pub mod LeastLinkFault
+mod LinkErrors
+mod LinkIndex
+mod LinkLaws
 pub mod LinkMeanings
+mod LinkParts
+mod Linking
+mod MeantBy
 pub mod MeantNames
+mod NameErrors
+mod PlainNames
+mod Referring
+mod Scopes
+mod TableNames

@@ -1,21 +1,22 @@
 -- The errors of the imports and of the references are the least fault of the files; and what references are read by.
 use Rattle.std.proofs.Common.{◌≡◌, ℕ, ◌<◌, Bool, List, [], length, get_or, map, subst}
 use Rattle.std.specs.Global.{Vec}
-use Rattle.proto_files.specs.declared.fault.FaultKind.{FaultKind}
-use Rattle.proto_files.specs.FaultTable.{number_of as number_of_kind}
+use Rattle.proto_faults.specs.declared.fault.FaultKind.{FaultKind}
+use Rattle.proto_faults.specs.FaultTable.{number_of as number_of_kind}
 use Rattle.proto_files.specs.GivenFiles.{FileOf, paths_of, AreWorkspaceFiles}
-use Rattle.proto_names.specs.Faults.{Fault, fault, Asked, IsLeast, ImportFault, ReferenceFault}
+use Rattle.proto_meaning.specs.Faults.{Fault, fault, Asked, IsLeast, ImportFault, ReferenceFault}
 use Rattle.proto_names.specs.FileReferences.{AreLinked, flaw_number}
-use Rattle.proto_names.specs.Grown.{at}
-use Rattle.proto_names.specs.Importing.{fault_of, number_of}
+use Rattle.proto_meaning.specs.Grown.{at}
+use Rattle.proto_imports.specs.Importing.{fault_of, number_of}
 use Rattle.proto_names.specs.LinkErrors.{IsAtToken, IsLinkError}
 use Rattle.proto_names.specs.LinkOfFiles.{AreNamesOf, HasNoImportFault, HasNoNameFault}
-use Rattle.proto_names.specs.Links.{ReadOf, AreRead, StandsAt, all_wanted, link_skeleton, names_of_files, text_of}
-use Rattle.proto_names.specs.Resolved.{MarksSeen}
-use Rattle.proto_names.specs.declared.import.BadImport.{BadImport}
-use Rattle.proto_names.specs.declared.link_fault.LinkFault.{LinkFault}
+use Rattle.proto_files.specs.FilesRead.{ReadOf, AreRead}
+use Rattle.proto_imports.specs.Links.{StandsAt, all_wanted, link_skeleton, names_of_files, text_of}
+use Rattle.proto_meaning.specs.Marks.{MarksSeen}
+use Rattle.proto_imports.specs.declared.import.BadImport.{BadImport}
+use Rattle.proto_faults.specs.declared.fault.SchemaFault.{SchemaFault}
 use Rattle.proto_names.specs.declared.references.BadReference.{BadReference}
-use Rattle.proto_names.specs.declared.table.Table.{Table}
+use Rattle.proto_table.specs.declared.table.Table.{Table}
 use Rattle.proto_names.proofs.FaultPlaces.{import_found, reference_found}
 use Rattle.proto_names.proofs.LeastLinkFault.{least_import, least_reference, link_error}
 
@@ -36,7 +37,7 @@ module _ (files : List FileOf) (reads : List ReadOf) (are_read : AreRead files r
   pub import_file : (b : BadImport) → IsLeast Imports (fault_of b) → b.file < length files
   import_file b least = (import_found files reads are_read (fault_of b) least.holds).there.0
 
-  pub import_error : AreWorkspaceFiles files → (b : BadImport) (kind : FaultKind) (e : LinkFault) → IsLeast Imports (fault_of b)
+  pub import_error : AreWorkspaceFiles files → (b : BadImport) (kind : FaultKind) (e : SchemaFault) → IsLeast Imports (fault_of b)
       → number_of_kind kind ≡ number_of b.flaw → IsAtToken files b.file b.token kind e → IsLinkError files e
   import_error are_files b kind e least n h =
       link_error files are_files reads are_read b.file b.token kind e h
@@ -48,7 +49,7 @@ module _ (files : List FileOf) (reads : List ReadOf) (are_read : AreRead files r
   pub reference_file : (b : BadReference) → IsLeast References (flawed_at b) → b.file < length files
   reference_file b least = (reference_found files reads are_read (flawed_at b) least.holds).there.0
 
-  pub reference_error : AreWorkspaceFiles files → HasNoImportFault files → HasNoNameFault files → (b : BadReference) (kind : FaultKind) (e : LinkFault)
+  pub reference_error : AreWorkspaceFiles files → HasNoImportFault files → HasNoNameFault files → (b : BadReference) (kind : FaultKind) (e : SchemaFault)
       → IsLeast References (flawed_at b) → number_of_kind kind ≡ flaw_number b.flaw → IsAtToken files b.file b.token kind e → IsLinkError files e
   reference_error are_files no_import no_name b kind e least n h =
       link_error files are_files reads are_read b.file b.token kind e h

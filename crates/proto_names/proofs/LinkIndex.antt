@@ -10,19 +10,21 @@ use Rattle.proto_text.specs.Texts.{word_at}
 use Rattle.proto_text.specs.Tokens.{AreTokens, Lexeme, lexeme_at}
 use Rattle.proto_text.specs.declared.lexer.Token.{Token}
 use Rattle.proto_tree.specs.declared.tree.Reference.{Reference as ReferenceOfTree}
-use Rattle.proto_names.specs.FromTree.{dotted}
-use Rattle.proto_names.specs.Joined.{joined, ArePlain}
+use Rattle.proto_tree.specs.References.{dotted}
+use Rattle.proto_meaning.specs.Joined.{joined, ArePlain}
 use Rattle.proto_names.specs.LinkOfFiles.{HoldsNames, IsLinkBy}
 use Rattle.proto_names.specs.Linking.{NameOf, LinkOf, name_of_row}
-use Rattle.proto_names.specs.Links.{ReadOf, AreRead, names_in, read_at, text_of, link_skeleton, names_of_files}
-use Rattle.proto_names.specs.Names.{Reference, Symbol, Workspace, meaning}
-use Rattle.proto_names.specs.Resolved.{files_of, IsIndexOf, MarksSeen}
+use Rattle.proto_files.specs.FilesRead.{ReadOf, AreRead, read_at}
+use Rattle.proto_imports.specs.Links.{names_in, text_of, link_skeleton, names_of_files}
+use Rattle.proto_meaning.specs.Names.{Reference, Symbol, Workspace, meaning}
+use Rattle.proto_table.specs.Resolved.{files_of, IsIndexOf}
+use Rattle.proto_meaning.specs.Marks.{MarksSeen}
 use Rattle.proto_names.specs.Scopes.{reference_in}
-use Rattle.proto_names.specs.Tables.{names_of}
-use Rattle.proto_names.specs.declared.table.Row.{Row}
-use Rattle.proto_names.specs.declared.table.Table.{Table}
+use Rattle.proto_table.specs.Tables.{names_of}
+use Rattle.proto_table.specs.declared.table.Row.{Row}
+use Rattle.proto_table.specs.declared.table.Table.{Table}
 use Rattle.proto_names.proofs.PlainNames.{names_are_plain}
-use Rattle.proto_names.proofs.Search.{pick}
+use Rattle.proto_table.proofs.Search.{pick}
 
 row_of : (rows : List Row) (k : ℕ) (n : NameOf) → slice_get (map name_of_row rows) k ≡ Some n → (k < length rows) × ((d : Row) → name_of_row (get_or rows k d) ≡ n)
 row_of [] k n h = absurd (none-some n h)

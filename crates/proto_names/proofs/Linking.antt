@@ -6,18 +6,19 @@ use Rattle.std.proofs.lemmas.Bool.{cases_Bool, false_from_ne_true, both_ways, an
 use Rattle.std.proofs.lemmas.List.{get_or-map, get_or_default, length-map}
 use Rattle.std.proofs.lemmas.List.Folds.{list_any_at}
 use Rattle.std.proofs.lemmas.Option.{slice_get-get_or, none-some, same_Some}
-use Rattle.proto_names.specs.Joined.{joined, ArePlain}
-use Rattle.proto_names.specs.Names.{Symbol, Workspace, shows}
-use Rattle.proto_names.specs.Resolved.{IsIndexOf, MarksSeen}
+use Rattle.proto_meaning.specs.Joined.{joined, ArePlain}
+use Rattle.proto_meaning.specs.Names.{Symbol, Workspace, shows}
+use Rattle.proto_table.specs.Resolved.{IsIndexOf}
+use Rattle.proto_meaning.specs.Marks.{MarksSeen}
 use Rattle.proto_names.specs.Linking.{NameOf, LinkOf, name_of_row, text_at, sees_one, shows_text, is_visible}
-use Rattle.proto_names.specs.Search.{is_seen}
-use Rattle.proto_names.specs.Tables.{names_of, aboves_of, look, IsTable}
-use Rattle.proto_names.specs.declared.table.Row.{Row}
-use Rattle.proto_names.specs.declared.table.Table.{Table}
-use Rattle.proto_names.proofs.Basics.{any_to, any_map, word_from_same, same_from_word}
-use Rattle.proto_names.proofs.Forest.{names_apart}
-use Rattle.proto_names.proofs.Resolved.{shows_from, shows_to}
-use Rattle.proto_names.proofs.Search.{pick}
+use Rattle.proto_table.specs.Search.{is_seen}
+use Rattle.proto_table.specs.Tables.{names_of, aboves_of, look, IsTable}
+use Rattle.proto_table.specs.declared.table.Row.{Row}
+use Rattle.proto_table.specs.declared.table.Table.{Table}
+use Rattle.proto_text.proofs.Lists.{any_to, any_map, word_from_same, same_from_word}
+use Rattle.proto_meaning.proofs.Forest.{names_apart}
+use Rattle.proto_table.proofs.Resolved.{shows_from, shows_to}
+use Rattle.proto_table.proofs.Search.{pick}
 
 text_row : (rows : List Row) (row : ℕ) → option_map (λ n. n.text) (slice_get (map name_of_row rows) row) ≡ slice_get (map (λ r. string_bytes r.name) rows) row
 text_row [] row = refl

@@ -7,7 +7,7 @@ use Rattle.std.proofs.lemmas.List.Elements.{filter-append}
 use Rattle.proto_names.specs.Linking.{MeantBy, meant_by, all_meant, references_to}
 use Rattle.proto_names.specs.declared.link.RefId.{RefId}
 use Rattle.proto_names.specs.declared.references.Meant.{Meant}
-use Rattle.proto_names.proofs.Turned.{take_more}
+use Rattle.proto_imports.proofs.Turned.{take_more}
 
 all_meant_more : (n : ℕ) (fs : List (List Meant)) (x : List Meant) → all_meant n (fs ++ x ∷ []) ≡ all_meant n fs ++ map (meant_by (n + length fs)) x
 all_meant_more n [] x = let z : n ≡ n + 0 = omega arith in append-nil (map (meant_by n) x) ∙ ap (λ k. map (meant_by k) x) z

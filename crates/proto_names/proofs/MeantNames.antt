@@ -1,20 +1,22 @@
--- What a link of files answers of a reference, and of the declaration that it means.
+-- What a link of files answers of a reference, and of the declaration that it means (for the crates above).
 use Rattle.std.proofs.Common.{◌≡◌, ◌≢◌, ℕ, ◌<◌, List, [], length, get_or, option_map, Option, None, Some, refl, sym, ◌∙◌, ap, subst}
 use Rattle.std.specs.List.{Contains}
 use Rattle.std.proofs.lemmas.Option.{none-some, same_Some}
 use Rattle.proto_files.specs.GivenFiles.{FileOf}
-use Rattle.proto_names.specs.EntryNames.{entry_name}
-use Rattle.proto_names.specs.Faults.{place_of}
+use Rattle.proto_case.specs.Camel.{entry_name}
+use Rattle.proto_meaning.specs.Faults.{place_of}
 use Rattle.proto_names.specs.FileReferences.{uses_of}
-use Rattle.proto_names.specs.Grown.{At, at}
-use Rattle.proto_names.specs.Joined.{joined}
+use Rattle.proto_meaning.specs.Grown.{At, at}
+use Rattle.proto_meaning.specs.Joined.{joined}
 use Rattle.proto_names.specs.LinkOfFiles.{IsLinkBy, IsLinkRead, TextMeant, meant_by_link, meant_by_use}
 use Rattle.proto_names.specs.Linking.{LinkOf, NameOf, meant_at, name_at}
-use Rattle.proto_names.specs.Links.{ReadOf, names_of_files, text_of}
-use Rattle.proto_names.specs.Names.{Package, meaning}
-use Rattle.proto_names.specs.Naming.{used_named}
-use Rattle.proto_names.specs.Skeleton.{Declared, Skeleton, Used, name_of, symbol_of}
-use Rattle.proto_names.proofs.Basics.{contains_map, from_map}
+use Rattle.proto_files.specs.FilesRead.{ReadOf}
+use Rattle.proto_imports.specs.Links.{names_of_files, text_of}
+use Rattle.proto_meaning.specs.declared.kind.Kind.TheVariants.{Package}
+use Rattle.proto_meaning.specs.Names.{meaning}
+use Rattle.proto_table.specs.Naming.{used_named}
+use Rattle.proto_meaning.specs.Skeleton.{Declared, Skeleton, Used, name_of, symbol_of}
+use Rattle.proto_text.proofs.Lists.{contains_map, from_map}
 use Rattle.proto_names.proofs.FirstTokens.{row_of_member}
 
 -- the link's answer for a reference: the row of a name with this text

@@ -1,18 +1,19 @@
 -- Names that clash are the faults of names of files, and the least of them is that of their link.
 use Rattle.std.proofs.Common.{◌≡◌, ℕ, ◌<◌, List, length, map, sym, subst}
-use Rattle.proto_files.specs.declared.fault.FaultKind.TheVariants as kinds
+use Rattle.proto_faults.specs.declared.fault.FaultKind.TheVariants as kinds
 use Rattle.proto_files.specs.GivenFiles.{FileOf, AreWorkspaceFiles}
-use Rattle.proto_names.specs.Faults.{Fault, fault, IsLeast, NameFault}
-use Rattle.proto_names.specs.Grown.{at}
+use Rattle.proto_meaning.specs.Faults.{Fault, fault, IsLeast, NameFault}
+use Rattle.proto_meaning.specs.Grown.{at}
 use Rattle.proto_names.specs.LinkErrors.{IsLinkError, IsAtToken}
 use Rattle.proto_names.specs.LinkOfFiles.{HasNoImportFault}
-use Rattle.proto_names.specs.Links.{AreRead, ReadOf, link_skeleton, names_in, text_of}
-use Rattle.proto_names.specs.Naming.{tree_named}
-use Rattle.proto_names.specs.Spelled.{ClashFault, Named}
-use Rattle.proto_names.specs.declared.link_fault.LinkFault.{LinkFault}
+use Rattle.proto_files.specs.FilesRead.{AreRead, ReadOf}
+use Rattle.proto_imports.specs.Links.{link_skeleton, names_in, text_of}
+use Rattle.proto_table.specs.Naming.{tree_named}
+use Rattle.proto_table.specs.Spelled.{ClashFault, Named}
+use Rattle.proto_faults.specs.declared.fault.SchemaFault.{SchemaFault}
 use Rattle.proto_names.proofs.FaultPlaces.{name_found}
 use Rattle.proto_names.proofs.LeastLinkFault.{least_name, link_error}
-use Rattle.proto_names.proofs.NameFaults.{clashes_are_faults}
+use Rattle.proto_table.proofs.NameFaults.{clashes_are_faults}
 use Rattle.proto_names.proofs.TableNames.{are_spans}
 
 module _ (files : List FileOf) (reads : List ReadOf) (are : AreRead files reads) (ds : List Named) (same : ds ≡ tree_named (text_of files reads) 0 (map names_in reads)) where
@@ -35,7 +36,7 @@ module _ (files : List FileOf) (reads : List ReadOf) (are : AreRead files reads)
   pub clash_within : (file token : ℕ) → IsLeast (ClashFault ds) (fault (at file token) 13) → file < length files
   clash_within file token least = (name_found files reads are (fault (at file token) 13) (to_fault (fault (at file token) 13) least.holds)).there.0
 
-  pub clash_error : AreWorkspaceFiles files → HasNoImportFault files → (file token : ℕ) (e : LinkFault) → IsLeast (ClashFault ds) (fault (at file token) 13) → IsAtToken files file token kinds.DuplicateName e → IsLinkError files e
+  pub clash_error : AreWorkspaceFiles files → HasNoImportFault files → (file token : ℕ) (e : SchemaFault) → IsLeast (ClashFault ds) (fault (at file token) 13) → IsAtToken files file token kinds.DuplicateName e → IsLinkError files e
   clash_error are_files no_import file token e least there =
       let f = fault (at file token) 13 in
       link_error files are_files reads are file token kinds.DuplicateName e there (λ x. least_name files are_files reads are (no_import reads are) f x (least_fault f least))

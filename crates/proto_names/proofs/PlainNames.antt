@@ -3,22 +3,25 @@ use Rattle.std.proofs.Common.{◌≡◌, ℕ, zero, suc, ◌+◌, ◌<◌, List,
 use Rattle.std.specs.List.{Contains}
 use Rattle.std.proofs.lemmas.List.Elements.{Contains-append_cases}
 use Rattle.proto_files.specs.GivenFiles.{FileOf, file_at}
-use Rattle.proto_names.specs.EntryNames.{entry_name}
-use Rattle.proto_names.specs.FromTree.{items_in}
-use Rattle.proto_names.specs.Grown.{At, at, declared_of, file_declared, all_declared}
-use Rattle.proto_names.specs.Joined.{IsPlain, ArePlain}
-use Rattle.proto_names.specs.Links.{ReadOf, AreRead, read_at, text_of, names_in, link_skeleton, names_of_files}
-use Rattle.proto_names.specs.Listing.{whole, last_token}
-use Rattle.proto_names.specs.Names.{Kind, Field, Value, Method, Symbol}
-use Rattle.proto_names.specs.Skeleton.{Source, Token, EntryOf, Given, Declared, name_of, spell, symbol_of, shifted_declared}
-use Rattle.proto_names.specs.Tree.{Member, field, map_field, oneof, message, enum, service, Members, no_members, member, Items, no_items, packaged, item, package_of, Placed, place, placed, all_placed, prefixes, items_placed, file_placed}
-use Rattle.proto_names.proofs.Basics.{contains_cases, from_map}
-use Rattle.proto_names.proofs.Edited.{map_append}
+use Rattle.proto_case.specs.Camel.{entry_name}
+use Rattle.proto_listing.specs.FromTree.{items_in}
+use Rattle.proto_meaning.specs.Grown.{At, at, declared_of, file_declared, all_declared}
+use Rattle.proto_meaning.specs.Joined.{IsPlain, ArePlain}
+use Rattle.proto_files.specs.FilesRead.{ReadOf, AreRead, read_at}
+use Rattle.proto_imports.specs.Links.{text_of, names_in, link_skeleton, names_of_files}
+use Rattle.proto_listing.specs.Listing.{whole, last_token}
+use Rattle.proto_meaning.specs.declared.kind.Kind.{Kind}
+use Rattle.proto_meaning.specs.declared.kind.Kind.TheVariants.{Field, Value, Method}
+use Rattle.proto_meaning.specs.Names.{Symbol}
+use Rattle.proto_meaning.specs.Skeleton.{Source, Token, EntryOf, Given, Declared, name_of, spell, symbol_of, shifted_declared}
+use Rattle.proto_meaning.specs.Tree.{Member, field, map_field, oneof, message, enum, service, Members, no_members, member, Items, no_items, packaged, item, package_of, Placed, place, placed, all_placed, prefixes, items_placed, file_placed}
+use Rattle.proto_text.proofs.Lists.{contains_cases, from_map}
+use Rattle.proto_meaning.proofs.Edited.{map_append}
 use Rattle.proto_names.proofs.FileMeanings.{name_in}
-use Rattle.proto_names.proofs.Growing.{token_last, entry_last}
-use Rattle.proto_names.proofs.Items.{file_stands}
-use Rattle.proto_names.proofs.ReadTrees.{placed_plain}
-use Rattle.proto_names.proofs.SpelledNames.{entry_plain}
+use Rattle.proto_listing.proofs.Growing.{token_last, entry_last}
+use Rattle.proto_meaning.proofs.Items.{file_stands}
+use Rattle.proto_listing.proofs.ReadTrees.{placed_plain}
+use Rattle.proto_table.proofs.SpelledNames.{entry_plain}
 
 -- ---- given words are plain
 

@@ -6,22 +6,24 @@ use Rattle.std.proofs.lemmas.Option.{none-some, same_Some, slice_get_cases}
 use Rattle.std.proofs.lemmas.List.{length-map, map-append, get_or_past, get_or-map, take-append-drop}
 use Rattle.std.proofs.lemmas.List.Elements.{All-append, All-cons, All-nil}
 use Rattle.std.proofs.Math.Seq.{drop-cons}
-use Rattle.proto_names.specs.Names.{Kind, Package, Message, Entry, Enum, Service, Field, EntryField, Oneof, Value, Method, Symbol, Reference, Workspace, is_type, meaning, meaning_at, hit, typed}
-use Rattle.proto_names.specs.Joined.{joined}
-use Rattle.proto_names.specs.declared.table.Row.{Row}
-use Rattle.proto_names.specs.declared.table.Table.{Table}
-use Rattle.proto_names.specs.Tables.{names_of, aboves_of, look, IsTable}
-use Rattle.proto_names.specs.Resolved.{IsIndexOf, IsAsked}
+use Rattle.proto_meaning.specs.declared.kind.Kind.{Kind}
+use Rattle.proto_meaning.specs.declared.kind.Kind.TheVariants.{Package, Message, Entry, Enum, Service, Field, EntryField, Oneof, Value, Method}
+use Rattle.proto_meaning.specs.Names.{Symbol, Reference, Workspace, is_type, meaning, meaning_at, hit, typed}
+use Rattle.proto_meaning.specs.Joined.{joined}
+use Rattle.proto_table.specs.declared.table.Row.{Row}
+use Rattle.proto_table.specs.declared.table.Table.{Table}
+use Rattle.proto_table.specs.Tables.{names_of, aboves_of, look, IsTable}
+use Rattle.proto_table.specs.Resolved.{IsIndexOf, IsAsked}
 use Rattle.proto_names.specs.Referring.{reference_by, first_token, IsReadBy, IsFlawed, IsFaultless, AreMeant, IsFirstBad, kind_flaw, found_flaw, row_flaw}
-use Rattle.proto_names.specs.declared.listing.Use.{Use}
+use Rattle.proto_listing.specs.declared.listing.Use.{Use}
 use Rattle.proto_names.specs.declared.references.BadReference.{BadReference}
 use Rattle.proto_names.specs.declared.references.Meant.{Meant}
 use Rattle.proto_names.specs.declared.references.ReferenceFlaw.{ReferenceFlaw}
 use Rattle.proto_names.specs.declared.references.ReferenceFlaw.TheVariants.{Unresolved, WrongKind, MapEntry}
-use Rattle.proto_names.proofs.Forest.{names_apart, name_some}
-use Rattle.proto_names.proofs.Rename.{typed_is}
-use Rattle.proto_names.proofs.Symbols.{shown}
-use Rattle.proto_names.proofs.Turned.{take_more}
+use Rattle.proto_meaning.proofs.Forest.{names_apart, name_some}
+use Rattle.proto_meaning.proofs.Rename.{typed_is}
+use Rattle.proto_meaning.proofs.Symbols.{shown}
+use Rattle.proto_imports.proofs.Turned.{take_more}
 
 -- the words of a reference by its first and the others
 pub same_words : {ws rest rest' : List (List ℕ)} {first first' : List ℕ} → ws ≡ first ∷ rest → first ≡ first' → rest ≡ rest' → ws ≡ first' ∷ rest'

@@ -6,15 +6,15 @@ use Rattle.std.proofs.Math.Seq.{take-length, take-append_seam}
 use Rattle.std.proofs.lemmas.Bool.{or_parts, both_ways, eq-eqb}
 use Rattle.std.proofs.lemmas.List.{length-map}
 use Rattle.std.proofs.lemmas.Option.{none-some}
-use Rattle.proto_names.specs.Forest.{under, front}
-use Rattle.proto_names.specs.Joined.{joined, ArePlain}
+use Rattle.proto_meaning.specs.Forest.{under, front}
+use Rattle.proto_meaning.specs.Joined.{joined, ArePlain}
 use Rattle.proto_names.specs.Scopes.{IsScopeFront}
-use Rattle.proto_names.specs.Tables.{names_of, look, IsTable}
-use Rattle.proto_names.specs.declared.table.Table.{Table}
-use Rattle.proto_names.proofs.Forest.{under_some}
-use Rattle.proto_names.proofs.Joined.{not_pointed}
-use Rattle.proto_names.proofs.Resolved.{joined_all, under_all_named}
-use Rattle.proto_names.proofs.Search.{joined_more, plain_take}
+use Rattle.proto_table.specs.Tables.{names_of, look, IsTable}
+use Rattle.proto_table.specs.declared.table.Table.{Table}
+use Rattle.proto_meaning.proofs.Forest.{under_some}
+use Rattle.proto_meaning.proofs.Joined.{not_pointed}
+use Rattle.proto_table.proofs.Resolved.{joined_all, under_all_named}
+use Rattle.proto_table.proofs.Search.{joined_more, plain_take}
 
 -- ---- words that are joined
 

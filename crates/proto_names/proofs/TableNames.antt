@@ -7,32 +7,34 @@ use Rattle.std.proofs.lemmas.List.Elements.{Contains-append_cases}
 use Rattle.proto_files.specs.GivenFiles.{FileOf, file_at}
 use Rattle.proto_tree.specs.Tree.{End}
 use Rattle.proto_names.specs.FileReferences.{declared_names}
-use Rattle.proto_names.specs.Filling.{AreRows, IsRowAt}
-use Rattle.proto_names.specs.Forest.{front}
-use Rattle.proto_names.specs.FromTree.{items_in}
-use Rattle.proto_names.specs.Grown.{At, at, FileNames}
-use Rattle.proto_names.specs.Joined.{ArePlain, joined}
-use Rattle.proto_names.specs.LastWords.{named_as}
+use Rattle.proto_table.specs.Filling.{AreRows, IsRowAt}
+use Rattle.proto_meaning.specs.Forest.{front}
+use Rattle.proto_listing.specs.FromTree.{items_in}
+use Rattle.proto_meaning.specs.Grown.{At, at, FileNames}
+use Rattle.proto_meaning.specs.Joined.{ArePlain, joined}
+use Rattle.proto_table.specs.LastWords.{named_as}
 use Rattle.proto_names.specs.LinkOfFiles.{AreNamesOf, IsDeclaredIn}
-use Rattle.proto_names.specs.Links.{AreListings, AreRead, Each, ReadOf, link_skeleton, names_in, names_of_files, read_at, text_of}
-use Rattle.proto_names.specs.Listing.{package_first}
-use Rattle.proto_names.specs.Names.{Package}
-use Rattle.proto_names.specs.Naming.{AreSpans, tree_named}
-use Rattle.proto_names.specs.Resolved.{IsIndexOf}
-use Rattle.proto_names.specs.Skeleton.{Declared}
-use Rattle.proto_names.specs.Spelled.{AreSpelled, Named, all_named, named_in, symbol_named}
-use Rattle.proto_names.specs.Tables.{names_of}
-use Rattle.proto_names.specs.Tree.{ItemsSpan}
-use Rattle.proto_names.specs.declared.listing.Listing.{Listing}
-use Rattle.proto_names.specs.declared.spelled.Spelled.{Spelled}
-use Rattle.proto_names.specs.declared.table.Table.{Table}
-use Rattle.proto_names.proofs.Edited.{map_map}
-use Rattle.proto_names.proofs.Growing.{length-read}
-use Rattle.proto_names.proofs.Held.{index_same}
-use Rattle.proto_names.proofs.NameFaults.{as_named, declared_is_named, same_symbols}
-use Rattle.proto_names.proofs.Naming.{named_length, named_plain}
-use Rattle.proto_names.proofs.ReadTrees.{tree_span}
-use Rattle.proto_names.proofs.Search.{pick}
+use Rattle.proto_imports.specs.Links.{AreListings, link_skeleton, names_in, names_of_files, text_of}
+use Rattle.proto_files.specs.FilesRead.{Each}
+use Rattle.proto_files.specs.FilesRead.{AreRead, ReadOf, read_at}
+use Rattle.proto_listing.specs.Listing.{package_first}
+use Rattle.proto_meaning.specs.declared.kind.Kind.TheVariants.{Package}
+use Rattle.proto_table.specs.Naming.{AreSpans, tree_named}
+use Rattle.proto_table.specs.Resolved.{IsIndexOf}
+use Rattle.proto_meaning.specs.Skeleton.{Declared}
+use Rattle.proto_table.specs.Spelled.{AreSpelled, Named, all_named, named_in, symbol_named}
+use Rattle.proto_table.specs.Tables.{names_of}
+use Rattle.proto_meaning.specs.Tree.{ItemsSpan}
+use Rattle.proto_listing.specs.declared.listing.Listing.{Listing}
+use Rattle.proto_table.specs.declared.spelled.Spelled.{Spelled}
+use Rattle.proto_table.specs.declared.table.Table.{Table}
+use Rattle.proto_meaning.proofs.Edited.{map_map}
+use Rattle.proto_listing.proofs.Growing.{length-read}
+use Rattle.proto_table.proofs.Held.{index_same}
+use Rattle.proto_table.proofs.NameFaults.{as_named, declared_is_named, same_symbols}
+use Rattle.proto_table.proofs.Naming.{named_length, named_plain}
+use Rattle.proto_listing.proofs.ReadTrees.{tree_span}
+use Rattle.proto_table.proofs.Search.{pick}
 
 -- what holds of an element holds of its image
 at_image : {X Y : Type 0} (f : X → Y) (xs : List X) (k : ℕ) (e : Y) (P : Y → Type 0) → k < length xs → ((d : X) → P (f (get_or xs k d))) → P (get_or (map f xs) k e)

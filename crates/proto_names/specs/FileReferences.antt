@@ -3,23 +3,24 @@ use Rattle.std.specs.Prelude.{◌≡◌, ℕ, ◌<◌, Bool, List, [], ◌∷◌
 use Rattle.std.specs.Global.{Vec}
 use Rattle.std.specs.List.{All}
 use Rattle.proto_files.specs.GivenFiles.{FileOf}
-use Rattle.proto_names.specs.EntryNames.{entry_name}
-use Rattle.proto_names.specs.Faults.{fault, IsLeast, ReferenceFault}
-use Rattle.proto_names.specs.FromTree.{items_in}
-use Rattle.proto_names.specs.Grown.{At, at}
-use Rattle.proto_names.specs.Links.{ReadOf, read_at, text_of, names_in, link_skeleton, names_of_files}
-use Rattle.proto_names.specs.Listing.{package_first, whole}
-use Rattle.proto_names.specs.Names.{Workspace}
-use Rattle.proto_names.specs.Naming.{used_named}
+use Rattle.proto_case.specs.Camel.{entry_name}
+use Rattle.proto_meaning.specs.Faults.{fault, IsLeast, ReferenceFault}
+use Rattle.proto_listing.specs.FromTree.{items_in}
+use Rattle.proto_meaning.specs.Grown.{At, at}
+use Rattle.proto_files.specs.FilesRead.{ReadOf, read_at}
+use Rattle.proto_imports.specs.Links.{text_of, names_in, link_skeleton, names_of_files}
+use Rattle.proto_listing.specs.Listing.{package_first, whole}
+use Rattle.proto_meaning.specs.Names.{Workspace}
+use Rattle.proto_table.specs.Naming.{used_named}
 use Rattle.proto_names.specs.Referring.{IsFaultless, IsFlawed, IsReadBy, AreMeant}
-use Rattle.proto_names.specs.Skeleton.{Used, name_of}
+use Rattle.proto_meaning.specs.Skeleton.{Used, name_of}
 use Rattle.proto_names.specs.declared.references.BadReference.{BadReference}
 use Rattle.proto_names.specs.declared.references.Meant.{Meant}
 use Rattle.proto_names.specs.declared.references.ReferenceError.{ReferenceError}
 use Rattle.proto_names.specs.declared.references.ReferenceError.TheVariants.{Bad, NoMemory}
 use Rattle.proto_names.specs.declared.references.ReferenceFlaw.{ReferenceFlaw}
 use Rattle.proto_names.specs.declared.references.ReferenceFlaw.TheVariants.{Unresolved, WrongKind, MapEntry}
-use Rattle.proto_names.specs.declared.table.Table.{Table}
+use Rattle.proto_table.specs.declared.table.Table.{Table}
 
 -- the fault's number
 abbrev pub flaw_number : ReferenceFlaw → ℕ

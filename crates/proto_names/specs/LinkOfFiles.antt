@@ -4,24 +4,27 @@ use Rattle.std.specs.Global.{Vec}
 use Rattle.std.specs.List.{All, AllPairs, Contains, filter}
 use Rattle.std.specs.Str.{bytes_eq}
 use Rattle.proto_files.specs.GivenFiles.{FileOf, paths_of}
-use Rattle.proto_names.specs.EntryNames.{entry_name}
-use Rattle.proto_names.specs.Faults.{Fault, ImportFault, NameFault, place_of}
+use Rattle.proto_case.specs.Camel.{entry_name}
+use Rattle.proto_meaning.specs.Faults.{Fault, ImportFault, NameFault, place_of}
 use Rattle.proto_names.specs.FileReferences.{declared_names, uses_of}
-use Rattle.proto_names.specs.Forest.{front}
-use Rattle.proto_names.specs.Grown.{At, at}
-use Rattle.proto_names.specs.Joined.{ArePlain, joined}
-use Rattle.proto_names.specs.Linked.{AreFiles}
+use Rattle.proto_meaning.specs.Forest.{front}
+use Rattle.proto_meaning.specs.Grown.{At, at}
+use Rattle.proto_meaning.specs.Joined.{ArePlain, joined}
+use Rattle.proto_meaning.specs.Linked.{AreFiles}
 use Rattle.proto_names.specs.Linking.{LinkOf, NameOf, name_at, text_at}
-use Rattle.proto_names.specs.Links.{ReadOf, AreRead, all_wanted, link_skeleton, names_of_files, text_of}
-use Rattle.proto_names.specs.Names.{Package, Symbol, Workspace, meaning}
-use Rattle.proto_names.specs.Naming.{used_named}
-use Rattle.proto_names.specs.Resolved.{IsIndexOf, MarksSeen}
-use Rattle.proto_names.specs.Skeleton.{Declared, Used, Skeleton, name_of, reference_of, workspace_of}
-use Rattle.proto_names.specs.Tables.{names_of}
+use Rattle.proto_files.specs.FilesRead.{ReadOf, AreRead}
+use Rattle.proto_imports.specs.Links.{all_wanted, link_skeleton, names_of_files, text_of}
+use Rattle.proto_meaning.specs.declared.kind.Kind.TheVariants.{Package}
+use Rattle.proto_meaning.specs.Names.{Symbol, Workspace, meaning}
+use Rattle.proto_table.specs.Naming.{used_named}
+use Rattle.proto_table.specs.Resolved.{IsIndexOf}
+use Rattle.proto_meaning.specs.Marks.{MarksSeen}
+use Rattle.proto_meaning.specs.Skeleton.{Declared, Used, Skeleton, name_of, reference_of, workspace_of}
+use Rattle.proto_table.specs.Tables.{names_of}
 use Rattle.proto_names.specs.declared.link.RefId.{RefId}
 use Rattle.proto_names.specs.declared.references.Meant.{Meant}
-use Rattle.proto_names.specs.declared.table.Row.{Row}
-use Rattle.proto_names.specs.declared.table.Table.{Table}
+use Rattle.proto_table.specs.declared.table.Row.{Row}
+use Rattle.proto_table.specs.declared.table.Table.{Table}
 
 -- Each symbol has its name in the link, with its kind and its file, as text that tells its words; each name has a file, and is that of a symbol in
 -- each of its files; and a text is one name.

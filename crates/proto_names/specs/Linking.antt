@@ -3,12 +3,12 @@ use Rattle.std.specs.Prelude.{ℕ, suc, Bool, false, ◌&&◌, ◌==◌, if◌th
 use Rattle.std.specs.List.{filter, find, list_any}
 use Rattle.std.specs.Option.{option_and_then}
 use Rattle.std.specs.Str.{bytes_eq}
-use Rattle.proto_names.specs.Names.{Kind}
-use Rattle.proto_names.specs.Linked.{is_package}
-use Rattle.proto_names.specs.Resolved.{files_of}
+use Rattle.proto_meaning.specs.declared.kind.Kind.{Kind}
+use Rattle.proto_meaning.specs.Linked.{is_package}
+use Rattle.proto_table.specs.Resolved.{files_of}
 use Rattle.proto_names.specs.declared.link.RefId.{RefId}
 use Rattle.proto_names.specs.declared.references.Meant.{Meant}
-use Rattle.proto_names.specs.declared.table.Row.{Row}
+use Rattle.proto_table.specs.declared.table.Row.{Row}
 
 -- what a link has of a name: its text, its kind, the files that declare it, and its first declaration's token
 pub record NameOf : Type 0 where

@@ -1,15 +1,18 @@
 -- The references of a file by the words of its tokens: what they mean, and which is faulty.
 use Rattle.std.specs.Prelude.{◌≡◌, ℕ, ◌+◌, ◌<◌, Bool, true, if◌then◌else◌, List, [], ◌∷◌, ◌++◌, length, get_or, slice_get, map, Option, Some, None, option_map, is_some}
 use Rattle.std.specs.List.{All, Contains}
-use Rattle.proto_names.specs.Names.{Kind, Entry, Enum, Symbol, Reference, Workspace, meaning}
-use Rattle.proto_names.specs.Joined.{joined, ArePlain}
-use Rattle.proto_names.specs.Forest.{front}
-use Rattle.proto_names.specs.FromTree.{dotted, first_of}
-use Rattle.proto_names.specs.Tables.{names_of}
-use Rattle.proto_names.specs.Resolved.{IsIndexOf, MarksSeen}
-use Rattle.proto_names.specs.declared.listing.Use.{Use}
-use Rattle.proto_names.specs.declared.table.Row.{Row}
-use Rattle.proto_names.specs.declared.table.Table.{Table}
+use Rattle.proto_meaning.specs.declared.kind.Kind.{Kind}
+use Rattle.proto_meaning.specs.declared.kind.Kind.TheVariants.{Entry, Enum}
+use Rattle.proto_meaning.specs.Names.{Symbol, Reference, Workspace, meaning}
+use Rattle.proto_meaning.specs.Joined.{joined, ArePlain}
+use Rattle.proto_meaning.specs.Forest.{front}
+use Rattle.proto_tree.specs.References.{dotted, first_of}
+use Rattle.proto_table.specs.Tables.{names_of}
+use Rattle.proto_table.specs.Resolved.{IsIndexOf}
+use Rattle.proto_meaning.specs.Marks.{MarksSeen}
+use Rattle.proto_listing.specs.declared.listing.Use.{Use}
+use Rattle.proto_table.specs.declared.table.Row.{Row}
+use Rattle.proto_table.specs.declared.table.Table.{Table}
 use Rattle.proto_names.specs.declared.references.BadReference.{BadReference}
 use Rattle.proto_names.specs.declared.references.Meant.{Meant}
 use Rattle.proto_names.specs.declared.references.ReferenceFlaw.{ReferenceFlaw}

@@ -2,14 +2,15 @@
 use Rattle.std.specs.Prelude.{◌≡◌, ◌≢◌, ℕ, ◌<◌, ◌≤◌, false, List, [], length, get_or, map, take, is_some}
 use Rattle.proto_files.specs.GivenFiles.{FileOf}
 use Rattle.proto_tree.specs.declared.tree.Reference.{Reference as ReferenceOfTree}
-use Rattle.proto_names.specs.Forest.{front}
-use Rattle.proto_names.specs.FromTree.{dotted}
-use Rattle.proto_names.specs.Grown.{at}
-use Rattle.proto_names.specs.Joined.{joined}
-use Rattle.proto_names.specs.Links.{ReadOf, text_of}
-use Rattle.proto_names.specs.Names.{Reference}
-use Rattle.proto_names.specs.Tables.{names_of}
-use Rattle.proto_names.specs.declared.table.Table.{Table}
+use Rattle.proto_meaning.specs.Forest.{front}
+use Rattle.proto_tree.specs.References.{dotted}
+use Rattle.proto_meaning.specs.Grown.{at}
+use Rattle.proto_meaning.specs.Joined.{joined}
+use Rattle.proto_files.specs.FilesRead.{ReadOf}
+use Rattle.proto_imports.specs.Links.{text_of}
+use Rattle.proto_meaning.specs.Names.{Reference}
+use Rattle.proto_table.specs.Tables.{names_of}
+use Rattle.proto_table.specs.declared.table.Table.{Table}
 
 -- the number is that of the scope's first words, and no row is named by more of them
 pub record IsScopeFront (t : Table) (path : List (List ℕ)) (number : ℕ) : Type 0 where

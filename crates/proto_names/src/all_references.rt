@@ -4,17 +4,19 @@ ghost use Rattle.std.specs.Prelude.{◌≡◌, ◌<◌, ℕ, List, [], length, g
 ghost use Rattle.std.specs.List.{All};
 ghost use Rattle.proto_files.specs.GivenFiles.{file_at};
 ghost use Rattle.proto_tree.specs.Reads.{Reads};
-ghost use Rattle.proto_names.specs.Faults.{Fault, ReferenceFault};
+ghost use Rattle.proto_meaning.specs.Faults.{Fault, ReferenceFault};
 ghost use Rattle.proto_names.specs.FileReferences.{AreFileMeant, AreLinked, IsFileError, IsFileLinked, IsLeastBad};
-ghost use Rattle.proto_names.specs.Links.{ReadOf, AreRead, AreListings, Each, IsListing, link_skeleton, text_of};
-ghost use Rattle.proto_names.specs.Tables.{IsTable};
+ghost use Rattle.proto_files.specs.FilesRead.{ReadOf, AreRead};
+ghost use Rattle.proto_imports.specs.Links.{AreListings, IsListing, link_skeleton, text_of};
+ghost use Rattle.proto_files.specs.FilesRead.{Each};
+ghost use Rattle.proto_table.specs.Tables.{IsTable};
 
-use crate::listing::Listing;
-use crate::read_files::are_read;
 use crate::references::{Meant, ReferenceError, meanings};
-use crate::table::Table;
-use proto_files::{Files, Words};
-use std::alloc::{AllocError, Global};
+use proto_faults::NoMemory;
+use proto_files::{Files, Words, are_read};
+use proto_listing::listing::Listing;
+use proto_table::table::Table;
+use std::alloc::Global;
 
 /// What the references of each file mean, in order; else the least that is faulty, by file, token and number.
 pub(crate) fn all_meanings(
@@ -53,7 +55,7 @@ pub(crate) fn all_meanings(
             &rows[file],
             &listings[file],
         )?;
-        meant.push(own).map_err(AllocError::from)?;
+        meant.push(own).map_err(NoMemory::from)?;
     }
     Ok(meant)
 }
@@ -78,6 +80,6 @@ fn file_meanings(
     ensures fault { IfErr result (λ e. (reads : List ReadOf) → AreRead files.now reads → IsFileLinked table.now seen.now rows.now files.now reads file
         → IsFileError files.now reads file e) }
 {
-    let words = Words::new(files.source(file as usize), files.tokens(file as usize));
+    let words = Words::new(files, file as usize);
     meanings(alloc, table, seen, &words, file, rows, &listing.used)
 }

@@ -6,14 +6,15 @@ ghost use Rattle.proto_names.specs.Linking.{meant_by, all_meant, references_to};
 
 use crate::link::RefId;
 use crate::references::Meant;
-use std::alloc::{AllocError, Global};
+use proto_faults::NoMemory;
+use std::alloc::Global;
 
 /// For each of so many names, the references that mean it, by file and in order.
 pub(crate) fn references_by_name(
     alloc: Global,
     count: usize,
     meant: &[Vec<Meant>],
-) -> Result<Vec<Vec<RefId>>, AllocError>
+) -> Result<Vec<Vec<RefId>>, NoMemory>
     requires count { length meant.now ≤ 2 ^ 32 }
     requires within { All (λ v. All (λ m. m.row < count) v.items) meant.now }
     ensures len { IfOk result (λ refs. length refs.items ≡ count) }
@@ -27,7 +28,7 @@ pub(crate) fn references_by_name(
 }
 
 /// As many lists, all empty.
-fn empty_lists(alloc: Global, count: usize) -> Result<Vec<Vec<RefId>>, AllocError>
+fn empty_lists(alloc: Global, count: usize) -> Result<Vec<Vec<RefId>>, NoMemory>
     ensures { IfOk result (λ lists. map (λ v. v.items) lists.items ≡ replicate count []) }
 {
     let mut lists = Vec::new(alloc);
@@ -38,7 +39,7 @@ fn empty_lists(alloc: Global, count: usize) -> Result<Vec<Vec<RefId>>, AllocErro
 }
 
 /// Puts the references of a file behind those of the names that they mean.
-fn put_all(references: &mut Vec<Vec<RefId>>, file: u32, meant: &[Meant]) -> Result<(), AllocError>
+fn put_all(references: &mut Vec<Vec<RefId>>, file: u32, meant: &[Meant]) -> Result<(), NoMemory>
     requires { All (λ m. m.row < length references.old.items) meant.now }
     ensures len { OnOk result (length references.new.items ≡ length references.old.items) }
     ensures each { OnOk result ((row : ℕ) → get_or (map (λ v. v.items) references.new.items) row [] ≡ get_or (map (λ v. v.items) references.old.items) row [] ++ references_to row (map (meant_by file) meant.now)) }
@@ -54,7 +55,7 @@ fn put_all(references: &mut Vec<Vec<RefId>>, file: u32, meant: &[Meant]) -> Resu
 }
 
 /// Puts a reference behind those of a name.
-fn put(references: &mut Vec<Vec<RefId>>, row: usize, reference: RefId) -> Result<(), AllocError>
+fn put(references: &mut Vec<Vec<RefId>>, row: usize, reference: RefId) -> Result<(), NoMemory>
     requires { row < length references.old.items }
     ensures { OnOk result (map (λ v. v.items) references.new.items ≡ slice_set (map (λ v. v.items) references.old.items) row (get_or (map (λ v. v.items) references.old.items) row [] ++ reference ∷ [])) }
 {

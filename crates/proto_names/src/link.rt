@@ -6,21 +6,22 @@ ghost use Rattle.proto_files.specs.GivenFiles.{file_at as file_at_place};
 ghost use Rattle.proto_text.specs.Texts.{words};
 ghost use Rattle.proto_text.specs.Tokens.{AreTokens};
 ghost use Rattle.proto_text.specs.declared.lexer.Token.{Token};
-ghost use Rattle.proto_names.specs.FromTree.{dotted};
-ghost use Rattle.proto_names.specs.Joined.{joined, ArePlain};
+ghost use Rattle.proto_tree.specs.References.{dotted};
+ghost use Rattle.proto_meaning.specs.Joined.{joined, ArePlain};
 ghost use Rattle.proto_names.specs.LinkOfFiles.{IsLinkOf};
-ghost use Rattle.proto_names.specs.Linked.{is_package};
+ghost use Rattle.proto_meaning.specs.Linked.{is_package};
 ghost use Rattle.proto_names.specs.Linking.{name_of_row, name_at, text_at, file_at, token_at, row_at, meant_at, shows_text, is_visible};
-ghost use Rattle.proto_names.specs.Links.{ReadOf, AreRead, names_of_files};
-ghost use Rattle.proto_names.specs.Names.{meaning};
+ghost use Rattle.proto_files.specs.FilesRead.{ReadOf, AreRead};
+ghost use Rattle.proto_imports.specs.Links.{names_of_files};
+ghost use Rattle.proto_meaning.specs.Names.{meaning};
 ghost use Rattle.proto_names.specs.Scopes.{reference_in};
-ghost use Rattle.proto_names.specs.Tables.{IsTable};
+ghost use Rattle.proto_table.specs.Tables.{IsTable};
 
-use crate::kind::Kind;
 use crate::references::Meant;
 use crate::resolve::row_in_scope;
-use crate::table::{Row, Table};
 use proto_files::{Files, Words};
+use proto_meaning::Kind;
+use proto_table::table::{Row, Table};
 use proto_tree::Reference;
 use std::marker::Model;
 
@@ -69,7 +70,7 @@ impl Model for Link {
     ghost use Rattle.std.specs.Prelude.{◌≡◌, ◌<◌, length, map};
     ghost use Rattle.std.specs.List.{All, AllPairs};
     ghost use Rattle.proto_names.specs.Linking.{LinkOf, name_of_row};
-    ghost use Rattle.proto_names.specs.Tables.{IsTable};
+    ghost use Rattle.proto_table.specs.Tables.{IsTable};
 
     ghost Value = { LinkOf };
 
@@ -239,7 +240,7 @@ impl Link {
             → (result ≡ None) ↔ (meaning (names_of_files files.now reads) (reference_in files.now reads file path reference.now) ≡ None) }
     {
         let seen = self.seen.get(file as usize)?;
-        let words = Words::new(files.source(file as usize), files.tokens(file as usize));
+        let words = Words::new(files, file as usize);
         let row = row_in_scope(&self.table, seen, &words, scope, reference)?;
         Some(SymbolId { row })
     }

@@ -3,17 +3,18 @@
 ghost use Rattle.std.specs.Prelude.{◌≡◌, ◌<◌, ◌≤◌, ℕ, List, [], length, get_or, map, option_map, is_some, Some, None, IfOk, IfErr};
 ghost use Rattle.std.specs.List.{All};
 ghost use Rattle.proto_text.specs.Texts.{word_at};
-ghost use Rattle.proto_names.specs.FromTree.{dotted, first_of};
-ghost use Rattle.proto_names.specs.Joined.{joined, ArePlain};
-ghost use Rattle.proto_names.specs.Names.{Reference as NameReference, Workspace, meaning};
+ghost use Rattle.proto_tree.specs.References.{dotted, first_of};
+ghost use Rattle.proto_meaning.specs.Joined.{joined, ArePlain};
+ghost use Rattle.proto_meaning.specs.Names.{Reference as NameReference, Workspace, meaning};
 ghost use Rattle.proto_names.specs.Referring.{first_token, reference_by, kind_flaw, row_flaw, AreMeant, IsReadBy, IsReferenceError};
-ghost use Rattle.proto_names.specs.Resolved.{IsAsked};
-ghost use Rattle.proto_names.specs.Tables.{names_of, IsTable};
+ghost use Rattle.proto_table.specs.Resolved.{IsAsked};
+ghost use Rattle.proto_table.specs.Tables.{names_of, IsTable};
 
-use crate::kind::Kind;
-use crate::listing::Use;
-use crate::table::Table;
+use proto_faults::NoMemory;
 use proto_files::Words;
+use proto_listing::listing::Use;
+use proto_meaning::Kind;
+use proto_table::table::Table;
 use proto_tree::{Dotted, Reference};
 use std::alloc::{AllocError, Global};
 
@@ -53,6 +54,16 @@ impl From<AllocError> for ReferenceError {
     }
 }
 
+impl From<NoMemory> for ReferenceError {
+    ghost use Rattle.proto_names.specs.declared.references.ReferenceError.TheVariants.{NoMemory as OutOfMemory};
+
+    ghost from_gives = { λ _ e. e ≡ OutOfMemory };
+
+    fn from(_e: NoMemory) -> ReferenceError {
+        ReferenceError::NoMemory
+    }
+}
+
 /// A reference by its first token, and the row of the name that it means.
 #[derive(Clone, Copy)]
 pub struct Meant {
@@ -86,7 +97,7 @@ pub(crate) fn meanings(
         let row = row_meant(alloc, table, seen, words, scope, used.reference)?;
         let token = token_of(used.reference);
         match sound_row(table, row, used.is_method) {
-            Ok(row) => meant.push(Meant { token, row }).map_err(AllocError::from)?,
+            Ok(row) => meant.push(Meant { token, row }).map_err(NoMemory::from)?,
             Err(flaw) => return Err(ReferenceError::Bad(BadReference { file, token, flaw })),
         }
     }
@@ -101,7 +112,7 @@ fn row_meant(
     words: &Words,
     scope: usize,
     reference: &Reference,
-) -> Result<Option<usize>, AllocError>
+) -> Result<Option<usize>, NoMemory>
     requires table { IsTable table.now }
     requires within { scope ≤ length table.now.rows.items }
     requires plain { ArePlain (map (word_at words.now) (dotted reference.now.words)) }
@@ -121,7 +132,7 @@ fn words_behind<'a>(
     alloc: Global,
     words: &Words<'a>,
     tokens: &Dotted,
-) -> Result<Vec<&'a str>, AllocError>
+) -> Result<Vec<&'a str>, NoMemory>
     ensures { IfOk result (λ texts. map (λ t. t.now) texts.items ≡ map (λ b. word_at words.now b.item) tokens.now.rest) }
 {
     let mut texts = Vec::new(alloc);

@@ -2,15 +2,16 @@
 
 ghost use Rattle.std.specs.Prelude.{◌≡◌, ◌≢◌, ◌<◌, ℕ, List, [], length, get_or, map, option_map, is_some, IfSome, IfNone};
 ghost use Rattle.proto_text.specs.Texts.{word_at};
-ghost use Rattle.proto_names.specs.FromTree.{dotted};
-ghost use Rattle.proto_names.specs.Joined.{joined, ArePlain};
-ghost use Rattle.proto_names.specs.Names.{Reference as NameReference, Workspace, meaning};
-ghost use Rattle.proto_names.specs.Resolved.{IsIndexOf, IsTypeAt, MarksSeen, under_all};
-ghost use Rattle.proto_names.specs.Tables.{names_of, IsTable};
+ghost use Rattle.proto_tree.specs.References.{dotted};
+ghost use Rattle.proto_meaning.specs.Joined.{joined, ArePlain};
+ghost use Rattle.proto_meaning.specs.Names.{Reference as NameReference, Workspace, meaning};
+ghost use Rattle.proto_table.specs.Resolved.{IsIndexOf, IsTypeAt, under_all};
+ghost use Rattle.proto_meaning.specs.Marks.{MarksSeen};
+ghost use Rattle.proto_table.specs.Tables.{names_of, IsTable};
 
 use crate::scope::scope_number;
-use crate::table::Table;
 use proto_files::Words;
+use proto_table::table::Table;
 use proto_tree::{Behind, Reference};
 
 /// The row of what a reference means in a scope, where these files are seen. The scope need not be a name.

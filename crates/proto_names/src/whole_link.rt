@@ -3,41 +3,34 @@
 ghost use Rattle.std.specs.Prelude.{◌≡◌, ℕ, ◌<◌, List, [], length, get_or, map, IfOk, IfErr};
 ghost use Rattle.std.specs.List.{All};
 ghost use Rattle.proto_files.specs.Faults.{HasNoFault};
-ghost use Rattle.proto_files.specs.FaultTable.{number_of as number_of_kind};
+ghost use Rattle.proto_faults.specs.FaultTable.{number_of as number_of_kind};
 ghost use Rattle.proto_files.specs.GivenFiles.{paths_of};
-ghost use Rattle.proto_names.specs.Faults.{Fault as FaultAtToken, ReferenceFault};
+ghost use Rattle.proto_meaning.specs.Faults.{Fault as FaultAtToken, ReferenceFault};
 ghost use Rattle.proto_names.specs.FileReferences.{AreFileMeant, flaw_number};
-ghost use Rattle.proto_names.specs.Importing.{all_imports, number_of};
+ghost use Rattle.proto_imports.specs.Importing.{all_imports, number_of};
 ghost use Rattle.proto_names.specs.LinkErrors.{IsLinkError};
 ghost use Rattle.proto_names.specs.LinkOfFiles.{AreNamesOf, HasNoImportFault, HasNoNameFault, IsLinkOf};
-ghost use Rattle.proto_names.specs.Links.{AreListings, AreRead, Each, LinkFaults, ReadOf, link_imports, link_skeleton, names_of_files, text_of};
-ghost use Rattle.proto_names.specs.Resolved.{MarksSeen};
-ghost use Rattle.proto_names.specs.Tables.{IsTable};
-ghost use Rattle.proto_names.specs.declared.listing.Listing.{Listing};
+ghost use Rattle.proto_imports.specs.Links.{AreListings, LinkFaults, link_imports, link_skeleton, names_of_files, text_of};
+ghost use Rattle.proto_files.specs.FilesRead.{Each};
+ghost use Rattle.proto_files.specs.FilesRead.{AreRead, ReadOf};
+ghost use Rattle.proto_meaning.specs.Marks.{MarksSeen};
+ghost use Rattle.proto_table.specs.Tables.{IsTable};
+ghost use Rattle.proto_listing.specs.declared.listing.Listing.{Listing};
 
 use crate::all_references::all_meanings;
 use crate::backlinks::references_by_name;
-use crate::filling::{NameError, declare_all};
-use crate::import::{FileImport, ImportError, ImportFlaw, resolve_imports};
 use crate::link::Link;
-use crate::link_fault::{LinkFault, fault_at_token};
-use crate::listing::Listing;
-use crate::read_files::{all_spelled, all_written, are_read, listings};
+use crate::link_fault::fault_at_token;
+use crate::read_files::{all_spelled, all_written, listings};
 use crate::references::{Meant, ReferenceError, ReferenceFlaw};
-use crate::sight::all_seen;
-use crate::table::Table;
-use proto_files::{FaultKind, Files};
-use std::alloc::{AllocError, Global};
-
-fn paths_of<'a>(alloc: Global, files: &'a Files) -> Result<Vec<&'a str>, AllocError>
-    ensures { IfOk result (λ paths. map (λ p. p.now) paths.items ≡ paths_of files.now) }
-{
-    let mut paths = Vec::new(alloc);
-    for file in 0..files.len() {
-        paths.push(files.path(file))?;
-    }
-    Ok(paths)
-}
+use proto_faults::{FaultKind, NoMemory, SchemaFault};
+use proto_files::{Files, all_paths, are_read};
+use proto_imports::import::{FileImport, ImportError, ImportFlaw, resolve_imports};
+use proto_imports::sight::all_seen;
+use proto_listing::listing::Listing;
+use proto_table::filling::{NameError, declare_all};
+use proto_table::table::Table;
+use std::alloc::Global;
 
 fn import_kind(flaw: ImportFlaw) -> FaultKind
     ensures { number_of_kind result ≡ number_of flaw }
@@ -50,7 +43,7 @@ fn import_kind(flaw: ImportFlaw) -> FaultKind
 }
 
 /// The imports of each file, by the numbers of the files that they name; else the least fault.
-fn linked_imports(alloc: Global, files: &Files) -> Result<Vec<Vec<FileImport>>, LinkFault>
+fn linked_imports(alloc: Global, files: &Files) -> Result<Vec<Vec<FileImport>>, SchemaFault>
     ensures len { IfOk result (λ imports. length imports.items ≡ length files.now) }
     ensures within { IfOk result (λ imports. All (λ v. All (λ i. i.to < length files.now) v.items) imports.items) }
     ensures imports { IfOk result (λ imports. (reads : List ReadOf) → AreRead files.now reads → all_imports 0 (map (λ v. v.items) imports.items) ≡ link_imports files.now reads) }
@@ -61,14 +54,14 @@ fn linked_imports(alloc: Global, files: &Files) -> Result<Vec<Vec<FileImport>>, 
     are_read(files);
     files.len();
     let written = all_written(alloc, files)?;
-    let paths = paths_of(alloc, files)?;
+    let paths = all_paths(alloc, files)?;
     match resolve_imports(alloc, &paths, &written) {
         Ok(imports) => Ok(imports),
         Err(ImportError::Bad(bad)) => {
             let kind = import_kind(bad.flaw);
             Err(fault_at_token(alloc, files, bad.file, bad.token, kind))
         }
-        Err(ImportError::NoMemory) => Err(LinkFault::NoMemory),
+        Err(ImportError::NoMemory) => Err(SchemaFault::NoMemory),
     }
 }
 
@@ -77,7 +70,7 @@ fn linked_names(
     alloc: Global,
     files: &Files,
     listings: &[Listing],
-) -> Result<(Table, Vec<Vec<usize>>), LinkFault>
+) -> Result<(Table, Vec<Vec<usize>>), SchemaFault>
     requires listings { AreListings files.now listings.now }
     requires imports { HasNoImportFault files.now }
     ensures table { IfOk result (λ x. IsTable x.0) }
@@ -98,7 +91,7 @@ fn linked_names(
             let kind = FaultKind::DuplicateName;
             Err(fault_at_token(alloc, files, file, token, kind))
         }
-        Err(NameError::NoMemory) => Err(LinkFault::NoMemory),
+        Err(NameError::NoMemory) => Err(SchemaFault::NoMemory),
     }
 }
 
@@ -120,7 +113,7 @@ fn linked_references(
     seen: &[Vec<bool>],
     rows: &[Vec<usize>],
     listings: &[Listing],
-) -> Result<Vec<Vec<Meant>>, LinkFault>
+) -> Result<Vec<Vec<Meant>>, SchemaFault>
     requires table { IsTable table.now }
     requires listings { AreListings files.now listings.now }
     requires seen { length seen.now ≡ length files.now }
@@ -146,14 +139,14 @@ fn linked_references(
             let kind = reference_kind(bad.flaw);
             Err(fault_at_token(alloc, files, bad.file, bad.token, kind))
         }
-        Err(ReferenceError::NoMemory) => Err(LinkFault::NoMemory),
+        Err(ReferenceError::NoMemory) => Err(SchemaFault::NoMemory),
     }
 }
 
 impl Link {
     /// The link of the files, where their imports, names and references have no fault; else the least fault by phase,
     /// path, offset and number.
-    pub fn new(alloc: Global, files: &Files) -> Result<Link, LinkFault>
+    pub fn new(alloc: Global, files: &Files) -> Result<Link, SchemaFault>
         ensures link { IfOk result (IsLinkOf files.now) }
         ensures clean { IfOk result (λ _. HasNoFault (LinkFaults files.now)) }
         ensures read { IfOk result (λ _. (reads : List ReadOf) × AreRead files.now reads) }

@@ -7,7 +7,7 @@ use Rattle.proto_text.proofs.Once.{one_token_list}
 use Rattle.proto_text.specs.Texts.{words}
 use Rattle.proto_text.specs.Tokens.{AreTokens}
 use Rattle.proto_text.specs.declared.lexer.Token.{Token}
-use Rattle.proto_names.specs.Joined.{IsPlain, ArePlain}
+use Rattle.proto_meaning.specs.Joined.{IsPlain, ArePlain}
 
 pub plain : (b : ℕ) (w : List ℕ) → list_any (λ x. x == 46) (b ∷ w) ≡ false → IsPlain (b ∷ w)
 plain b w h = (h, λ e. absurd (omega (arith, ap length e)))

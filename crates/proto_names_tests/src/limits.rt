@@ -1,11 +1,12 @@
 //! Many files, and long paths.
 
 use super::calls::{answer, answer_of, link, read};
-use std::alloc::{AllocError, Global};
+use proto_faults::NoMemory;
+use std::alloc::Global;
 use std::test::Fail;
 
 // Empty files, `f0.proto` and so on.
-fn empty_files(alloc: Global, count: u32) -> Result<Vec<(String, Vec<u8>)>, AllocError> {
+fn empty_files(alloc: Global, count: u32) -> Result<Vec<(String, Vec<u8>)>, NoMemory> {
     let mut files = Vec::new(alloc);
     for file in 0..count {
         let path = format!(in alloc; "f{file}.proto")?;
@@ -26,7 +27,7 @@ fn many_files(rt: HostRuntime) -> Result<(), Fail> {
 }
 
 // A path of this many bytes.
-fn path(alloc: Global, bytes: usize) -> Result<String, AllocError> {
+fn path(alloc: Global, bytes: usize) -> Result<String, NoMemory> {
     let mut path = String::new(alloc);
     for _ in 6..bytes {
         path.push('a')?;
@@ -55,7 +56,7 @@ fn chain(
     count: u32,
     how: &str,
     last: &str,
-) -> Result<Vec<(String, Vec<u8>)>, AllocError> {
+) -> Result<Vec<(String, Vec<u8>)>, NoMemory> {
     let mut files = Vec::new(alloc);
     for place in 0..count {
         let file = place.wrapping_add(1001);

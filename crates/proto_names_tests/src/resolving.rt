@@ -1,7 +1,7 @@
 //! What a reference means in scopes that are given, declared or not.
 
 ghost use Rattle.std.specs.Prelude.{◌≡◌, ℕ, List, IfOk};
-ghost use Rattle.proto_names.specs.Joined.{joined, ArePlain};
+ghost use Rattle.proto_meaning.specs.Joined.{joined, ArePlain};
 ghost use Rattle.proto_names.specs.LinkOfFiles.{IsLinkOf};
 
 use super::calls::read_texts;
@@ -30,7 +30,7 @@ fn meant<'a>(alloc: Global, link: &'a Link, files: &Files, scope: &str) -> Resul
     if files.is_empty() {
         return Err(Fail::from("no file"));
     }
-    let words = Words::new(files.source(0), files.tokens(0));
+    let words = Words::new(files, 0);
     if words.get(FIELD_TYPE) != "foo" {
         return Err(Fail::from("another word"));
     }

@@ -1,3 +1,5 @@
+pub mod JsonNames
+pub mod Labels
 pub mod Numbers
 pub mod Options
 pub mod Parts

@@ -13,7 +13,7 @@ use Rattle.proto_tree.specs.declared.tree.Reference.{Reference}
 use Rattle.proto_tree.specs.declared.piece.Statement.{Statement}
 use Rattle.proto_tree.specs.declared.piece.Statement.TheVariants as statement
 use Rattle.proto_tree.specs.Tree.{Tree}
-use Rattle.proto_names.specs.FromTree.{first_of}
+use Rattle.proto_tree.specs.References.{first_of}
 use Rattle.proto_parts.specs.Numbers.{number_of, signed_by}
 use Rattle.proto_parts.specs.Parts.{statements}
 
@@ -35,6 +35,10 @@ pub record Scene : Type 0 where
   pub cap : Option ℕ
   pub is_proto3 : Bool
   pub means : List MeantOf
+
+-- the same file, with its numbers as they are
+abbrev pub uncapped : Scene → Scene
+uncapped scene = record scene { cap = None }
 
 -- the text of the token with an index
 abbrev pub text : Scene → ℕ → List ℕ

@@ -4,8 +4,9 @@ ghost use Rattle.std.specs.Prelude.{◌≡◌, map, option_map, option_to_list, 
 ghost use Rattle.proto_tree.specs.File.{enum_item_tree, trees};
 ghost use Rattle.proto_parts.specs.Parts.{values_in};
 
+use proto_faults::NoMemory;
 use proto_tree::{EnumItem, Value};
-use std::alloc::{AllocError, Global};
+use std::alloc::Global;
 
 fn value(item: &EnumItem) -> Option<&Value>
     ensures { option_to_list (option_map (λ v. v.now) result) ≡ values_in (enum_item_tree item.now) }
@@ -18,7 +19,7 @@ fn value(item: &EnumItem) -> Option<&Value>
 
 /// The values of an enum, in order.
 #[tactic(auto, using(crate::proofs::Statements::parts_joined))]
-pub fn values<'a>(alloc: Global, items: &'a [EnumItem]) -> Result<Vec<&'a Value>, AllocError>
+pub fn values<'a>(alloc: Global, items: &'a [EnumItem]) -> Result<Vec<&'a Value>, NoMemory>
     ensures { IfOk result (λ found. map (λ v. v.now) found.items ≡ values_in (trees enum_item_tree items.now)) }
 {
     let mut found = Vec::new(alloc);

@@ -5,8 +5,9 @@ ghost use Rattle.proto_tree.specs.File.{field_tree, member_tree, trees};
 ghost use Rattle.proto_parts.specs.Parts.{fields_from, fields_in, map_field, oneof_count, option_of_setting, plain_field, separated, settings_of, statement_fields, statements};
 ghost use Rattle.proto_parts.specs.Views.{field_of, option_of};
 
+use proto_faults::NoMemory;
 use proto_tree::{Constant, Field, FieldType, MapField, Member, Separated, Setting, Settings};
-use std::alloc::{AllocError, Global};
+use std::alloc::Global;
 
 /// An option: the token of its name, and its value.
 #[derive(Clone, Copy)]
@@ -40,7 +41,7 @@ fn option_at(setting: &Setting) -> OptionAt<'_>
 fn options_listed<'a>(
     alloc: Global,
     list: &'a Separated<Setting>,
-) -> Result<Vec<OptionAt<'a>>, AllocError>
+) -> Result<Vec<OptionAt<'a>>, NoMemory>
     ensures { IfOk result (λ options. map option_of options.items ≡ map option_of_setting (separated list.now)) }
 {
     let mut options = Vec::new(alloc);
@@ -55,7 +56,7 @@ fn options_listed<'a>(
 pub fn options_between<'a>(
     alloc: Global,
     settings: Option<&'a Settings>,
-) -> Result<Vec<OptionAt<'a>>, AllocError>
+) -> Result<Vec<OptionAt<'a>>, NoMemory>
     ensures { IfOk result (λ options. map option_of options.items ≡ settings_of (option_map (λ s. s.now) settings.entry)) }
 {
     match settings {
@@ -96,7 +97,7 @@ fn push_oneof<'a>(
     found: &mut Vec<FieldAt<'a>>,
     before: usize,
     fields: &'a [Field],
-) -> Result<(), AllocError>
+) -> Result<(), NoMemory>
     ensures { OnOk result (map field_of found.new.items ≡ map field_of found.old.items ++ flat_map (statement_fields (Some before)) (statements (trees field_tree fields.now))) }
 {
     for field in fields {
@@ -109,7 +110,7 @@ fn push_fields<'a>(
     found: &mut Vec<FieldAt<'a>>,
     before: usize,
     member: &'a Member,
-) -> Result<(), AllocError>
+) -> Result<(), NoMemory>
     ensures { OnOk result (map field_of found.new.items ≡ map field_of found.old.items ++ fields_from before (member_tree member.now)) }
 {
     match member {
@@ -133,7 +134,7 @@ fn oneof_count(member: &Member) -> usize
 
 /// The fields of a message, with those of its oneofs, in order.
 #[tactic(auto, using(crate::proofs::Statements::fields_joined))]
-pub fn fields_of<'a>(alloc: Global, members: &'a [Member]) -> Result<Vec<FieldAt<'a>>, AllocError>
+pub fn fields_of<'a>(alloc: Global, members: &'a [Member]) -> Result<Vec<FieldAt<'a>>, NoMemory>
     ensures { IfOk result (λ fields. map field_of fields.items ≡ fields_in (trees member_tree members.now)) }
 {
     let mut fields = Vec::new(alloc);

@@ -3,8 +3,11 @@
 
 mod enum_values;
 mod fields;
+mod json_names;
+mod labels;
 mod numbers;
 mod option_statements;
+mod option_values;
 mod options;
 mod ranges;
 mod reserved;
@@ -14,9 +17,14 @@ mod version;
 
 pub use enum_values::values;
 pub use fields::{FieldAt, OptionAt, fields_of, options_between};
+pub use json_names::json_name;
+pub use labels::has_label;
 pub use numbers::number_of;
 pub use option_statements::{
     enum_options, file_options, message_options, method_options, service_options,
+};
+pub use option_values::{
+    is_allowed, option_named, text_option, text_value, truth, truth_option, word, word_option,
 };
 pub use options::{Element, ValueKind, value_kind};
 pub use ranges::{closed_ranges, enum_ranges, extension_ranges, extension_words, reserved_ranges};

@@ -6,8 +6,9 @@ ghost use Rattle.proto_parts.specs.Parts.{options_in};
 ghost use Rattle.proto_parts.specs.Views.{option_of};
 
 use crate::fields::OptionAt;
+use proto_faults::NoMemory;
 use proto_tree::{EnumItem, File, Item, Member, MethodItem, Option_, ServiceItem};
-use std::alloc::{AllocError, Global};
+use std::alloc::Global;
 
 fn option_at(option: &Option_) -> OptionAt<'_>
     ensures { option_of result ≡ record { name = option.now.name; value = option.now.value } }
@@ -32,7 +33,7 @@ fn message_option(member: &Member) -> Option<OptionAt<'_>>
 pub fn message_options<'a>(
     alloc: Global,
     members: &'a [Member],
-) -> Result<Vec<OptionAt<'a>>, AllocError>
+) -> Result<Vec<OptionAt<'a>>, NoMemory>
     ensures { IfOk result (λ found. map option_of found.items ≡ options_in (trees member_tree members.now)) }
 {
     let mut found = Vec::new(alloc);
@@ -55,10 +56,7 @@ fn enum_option(item: &EnumItem) -> Option<OptionAt<'_>>
 
 /// The option statements right in an enum, in order.
 #[tactic(auto, using(crate::proofs::Statements::parts_joined))]
-pub fn enum_options<'a>(
-    alloc: Global,
-    items: &'a [EnumItem],
-) -> Result<Vec<OptionAt<'a>>, AllocError>
+pub fn enum_options<'a>(alloc: Global, items: &'a [EnumItem]) -> Result<Vec<OptionAt<'a>>, NoMemory>
     ensures { IfOk result (λ found. map option_of found.items ≡ options_in (trees enum_item_tree items.now)) }
 {
     let mut found = Vec::new(alloc);
@@ -84,7 +82,7 @@ fn service_option(item: &ServiceItem) -> Option<OptionAt<'_>>
 pub fn service_options<'a>(
     alloc: Global,
     items: &'a [ServiceItem],
-) -> Result<Vec<OptionAt<'a>>, AllocError>
+) -> Result<Vec<OptionAt<'a>>, NoMemory>
     ensures { IfOk result (λ found. map option_of found.items ≡ options_in (trees service_item_tree items.now)) }
 {
     let mut found = Vec::new(alloc);
@@ -110,7 +108,7 @@ fn method_option(item: &MethodItem) -> Option<OptionAt<'_>>
 pub fn method_options<'a>(
     alloc: Global,
     items: &'a [MethodItem],
-) -> Result<Vec<OptionAt<'a>>, AllocError>
+) -> Result<Vec<OptionAt<'a>>, NoMemory>
     ensures { IfOk result (λ found. map option_of found.items ≡ options_in (trees method_item_tree items.now)) }
 {
     let mut found = Vec::new(alloc);
@@ -133,7 +131,7 @@ fn file_option(item: &Item) -> Option<OptionAt<'_>>
 
 /// The option statements right in a file, in order.
 #[tactic(auto, using(crate::proofs::Statements::parts_joined))]
-pub fn file_options<'a>(alloc: Global, file: &'a File) -> Result<Vec<OptionAt<'a>>, AllocError>
+pub fn file_options<'a>(alloc: Global, file: &'a File) -> Result<Vec<OptionAt<'a>>, NoMemory>
     ensures { IfOk result (λ found. map option_of found.items ≡ options_in (tree_of_file file.now)) }
 {
     let mut found = Vec::new(alloc);

@@ -5,13 +5,14 @@ ghost use Rattle.proto_tree.specs.File.{enum_item_tree, member_tree, trees};
 ghost use Rattle.proto_parts.specs.Parts.{closed_ranges, enum_ranges, extension_ranges, extension_words, ranges_of, reserved_ranges, statements};
 
 use crate::separated::push_separated;
+use proto_faults::NoMemory;
 use proto_tree::{EnumItem, Member, Range, ReservedList, Signed};
-use std::alloc::{AllocError, Global};
+use std::alloc::Global;
 
 fn push_reserved<'a, N: Drop>(
     found: &mut Vec<&'a Range<N>>,
     list: &'a ReservedList<N>,
-) -> Result<(), AllocError>
+) -> Result<(), NoMemory>
     ensures { OnOk result (map (λ r. r.now) found.new.items ≡ map (λ r. r.now) found.old.items ++ ranges_of list.now) }
 {
     match list {
@@ -23,7 +24,7 @@ fn push_reserved<'a, N: Drop>(
 fn push_reserved_ranges<'a>(
     found: &mut Vec<&'a Range<u32>>,
     member: &'a Member,
-) -> Result<(), AllocError>
+) -> Result<(), NoMemory>
     ensures { OnOk result (map (λ r. r.now) found.new.items ≡ map (λ r. r.now) found.old.items ++ flat_map reserved_ranges (statements (member_tree member.now))) }
 {
     match member {
@@ -37,7 +38,7 @@ fn push_reserved_ranges<'a>(
 pub fn reserved_ranges<'a>(
     alloc: Global,
     members: &'a [Member],
-) -> Result<Vec<&'a Range<u32>>, AllocError>
+) -> Result<Vec<&'a Range<u32>>, NoMemory>
     ensures { IfOk result (λ found. map (λ r. r.now) found.items ≡ flat_map reserved_ranges (statements (trees member_tree members.now))) }
 {
     let mut found = Vec::new(alloc);
@@ -50,7 +51,7 @@ pub fn reserved_ranges<'a>(
 fn push_extension_ranges<'a>(
     found: &mut Vec<&'a Range<u32>>,
     member: &'a Member,
-) -> Result<(), AllocError>
+) -> Result<(), NoMemory>
     ensures { OnOk result (map (λ r. r.now) found.new.items ≡ map (λ r. r.now) found.old.items ++ flat_map extension_ranges (statements (member_tree member.now))) }
 {
     match member {
@@ -64,7 +65,7 @@ fn push_extension_ranges<'a>(
 pub fn extension_ranges<'a>(
     alloc: Global,
     members: &'a [Member],
-) -> Result<Vec<&'a Range<u32>>, AllocError>
+) -> Result<Vec<&'a Range<u32>>, NoMemory>
     ensures { IfOk result (λ found. map (λ r. r.now) found.items ≡ flat_map extension_ranges (statements (trees member_tree members.now))) }
 {
     let mut found = Vec::new(alloc);
@@ -77,7 +78,7 @@ pub fn extension_ranges<'a>(
 fn push_closed_ranges<'a>(
     found: &mut Vec<&'a Range<u32>>,
     member: &'a Member,
-) -> Result<(), AllocError>
+) -> Result<(), NoMemory>
     ensures { OnOk result (map (λ r. r.now) found.new.items ≡ map (λ r. r.now) found.old.items ++ flat_map closed_ranges (statements (member_tree member.now))) }
 {
     match member {
@@ -92,7 +93,7 @@ fn push_closed_ranges<'a>(
 pub fn closed_ranges<'a>(
     alloc: Global,
     members: &'a [Member],
-) -> Result<Vec<&'a Range<u32>>, AllocError>
+) -> Result<Vec<&'a Range<u32>>, NoMemory>
     ensures { IfOk result (λ found. map (λ r. r.now) found.items ≡ flat_map closed_ranges (statements (trees member_tree members.now))) }
 {
     let mut found = Vec::new(alloc);
@@ -113,7 +114,7 @@ fn extension_word(member: &Member) -> Option<u32>
 
 /// The tokens of the word `extensions` of each such statement of a message, in order.
 #[tactic(auto, using(crate::proofs::Statements::parts_joined))]
-pub fn extension_words(alloc: Global, members: &[Member]) -> Result<Vec<u32>, AllocError>
+pub fn extension_words(alloc: Global, members: &[Member]) -> Result<Vec<u32>, NoMemory>
     ensures { IfOk result (λ found. found.items ≡ flat_map extension_words (statements (trees member_tree members.now))) }
 {
     let mut found = Vec::new(alloc);
@@ -128,7 +129,7 @@ pub fn extension_words(alloc: Global, members: &[Member]) -> Result<Vec<u32>, Al
 fn push_enum_ranges<'a>(
     found: &mut Vec<&'a Range<Signed>>,
     item: &'a EnumItem,
-) -> Result<(), AllocError>
+) -> Result<(), NoMemory>
     ensures { OnOk result (map (λ r. r.now) found.new.items ≡ map (λ r. r.now) found.old.items ++ flat_map enum_ranges (statements (enum_item_tree item.now))) }
 {
     match item {
@@ -142,7 +143,7 @@ fn push_enum_ranges<'a>(
 pub fn enum_ranges<'a>(
     alloc: Global,
     items: &'a [EnumItem],
-) -> Result<Vec<&'a Range<Signed>>, AllocError>
+) -> Result<Vec<&'a Range<Signed>>, NoMemory>
     ensures { IfOk result (λ found. map (λ r. r.now) found.items ≡ flat_map enum_ranges (statements (trees enum_item_tree items.now))) }
 {
     let mut found = Vec::new(alloc);

@@ -5,10 +5,11 @@ ghost use Rattle.proto_tree.specs.File.{enum_item_tree, member_tree, trees};
 ghost use Rattle.proto_parts.specs.Parts.{names_of, reserved_names_in};
 
 use crate::separated::push_tokens;
+use proto_faults::NoMemory;
 use proto_tree::{EnumItem, Member, ReservedList};
-use std::alloc::{AllocError, Global};
+use std::alloc::Global;
 
-fn push_names<N: Drop>(found: &mut Vec<u32>, list: &ReservedList<N>) -> Result<(), AllocError>
+fn push_names<N: Drop>(found: &mut Vec<u32>, list: &ReservedList<N>) -> Result<(), NoMemory>
     ensures { OnOk result (found.new.items ≡ found.old.items ++ names_of list.now) }
 {
     match list {
@@ -17,7 +18,7 @@ fn push_names<N: Drop>(found: &mut Vec<u32>, list: &ReservedList<N>) -> Result<(
     }
 }
 
-fn push_reserved_names(found: &mut Vec<u32>, member: &Member) -> Result<(), AllocError>
+fn push_reserved_names(found: &mut Vec<u32>, member: &Member) -> Result<(), NoMemory>
     ensures { OnOk result (found.new.items ≡ found.old.items ++ reserved_names_in (member_tree member.now)) }
 {
     match member {
@@ -28,7 +29,7 @@ fn push_reserved_names(found: &mut Vec<u32>, member: &Member) -> Result<(), Allo
 
 /// The tokens of the names that a message reserves, in order.
 #[tactic(auto, using(crate::proofs::Statements::parts_joined))]
-pub fn reserved_names(alloc: Global, members: &[Member]) -> Result<Vec<u32>, AllocError>
+pub fn reserved_names(alloc: Global, members: &[Member]) -> Result<Vec<u32>, NoMemory>
     ensures { IfOk result (λ found. found.items ≡ reserved_names_in (trees member_tree members.now)) }
 {
     let mut found = Vec::new(alloc);
@@ -38,7 +39,7 @@ pub fn reserved_names(alloc: Global, members: &[Member]) -> Result<Vec<u32>, All
     Ok(found)
 }
 
-fn push_enum_reserved_names(found: &mut Vec<u32>, item: &EnumItem) -> Result<(), AllocError>
+fn push_enum_reserved_names(found: &mut Vec<u32>, item: &EnumItem) -> Result<(), NoMemory>
     ensures { OnOk result (found.new.items ≡ found.old.items ++ reserved_names_in (enum_item_tree item.now)) }
 {
     match item {
@@ -49,7 +50,7 @@ fn push_enum_reserved_names(found: &mut Vec<u32>, item: &EnumItem) -> Result<(),
 
 /// The tokens of the names that an enum reserves, in order.
 #[tactic(auto, using(crate::proofs::Statements::parts_joined))]
-pub fn enum_reserved_names(alloc: Global, items: &[EnumItem]) -> Result<Vec<u32>, AllocError>
+pub fn enum_reserved_names(alloc: Global, items: &[EnumItem]) -> Result<Vec<u32>, NoMemory>
     ensures { IfOk result (λ found. found.items ≡ reserved_names_in (trees enum_item_tree items.now)) }
 {
     let mut found = Vec::new(alloc);

@@ -12,9 +12,10 @@ ghost use Rattle.proto_parts.specs.Scenes.{number_at, signed_at, meant_by, enum_
 ghost use Rattle.proto_parts.specs.Views.{enum_of, meant_of};
 
 use crate::numbers::number_of;
+use proto_faults::NoMemory;
 use proto_text::{Source, Token, TokenKind, string_value};
 use proto_tree::{Reference, Signed};
-use std::alloc::{AllocError, Global};
+use std::alloc::Global;
 use std::marker::Model;
 
 /// What is read of an enum: whether its file is proto3, whether it has a first value that is not 0, and the names of
@@ -68,7 +69,7 @@ fn text_in<'a>(source: &'a Source, tokens: &'a [Token], token: u32) -> &'a str
     }
 }
 
-fn token_value(alloc: Global, source: &Source, token: &Token) -> Result<String, AllocError>
+fn token_value(alloc: Global, source: &Source, token: &Token) -> Result<String, NoMemory>
     requires span { IsSpan source.now token.now.span }
     requires lexeme { IsLexeme (Solid token.now.kind) (text_at source.now token.now.span) }
     ensures { IfOk result (λ s. string_bytes s ≡ string_of (Some (lexeme_at source.now token.now))) }
@@ -84,7 +85,7 @@ fn string_in(
     source: &Source,
     tokens: &[Token],
     token: u32,
-) -> Result<String, AllocError>
+) -> Result<String, NoMemory>
     requires tokens { AreTokens source.now tokens.now }
     requires spans { All (λ t. IsSpan source.now t.span) tokens.now }
     ensures { IfOk result (λ s. string_bytes s ≡ value_in (map (lexeme_at source.now) tokens.now) token) }
@@ -134,7 +135,7 @@ impl<'a> Scene<'a> {
     }
 
     /// The value of the string token with this index; empty for another token.
-    pub fn string(&self, alloc: Global, token: u32) -> Result<String, AllocError>
+    pub fn string(&self, alloc: Global, token: u32) -> Result<String, NoMemory>
         ensures { IfOk result (λ s. string_bytes s ≡ value self.now token) }
     {
         string_in(alloc, self.source, self.tokens, token)

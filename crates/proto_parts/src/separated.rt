@@ -3,13 +3,13 @@
 ghost use Rattle.std.specs.Prelude.{◌≡◌, ◌++◌, map, OnOk};
 ghost use Rattle.proto_parts.specs.Parts.{separated};
 
+use proto_faults::NoMemory;
 use proto_tree::Separated;
-use std::alloc::AllocError;
 
 pub(crate) fn push_separated<'a, T: Drop>(
     found: &mut Vec<&'a T>,
     items: &'a Separated<T>,
-) -> Result<(), AllocError>
+) -> Result<(), NoMemory>
     ensures { OnOk result (map (λ r. r.now) found.new.items ≡ map (λ r. r.now) found.old.items ++ separated items.now) }
 {
     found.push(&items.first)?;
@@ -19,7 +19,7 @@ pub(crate) fn push_separated<'a, T: Drop>(
     Ok(())
 }
 
-pub(crate) fn push_tokens(found: &mut Vec<u32>, tokens: &Separated<u32>) -> Result<(), AllocError>
+pub(crate) fn push_tokens(found: &mut Vec<u32>, tokens: &Separated<u32>) -> Result<(), NoMemory>
     ensures { OnOk result (found.new.items ≡ found.old.items ++ separated tokens.now) }
 {
     found.push(tokens.first)?;

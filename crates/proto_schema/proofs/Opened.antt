@@ -2,27 +2,24 @@
 use Rattle.std.proofs.Common.{◌≡◌, ◌<◌, ◌⊎◌, inl, inr, ⊎_elim, List, None, sym, subst, arith}
 use Rattle.std.specs.Prelude.{IsPermutation}
 use Rattle.std.proofs.lemmas.List.Sorted.{IsPermutation-sym, IsPermutation-trans, All-permutation, length_permutation}
-use Rattle.proto_files.specs.FaultTable.{phase_of}
+use Rattle.proto_faults.specs.FaultTable.{phase_of}
 use Rattle.proto_files.specs.Faults.{FaultAt, fault_at, ComesBefore, IsLeastFault, HasNoFault, IsFilesError}
 use Rattle.proto_files.specs.GivenFiles.{FileOf, paths_of, AreWorkspaceFiles}
 use Rattle.proto_files.specs.PathFaults.{PathFaults}
 use Rattle.proto_files.specs.ReadFaults.{ReadFaults}
 use Rattle.proto_files.specs.WorkspacePaths.{IsWorkspacePath}
-use Rattle.proto_files.specs.declared.fault.FilesFault.{FilesFault}
-use Rattle.proto_files.specs.declared.fault.FilesFault.TheVariants as files_fault
+use Rattle.proto_faults.specs.declared.fault.SchemaFault.{SchemaFault}
+use Rattle.proto_faults.specs.declared.fault.SchemaFault.TheVariants.{Schema, NoMemory}
 use Rattle.proto_files.proofs.FaultOrder.{comes_before_cases}
 use Rattle.proto_files.proofs.OneOrder.{one_order, paths_are_phase_0, texts_are_phase_1, grammar_is_phase_2}
 use Rattle.proto_names.specs.LinkErrors.{IsLinkError}
-use Rattle.proto_names.specs.Links.{read_at, LinkFaults, of_import, of_name, of_reference}
-use Rattle.proto_names.specs.declared.link_fault.LinkFault.{LinkFault}
-use Rattle.proto_names.specs.declared.link_fault.LinkFault.TheVariants as link_fault
+use Rattle.proto_files.specs.FilesRead.{read_at}
+use Rattle.proto_imports.specs.Links.{LinkFaults, of_import, of_name, of_reference}
 use Rattle.proto_names.proofs.FaultPlaces.{import_found, name_found, reference_found}
 use Rattle.proto_checks.proofs.Phases.{flaws_are_of_checks}
 use Rattle.proto_desc.specs.Checked.{CheckFaults, of_flaw, IsCheckError}
-use Rattle.proto_desc.specs.SceneOf.{scene_of}
-use Rattle.proto_desc.specs.declared.check_fault.CheckFault.{CheckFault}
-use Rattle.proto_desc.specs.declared.check_fault.CheckFault.TheVariants as check_fault
-use Rattle.proto_schema.specs.Answers.{IsOpenError, of_files, of_link, of_check}
+use Rattle.proto_scenes.specs.SceneOf.{scene_of}
+use Rattle.proto_schema.specs.Answers.{IsOpenError}
 use Rattle.proto_schema.specs.Whole.{IsSortedOf, FileFaults, of_read, of_link as of_linking, of_check as of_checking, WorkspaceFaults, of_path, of_files as of_sorted}
 
 -- ---- phases
@@ -137,13 +134,13 @@ files_first given sorted x named same workspace least =
 
 -- ---- the answers
 
-pub path_error : (given : List FileOf) (e : FilesFault) → IsFilesError (PathFaults 4096 (paths_of given)) e → IsOpenError given (of_files e)
-path_error given (files_fault.Schema fault) h = paths_first given (fault_at fault) h
-path_error given files_fault.NoMemory h = tt
+pub path_error : (given : List FileOf) (e : SchemaFault) → IsFilesError (PathFaults 4096 (paths_of given)) e → IsOpenError given e
+path_error given (Schema fault) h = paths_first given (fault_at fault) h
+path_error given NoMemory h = tt
 
-pub read_error : (given sorted : List FileOf) (e : FilesFault) → HasNoFault (PathFaults 4096 (paths_of given)) → IsPermutation given sorted → AreWorkspaceFiles sorted → IsFilesError (ReadFaults sorted) e → IsOpenError given (of_files e)
-read_error given sorted (files_fault.Schema fault) named same workspace h = files_first given sorted (fault_at fault) named same workspace (read_first sorted (fault_at fault) h)
-read_error given sorted files_fault.NoMemory named same workspace h = tt
+pub read_error : (given sorted : List FileOf) (e : SchemaFault) → HasNoFault (PathFaults 4096 (paths_of given)) → IsPermutation given sorted → AreWorkspaceFiles sorted → IsFilesError (ReadFaults sorted) e → IsOpenError given e
+read_error given sorted (Schema fault) named same workspace h = files_first given sorted (fault_at fault) named same workspace (read_first sorted (fault_at fault) h)
+read_error given sorted NoMemory named same workspace h = tt
 
 -- the files given, in order and read
 pub record AreReadOf (given files : List FileOf) : Type 0 where
@@ -155,13 +152,13 @@ pub record AreReadOf (given files : List FileOf) : Type 0 where
 pub are_read : (given sorted files : List FileOf) → files ≡ sorted → HasNoFault (PathFaults 4096 (paths_of given)) → IsPermutation given sorted → AreWorkspaceFiles sorted → HasNoFault (ReadFaults sorted) → AreReadOf given files
 are_read given sorted files e named same workspace clean = subst (AreReadOf given) (sym e) (record { named = named; same = same; workspace = workspace; clean = clean })
 
-pub link_error : (given files : List FileOf) (e : LinkFault) → AreReadOf given files → IsLinkError files e → IsOpenError given (of_link e)
-link_error given files (link_fault.Schema fault) r h = files_first given files (fault_at fault) r.named r.same r.workspace (link_first files (fault_at fault) r.clean h)
-link_error given files link_fault.NoMemory r h = tt
+pub link_error : (given files : List FileOf) (e : SchemaFault) → AreReadOf given files → IsLinkError files e → IsOpenError given e
+link_error given files (Schema fault) r h = files_first given files (fault_at fault) r.named r.same r.workspace (link_first files (fault_at fault) r.clean h)
+link_error given files NoMemory r h = tt
 
-pub check_error : (given files : List FileOf) (e : CheckFault) → AreReadOf given files → HasNoFault (LinkFaults files) → IsCheckError files e → IsOpenError given (of_check e)
-check_error given files (check_fault.Schema fault) r linked h = files_first given files (fault_at fault) r.named r.same r.workspace (check_first files (fault_at fault) r.clean linked h)
-check_error given files check_fault.NoMemory r linked h = tt
+pub check_error : (given files : List FileOf) (e : SchemaFault) → AreReadOf given files → HasNoFault (LinkFaults files) → IsCheckError files e → IsOpenError given e
+check_error given files (Schema fault) r linked h = files_first given files (fault_at fault) r.named r.same r.workspace (check_first files (fault_at fault) r.clean linked h)
+check_error given files NoMemory r linked h = tt
 
 pub no_file_fault : (given files : List FileOf) → AreReadOf given files → HasNoFault (LinkFaults files) → HasNoFault (CheckFaults files) → HasNoFault (FileFaults files)
 no_file_fault given files r linked checked = none_of_files files r.clean linked checked

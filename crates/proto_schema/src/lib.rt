@@ -1,8 +1,7 @@
 //! Schemas that compile: files from their bytes to their descriptors.
 #![tactic(auto)]
 
-mod fault;
 mod schema;
 
-pub use fault::OpenFault;
+pub use proto_faults::SchemaFault as OpenFault;
 pub use schema::Schema;

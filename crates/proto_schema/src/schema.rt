@@ -6,12 +6,12 @@ ghost use Rattle.proto_json.specs.Views.{files_desc};
 ghost use Rattle.proto_files.specs.Faults.{HasNoFault};
 ghost use Rattle.proto_files.specs.GivenFiles.{files_of};
 ghost use Rattle.proto_names.specs.LinkOfFiles.{IsLinkOf};
-ghost use Rattle.proto_names.specs.Links.{ReadOf, AreRead};
+ghost use Rattle.proto_files.specs.FilesRead.{ReadOf, AreRead};
 ghost use Rattle.proto_schema.specs.Answers.{IsOpenError};
 ghost use Rattle.proto_schema.specs.Whole.{FileFaults, WorkspaceFaults, IsSortedOf};
 
-use crate::fault::OpenFault;
 use proto_desc::{Descriptors, check};
+use proto_faults::SchemaFault;
 use proto_files::{Files, Paths};
 use proto_names::{Link, are_read};
 use std::alloc::Global;
@@ -45,7 +45,7 @@ impl Model for Schema {
 impl Schema {
     /// The files given, in the order of their paths, where they compile; else their least fault by phase, path, offset
     /// and number.
-    pub fn open(alloc: Global, files: Vec<(String, Vec<u8>)>) -> Result<Schema, OpenFault>
+    pub fn open(alloc: Global, files: Vec<(String, Vec<u8>)>) -> Result<Schema, SchemaFault>
         ensures files { IfOk result (λ s. IsSortedOf (files_of files.items) s) }
         ensures clean { IfOk result (λ _. HasNoFault (WorkspaceFaults (files_of files.items))) }
         ensures fault { IfErr result (λ e. IsOpenError (files_of files.items) e) }

@@ -1,15 +1,15 @@
 //! Compiling, with what tests say of the answer.
 
 use proto_desc::to_json;
-use proto_files::Fault;
-use proto_schema::{OpenFault, Schema};
-use std::alloc::{AllocError, Global};
+use proto_faults::{Fault, NoMemory, SchemaFault};
+use proto_schema::Schema;
+use std::alloc::Global;
 
 /// Files for a workspace: paths and texts.
 pub(crate) fn given(
     alloc: Global,
     texts: &[(&str, &str)],
-) -> Result<Vec<(String, Vec<u8>)>, AllocError> {
+) -> Result<Vec<(String, Vec<u8>)>, NoMemory> {
     let mut files = Vec::new(alloc);
     for &(path, text) in texts {
         let path = String::from_str(alloc, path)?;
@@ -19,30 +19,27 @@ pub(crate) fn given(
 }
 
 // A fault as `path:offset: number name`.
-fn fault_text(alloc: Global, fault: &Fault) -> Result<String, AllocError> {
+fn fault_text(alloc: Global, fault: &Fault) -> Result<String, NoMemory> {
     let (offset, number, name) = (fault.offset, fault.number(), fault.name());
     let path = fault.path.as_str();
-    format!(in alloc; "{path}:{offset}: {number} {name}")
+    Ok(format!(in alloc; "{path}:{offset}: {number} {name}")?)
 }
 
 /// The descriptors of files as JSON, or their fault.
-pub(crate) fn answer_of(
-    alloc: Global,
-    given: Vec<(String, Vec<u8>)>,
-) -> Result<String, AllocError> {
+pub(crate) fn answer_of(alloc: Global, given: Vec<(String, Vec<u8>)>) -> Result<String, NoMemory> {
     match Schema::open(alloc, given) {
         Ok(schema) => to_json(alloc, schema.descriptors()),
-        Err(OpenFault::Schema(fault)) => fault_text(alloc, &fault),
-        Err(OpenFault::NoMemory) => String::from_str(alloc, "no memory"),
+        Err(SchemaFault::Schema(fault)) => fault_text(alloc, &fault),
+        Err(SchemaFault::NoMemory) => Ok(String::from_str(alloc, "no memory")?),
     }
 }
 
 /// The same of files by paths and texts.
-pub(crate) fn answer(alloc: Global, texts: &[(&str, &str)]) -> Result<String, AllocError> {
+pub(crate) fn answer(alloc: Global, texts: &[(&str, &str)]) -> Result<String, NoMemory> {
     answer_of(alloc, given(alloc, texts)?)
 }
 
 /// The same of one file, `a.proto`.
-pub(crate) fn answer_to(alloc: Global, text: &str) -> Result<String, AllocError> {
+pub(crate) fn answer_to(alloc: Global, text: &str) -> Result<String, NoMemory> {
     answer(alloc, &[("a.proto", text)])
 }

@@ -1,4 +1,4 @@
--- Edits, one after the other.
+-- Edits, one after the other (for the crates above).
 use Rattle.std.proofs.Common.{◌≡◌, ℕ, ◌+◌, ◌-◌, ◌<◌, ◌≤◌, List, [], ◌∷◌, ◌++◌, length, get_or, set, take, drop, refl, sym, ap, subst, ◌∙◌, arith, append_assoc}
 use Rattle.std.proofs.lemmas.List.{drop_more, take_more_set, drop-set-lt, length-append, length-take, take-append-drop, take_at, drop_at}
 use Rattle.std.specs.String.{string_bytes}

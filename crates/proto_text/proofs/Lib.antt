@@ -1,21 +1,22 @@
-pub mod CloseLoop
-pub mod Runs
 pub mod Begins
-pub mod Sequence
-pub mod Ends
-pub mod Units
-pub mod EndLoop
-pub mod WordChange
+mod CloseLoop
 pub mod EditLaws
-pub mod Spans
-pub mod PieceEdits
-pub mod Reading
-pub mod WordTest
-pub mod Values
+mod EndLoop
+mod Ends
+mod Grouping
+pub mod Lists
 pub mod Once
-pub mod Texts
 pub mod OneEdit
-pub mod Segments
 pub mod Order
-pub mod PutIn
-pub mod Grouping
+mod PieceEdits
+mod PutIn
+mod Reading
+mod Runs
+mod Segments
+pub mod Sequence
+pub mod Spans
+pub mod Texts
+mod Units
+pub mod Values
+pub mod WordChange
+pub mod WordTest

@@ -1,4 +1,4 @@
--- A text has one list of tokens, and edits put one text.
+-- A text has one list of tokens, and edits put one text (for the crates above).
 use Rattle.std.proofs.Common.{◌≡◌, ℕ, ◌+◌, List, [], ◌∷◌, ◌++◌, length, refl, sym, ap, subst, ◌∙◌, arith}
 use Rattle.std.proofs.lemmas.List.{length-append}
 use Rattle.proto_text.specs.Edits.{Edit, Puts, old_len, new_len}

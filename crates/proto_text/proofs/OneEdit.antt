@@ -1,4 +1,4 @@
--- The words after a change, and the edit of one word.
+-- The words after a change, and the edit of one word (for the crates above).
 use Rattle.std.proofs.Common.{◌≡◌, ◌≢◌, ℕ, zero, suc, ◌+◌, ◌<◌, ◌≤◌, List, [], ◌∷◌, ◌++◌, length, get_or, map, Option, Some, None, refl, sym, ap, ◌∙◌, arith}
 use Rattle.proto_text.specs.declared.lexer.Token.{Token}
 use Rattle.proto_text.specs.Edits.{Edit}

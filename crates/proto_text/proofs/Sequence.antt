@@ -1,4 +1,4 @@
--- Pieces one after the other: a front goes on by a piece, and there is one list of pieces.
+-- Pieces one after the other: a front goes on by a piece, and there is one list of pieces (for the crates above).
 use Rattle.std.proofs.Common.{◌≡◌, ℕ, ◌+◌, ◌≤◌, List, [], ◌∷◌, ◌++◌, length, take, drop, zero-add, ◌⊎◌, inl, inr, Result, Ok, Err, refl, sym, ap, subst, ◌∙◌, arith, append_assoc}
 use Rattle.std.proofs.lemmas.List.{take_at, append_cancel_left, append-nil, length-append, drop_at, nil_from_length, same_from_push}
 use Rattle.proto_text.specs.declared.kind.PieceKind.{PieceKind}

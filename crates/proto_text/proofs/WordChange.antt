@@ -1,4 +1,4 @@
--- A word in a word's place leaves the other pieces as they are.
+-- A word in a word's place leaves the other pieces as they are (for the crates above).
 use Rattle.std.proofs.Common.{◌≡◌, ℕ, Bool, true, false, not, eqb, List, [], ◌∷◌, ◌++◌, ◌⊎◌, inl, inr, refl, sym, ap, subst, ◌∙◌}
 use Rattle.std.proofs.lemmas.List.{append-nil, append_assoc}
 use Rattle.std.proofs.lemmas.Bool.{eqb-true}

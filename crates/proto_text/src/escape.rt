@@ -6,7 +6,8 @@ ghost use Rattle.std.specs.Str.{IsUtf8};
 ghost use Rattle.proto_text.specs.Bytes.{is_backslash, is_octal, is_hex};
 ghost use Rattle.proto_text.specs.Strings.{escape_of, digit_value, number_in, octal_at, hex_at, escape_at, unit_at, Means, IsAllowed};
 
-use std::alloc::{AllocError, Global};
+use proto_faults::NoMemory;
+use std::alloc::Global;
 
 /// What a character behind a backslash begins.
 #[derive(Clone, Copy)]
@@ -157,7 +158,7 @@ pub fn unit(bytes: &[u8]) -> Option<(u8, usize)>
 }
 
 /// The bytes that the text between the quotes stands for, if each escape is allowed.
-pub fn decoded(alloc: Global, body: &[u8]) -> Result<Option<Vec<u8>>, AllocError>
+pub fn decoded(alloc: Global, body: &[u8]) -> Result<Option<Vec<u8>>, NoMemory>
     ensures { IfOk result (λ found. MatchOption found
         ((all : List ℕ) → Means body.now all → ⊥)
         (λ values. Means body.now values.items)) }
@@ -192,7 +193,7 @@ fn has_backslash(bytes: &[u8]) -> bool
 }
 
 /// Whether each escape is allowed, and what the text stands for is UTF-8. A text without escapes takes no memory.
-pub fn is_allowed(alloc: Global, body: &[u8]) -> Result<bool, AllocError>
+pub fn is_allowed(alloc: Global, body: &[u8]) -> Result<bool, NoMemory>
     ensures { IfOk result (λ allowed. IsTrue allowed ↔ IsAllowed body.now) }
 {
     if !has_backslash(body) {

@@ -108,6 +108,14 @@ impl From<AllocError> for TextFault {
     }
 }
 
+impl From<proto_faults::NoMemory> for TextFault {
+    ghost from_gives = { λ _ e. e ≡ NoMemory };
+
+    fn from(_e: proto_faults::NoMemory) -> TextFault {
+        TextFault::NoMemory
+    }
+}
+
 impl<T: Drop> From<AllocFailed<T>> for TextFault {
     ghost from_gives = { λ _ e. e ≡ NoMemory };
 

@@ -11,8 +11,6 @@ mod lexer;
 mod scan;
 mod source;
 mod splice;
-#[cfg(test)]
-mod tests;
 mod value;
 mod word;
 

@@ -175,6 +175,14 @@ impl From<AllocError> for Stop {
     }
 }
 
+impl From<proto_faults::NoMemory> for Stop {
+    ghost from_gives = { λ _ e. e ≡ NoMemory };
+
+    fn from(_e: proto_faults::NoMemory) -> Stop {
+        Stop::NoMemory
+    }
+}
+
 fn is_text(kind: PieceKind) -> bool
     ensures { IsTrue result ↔ (kind ≡ PieceKind.Solid TokenKind.Text) }
 {

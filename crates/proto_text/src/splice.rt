@@ -67,6 +67,14 @@ impl From<AllocError> for SpliceFault {
     }
 }
 
+impl From<proto_faults::NoMemory> for SpliceFault {
+    ghost from_gives = { λ _ e. e ≡ NoMemory };
+
+    fn from(_e: proto_faults::NoMemory) -> SpliceFault {
+        SpliceFault::NoMemory
+    }
+}
+
 // What stands before the old text, and what behind it; the text begins at from.
 fn parts_at<'a>(rest: &'a [u8], from: usize, at: usize, old: &[u8]) -> Option<(&'a [u8], &'a [u8])>
     ensures { MatchOption result

@@ -6,7 +6,8 @@ ghost use Rattle.proto_text.specs.Strings.{IsString, Means};
 ghost use Rattle.proto_text.specs.Values.{StandsFor, says, value_of};
 
 use crate::escape::{decoded, unit};
-use std::alloc::{AllocError, Global};
+use proto_faults::NoMemory;
+use std::alloc::Global;
 
 // What stands between the first byte and the last.
 fn between(text: &[u8]) -> Option<&[u8]>
@@ -71,7 +72,7 @@ pub fn stands_for(text: &str, value: &[u8]) -> bool
 }
 
 /// The value of a string token, after its escapes.
-pub fn string_value(alloc: Global, text: &str) -> Result<String, AllocError>
+pub fn string_value(alloc: Global, text: &str) -> Result<String, NoMemory>
     requires { IsString text.now }
     ensures means { IfOk result (λ value. StandsFor text.now (string_bytes value)) }
     ensures value { IfOk result (λ value. value_of text.now ≡ Some (string_bytes value)) }

@@ -1,4 +1,4 @@
--- Readers that read exactly what is flattened.
+-- Readers that read exactly what is flattened (for the crates above).
 use Rattle.std.proofs.Common.{◌≡◌, ℕ, zero, suc, ◌≤◌, length, length-append, Bool, true, false, cond, List, [], ◌∷◌, ◌++◌, Option, Some, None, refl, sym, ap, subst, ◌∙◌, append_assoc, arith, ◌⊎◌, inl, inr}
 use Rattle.std.specs.Prelude.{option_and_then, ◌&&◌, ◌||◌, not}
 use Rattle.proto_tree.specs.declared.class.Class.{Class}

@@ -1,17 +1,17 @@
-pub mod Each
-pub mod Many
-pub mod Exact
-pub mod Rules
-pub mod PieceRules
-pub mod Walks
-pub mod Places
-pub mod Faults
+mod ClassLemmas
 pub mod Depth
-pub mod Nodes
-pub mod Table
-pub mod ClassLemmas
-pub mod OneFault
-pub mod WordLaws
+mod Each
+pub mod Exact
+pub mod Faults
+mod Many
 pub mod MarkLaws
-pub mod MoveLaws
-pub mod ReplaceLaws
+mod MoveLaws
+pub mod Nodes
+mod OneFault
+mod PieceRules
+pub mod Places
+mod ReplaceLaws
+mod Rules
+mod Table
+pub mod Walks
+pub mod WordLaws

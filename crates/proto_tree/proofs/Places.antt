@@ -1,4 +1,4 @@
--- Where a file goes wrong.
+-- Where a file goes wrong (for the crates above).
 use Rattle.std.proofs.Common.{◌≡◌, ℕ, zero, suc, ◌+◌, ◌-◌, ◌≤◌, Bool, true, false, cond, List, [], ◌∷◌, ◌++◌, length, Option, Some, None, refl, sym, ap, subst, ◌∙◌, append_assoc, arith}
 use Rattle.proto_tree.specs.declared.class.Class.{Class}
 use Rattle.proto_tree.specs.declared.class.Class.TheVariants as class

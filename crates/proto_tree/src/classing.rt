@@ -6,11 +6,12 @@ ghost use Rattle.proto_tree.specs.Reads.{classed, place_at};
 
 use crate::class::Lexeme;
 use crate::words::token_class;
+use proto_faults::NoMemory;
 use proto_text::{Source, Token};
-use std::alloc::{AllocError, Global};
+use std::alloc::Global;
 
 /// The class of each token, with its index.
-pub fn lexemes(alloc: Global, source: &Source, tokens: &[Token]) -> Result<Vec<Lexeme>, AllocError>
+pub fn lexemes(alloc: Global, source: &Source, tokens: &[Token]) -> Result<Vec<Lexeme>, NoMemory>
     requires spans { All (λ t. IsSpan source.now t.span) tokens.now }
     requires few { length tokens.now ≤ 1048576 }
     ensures { IfOk result (λ found. found.items ≡ classed source.now tokens.now) }

@@ -19,8 +19,6 @@ mod pieces;
 mod ranges;
 mod reading;
 mod statements;
-#[cfg(test)]
-mod tests;
 mod tree;
 mod words;
 

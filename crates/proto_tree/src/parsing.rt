@@ -69,6 +69,14 @@ impl From<AllocError> for ParseFault {
     }
 }
 
+impl From<proto_faults::NoMemory> for ParseFault {
+    ghost from_gives = { λ _ e. e ≡ NoMemory };
+
+    fn from(_error: proto_faults::NoMemory) -> Self {
+        ParseFault::NoMemory
+    }
+}
+
 fn read(alloc: Global, source: &Source, tokens: &[Token]) -> Result<File, ParseFault>
     requires { AreTokens source.now tokens.now }
     ensures { IsParsed source.now tokens.now result }

@@ -6,6 +6,7 @@ ghost use Rattle.proto_tree.specs.Reading.{Gives, token, starts, maybe_token, ma
 use crate::class::{Class, Lexeme, Want};
 use crate::list::Sequence;
 use crate::tree::{Behind, Separated};
+use proto_faults::NoMemory;
 use std::alloc::{AllocError, Global};
 
 /// Why a statement was not read.
@@ -22,6 +23,17 @@ impl From<AllocError> for Stop {
     ghost from_gives = { λ _ e. e ≡ Memory };
 
     fn from(_error: AllocError) -> Self {
+        Stop::Memory
+    }
+}
+
+impl From<NoMemory> for Stop {
+    ghost use Rattle.std.specs.Prelude.{◌≡◌};
+    ghost use Rattle.proto_tree.specs.declared.reading.Stop.TheVariants.{Memory};
+
+    ghost from_gives = { λ _ e. e ≡ Memory };
+
+    fn from(_error: NoMemory) -> Self {
         Stop::Memory
     }
 }

@@ -1,19 +1,10 @@
 //! `protoref`: a compiler and a linter of Protocol Buffers schemas.
 #![tactic(auto)]
 
-mod command_line;
-mod folder;
-mod linting;
-mod memory;
-mod output;
-mod place;
-mod run;
-mod store;
-
-use crate::command_line::{Request, WordsFault, read_words};
-use crate::folder::FolderStore;
-use crate::output::write_text;
-use crate::run::{Command, RunFault, fault_line, run};
+use proto_output::write_text;
+use proto_store::FolderStore;
+use protoref_run::{Command, RunFault, fault_line, run};
+use protoref_words::{Request, WordsFault, read_words};
 use std::process::ExitCode;
 use std::rt::{Env, Files};
 use std::{env, io};

@@ -1,10 +1,10 @@
 use Rattle.std.proofs.Common.{◌≡◌, ◌++◌, map, take, codes}
 use Rattle.std.specs.Prelude.{flat_map, ◌&&◌}
-use Rattle.proto_files.specs.declared.fault.FaultKind.TheVariants as kind
+use Rattle.proto_faults.specs.declared.fault.FaultKind.TheVariants as kind
 use Rattle.proto_parts.specs.Options.{is_named}
 use Rattle.proto_parts.specs.Scenes.{text}
 use Rattle.proto_parts.specs.Views.{option_of}
-use Rattle.proto_checks.specs.Flaws.{flaw_if}
+use Rattle.proto_numbers.specs.Flaws.{flaw_if}
 use Rattle.proto_checks.proofs.defaults.add_proto3_defaults.Given as goal
 
 abbrev pub invariant-loop-option : goal.invariant-loop-option

@@ -1,6 +1,6 @@
 use Rattle.std.proofs.Common.{◌∙◌}
 use Rattle.std.specs.Ordering.{int_eq}
-use Rattle.proto_checks.proofs.FlawLists.{flags_length}
+use Rattle.proto_numbers.proofs.FlawLists.{flags_length}
 use Rattle.proto_checks.proofs.enums.add_aliases.Goals as goal
 
 pub add_marked-requires : goal.add_marked-requires

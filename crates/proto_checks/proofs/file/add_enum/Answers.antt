@@ -1,7 +1,7 @@
 use Rattle.std.proofs.Common.{◌++◌, List, ◌∙◌, ap, sym}
 use Rattle.std.proofs.lemmas.Result.{on_ok_weaker}
 use Rattle.proto_tree.specs.declared.piece.Header.TheVariants as header
-use Rattle.proto_checks.specs.declared.flaw.Flaw.{Flaw}
+use Rattle.proto_numbers.specs.declared.flaw.Flaw.{Flaw}
 use Rattle.proto_checks.proofs.Blocks.{flaws_of_enum}
 use Rattle.proto_checks.proofs.file.add_enum.Goals as goal
 

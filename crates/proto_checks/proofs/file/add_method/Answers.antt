@@ -7,7 +7,7 @@ use Rattle.proto_tree.specs.File.{trees, method_by, method_item_tree}
 use Rattle.proto_parts.specs.Parts.{OptionOf, options_in}
 use Rattle.proto_parts.specs.Views.{option_of}
 use Rattle.proto_parts.specs.declared.options.Element.TheVariants as element
-use Rattle.proto_checks.specs.declared.flaw.Flaw.{Flaw}
+use Rattle.proto_numbers.specs.declared.flaw.Flaw.{Flaw}
 use Rattle.proto_checks.specs.FieldFlaws.{option_flaws}
 use Rattle.proto_checks.specs.FileFlaws.{flaws_in_blocks}
 use Rattle.proto_checks.proofs.Blocks.{flaws_of_method}

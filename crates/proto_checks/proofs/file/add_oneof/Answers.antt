@@ -1,11 +1,11 @@
 use Rattle.std.proofs.Common.{◌≡◌, ℕ, List, Bool, ◌++◌, ◌==◌, ap, sym, ◌∙◌, arith}
 use Rattle.std.proofs.lemmas.Result.{on_ok_weaker}
-use Rattle.proto_files.specs.declared.fault.FaultKind.TheVariants as kind
+use Rattle.proto_faults.specs.declared.fault.FaultKind.TheVariants as kind
 use Rattle.proto_tree.specs.declared.piece.Header.TheVariants as header
 use Rattle.proto_tree.specs.File.{trees, field_tree}
 use Rattle.proto_parts.specs.Parts.{statements}
-use Rattle.proto_checks.specs.declared.flaw.Flaw.{Flaw}
-use Rattle.proto_checks.specs.Flaws.{flaw_if}
+use Rattle.proto_numbers.specs.declared.flaw.Flaw.{Flaw}
+use Rattle.proto_numbers.specs.Flaws.{flaw_if}
 use Rattle.proto_checks.specs.FileFlaws.{is_empty}
 use Rattle.proto_checks.proofs.Blocks.{flaws_of_oneof, no_fields}
 use Rattle.proto_checks.proofs.file.add_oneof.Goals as goal

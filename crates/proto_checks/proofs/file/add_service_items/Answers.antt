@@ -2,7 +2,7 @@ use Rattle.std.proofs.Common.{◌++◌, List, flat_map, ◌∙◌, ap, sym, arit
 use Rattle.std.proofs.lemmas.List.{take_all}
 use Rattle.proto_tree.specs.declared.tree.ServiceItem.{ServiceItem}
 use Rattle.proto_tree.specs.File.{service_item_tree}
-use Rattle.proto_checks.specs.declared.flaw.Flaw.{Flaw}
+use Rattle.proto_numbers.specs.declared.flaw.Flaw.{Flaw}
 use Rattle.proto_checks.specs.FileFlaws.{flaws_in_blocks}
 use Rattle.proto_checks.proofs.Blocks.{flaws_of_trees}
 use Rattle.proto_checks.proofs.file.add_service_items.Goals as goal

@@ -1,6 +1,6 @@
 use Rattle.std.proofs.Common.{◌≡◌, ◌++◌, take, flat_map}
-use Rattle.proto_files.specs.declared.fault.FaultKind.TheVariants as kind
-use Rattle.proto_checks.specs.Flaws.{flaw_if}
+use Rattle.proto_faults.specs.declared.fault.FaultKind.TheVariants as kind
+use Rattle.proto_numbers.specs.Flaws.{flaw_if}
 use Rattle.proto_checks.proofs.messages.add_extensions.Given as goal
 
 abbrev pub invariant-loop-word : goal.invariant-loop-word

@@ -1,9 +1,9 @@
 use Rattle.std.proofs.Common.{◌≡◌, ◌++◌, take, map, flat_map}
 use Rattle.std.specs.List.{list_any}
 use Rattle.std.specs.Str.{bytes_eq}
-use Rattle.proto_files.specs.declared.fault.FaultKind.TheVariants as kind
+use Rattle.proto_faults.specs.declared.fault.FaultKind.TheVariants as kind
 use Rattle.proto_parts.specs.Scenes.{text}
-use Rattle.proto_checks.specs.Flaws.{flaw_if}
+use Rattle.proto_numbers.specs.Flaws.{flaw_if}
 use Rattle.proto_checks.proofs.names.add_known.Given as goal
 
 abbrev pub invariant-loop-name : goal.invariant-loop-name

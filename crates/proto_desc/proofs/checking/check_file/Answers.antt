@@ -2,7 +2,7 @@ use Rattle.std.proofs.Common.{Some, None, subst}
 use Rattle.std.specs.List.{Contains}
 use Rattle.proto_tree.specs.File.{tree_of_file}
 use Rattle.proto_checks.specs.FileFlaws.{file_flaws}
-use Rattle.proto_checks.specs.Flaws.{IsLeast}
+use Rattle.proto_numbers.specs.Flaws.{IsLeast}
 use Rattle.proto_desc.proofs.CheckedFiles.{file_error, least_of_file}
 use Rattle.proto_desc.proofs.checking.check_file.Goals as goal
 

@@ -1,9 +1,9 @@
 use Rattle.std.proofs.Common.{◌≡◌, ℕ, ◌<◌, List, [], ◌∷◌, length, length-append, sym, ap, subst, ◌∙◌, arith}
 use Rattle.proto_tree.specs.File.{tree_of_file}
-use Rattle.proto_names.specs.Links.{read_at}
-use Rattle.proto_names.proofs.EachFile.{each_pushed}
-use Rattle.proto_desc.specs.CheckSteps.{IsSceneOf}
-use Rattle.proto_desc.specs.Described.{file_described}
+use Rattle.proto_files.specs.FilesRead.{read_at}
+use Rattle.proto_files.proofs.FilesAreRead.{each_pushed}
+use Rattle.proto_scenes.specs.Scenes.{IsSceneOf}
+use Rattle.proto_described.specs.Described.{file_described}
 use Rattle.proto_json.specs.Views.{file_desc}
 use Rattle.proto_desc.proofs.CheckedFiles.{all_described, described_at, described_of_file}
 use Rattle.proto_desc.proofs.checking.descriptors.Goals as goal

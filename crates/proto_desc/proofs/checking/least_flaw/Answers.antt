@@ -1,7 +1,7 @@
 use Rattle.std.proofs.Common.{List, ◌∙◌, subst}
 use Rattle.std.specs.List.{Contains}
-use Rattle.proto_checks.specs.Flaws.{IsLeast}
-use Rattle.proto_checks.specs.declared.flaw.Flaw.{Flaw}
+use Rattle.proto_numbers.specs.Flaws.{IsLeast}
+use Rattle.proto_numbers.specs.declared.flaw.Flaw.{Flaw}
 use Rattle.proto_desc.proofs.checking.least_flaw.Goals as goal
 
 pub returns : goal.returns

@@ -1,5 +1,5 @@
 use Rattle.std.proofs.Common.{ℕ, List, sym, subst, refl}
-use Rattle.proto_files.specs.declared.fault.FilesFault.{FilesFault}
+use Rattle.proto_faults.specs.declared.fault.SchemaFault.{SchemaFault}
 use Rattle.std.specs.String.{string_bytes}
 use Rattle.proto_files.specs.ReadFaults.{IsText, IsTextFault}
 use Rattle.proto_files.specs.Reading.{IsFileError, text_error}
@@ -22,6 +22,6 @@ returns-in-Err-lex-clause-fault c =
     let new = c.in-Ok.ensures.new in
     let path = string_bytes c.args.file.path in
     let text = subst (λ (bytes : List ℕ). IsText bytes) (sym new.0) (record { short = new.1; utf8 = new.2 }) in
-    subst (λ (e : FilesFault). IsFileError IsTextFault (named_file c.args.file) e) (sym c.text_error-in-Err-lex.ensures)
+    subst (λ (e : SchemaFault). IsFileError IsTextFault (named_file c.args.file) e) (sym c.text_error-in-Err-lex.ensures)
     (subst (λ (bytes : List ℕ). IsFileError IsTextFault (record { path = path; bytes = bytes }) (text_error c.args.file.path c.in-Err-lex.fault)) new.0
     (lex_error c.args.file.path (record { path = path; bytes = c.in-Ok.source }) c.in-Err-lex.fault refl text c.in-Err-lex.ensures.fault c.in-Err-lex.ensures.only_fault))

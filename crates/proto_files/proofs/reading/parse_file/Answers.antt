@@ -3,7 +3,7 @@ use Rattle.proto_text.specs.declared.lexer.Token.{Token}
 use Rattle.proto_text.specs.Tokens.{AreTokens}
 use Rattle.proto_tree.specs.File.{tree_of_file}
 use Rattle.proto_tree.specs.Reads.{Reads}
-use Rattle.proto_files.specs.declared.fault.FilesFault.{FilesFault}
+use Rattle.proto_faults.specs.declared.fault.SchemaFault.{SchemaFault}
 use Rattle.proto_files.specs.ReadFaults.{IsGrammarFault}
 use Rattle.proto_files.specs.Reading.{IsFileError}
 use Rattle.proto_files.specs.Stages.{lexed_file}
@@ -23,5 +23,5 @@ returns-in-Ok-clause-read c =
 pub returns-in-Err-clause-fault : goal.returns-in-Err-clause-fault
 returns-in-Err-clause-fault c =
     let are = subst (λ (ts : List Token). AreTokens c.args.file.source ts) (sym c.deref.ensures.value) c.requires.tokens_are in
-    subst (λ (e : FilesFault). IsFileError IsGrammarFault (lexed_file c.args.file) e) (sym c.grammar_error.ensures)
+    subst (λ (e : SchemaFault). IsFileError IsGrammarFault (lexed_file c.args.file) e) (sym c.grammar_error.ensures)
     (parse_error c.args.file.path (lexed_file c.args.file) c.deref.result.now c.in-Err.fault refl are c.in-Err.ensures.fault c.in-Err.ensures.only_fault)

@@ -1,6 +1,6 @@
 use Rattle.std.proofs.Common.{◌≡◌, ◌++◌, map}
-use Rattle.proto_lint.specs.Findings.{found_in}
-use Rattle.proto_lint.specs.Views.{finding_of, found_of}
+use Rattle.proto_findings.specs.Listings.{found_in}
+use Rattle.proto_findings.specs.Views.{finding_of, found_of}
 use Rattle.proto_lint.proofs.linting.add_findings.Given as goal
 
 abbrev pub invariant-loop-offset : goal.invariant-loop-offset

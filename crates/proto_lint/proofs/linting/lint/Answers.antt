@@ -1,9 +1,10 @@
 use Rattle.std.proofs.Common.{List, map, subst, sym, ap, ◌∙◌}
 use Rattle.proto_files.specs.GivenFiles.{FileOf}
-use Rattle.proto_names.specs.Links.{AreRead}
-use Rattle.proto_lint.specs.Findings.{FindingOf, IsListingOf, findings}
-use Rattle.proto_lint.specs.Views.{finding_of}
-use Rattle.proto_lint.specs.declared.rule_set.RuleSet.{RuleSet}
+use Rattle.proto_files.specs.FilesRead.{AreRead}
+use Rattle.proto_findings.specs.Listings.{FindingOf, IsListingOf}
+use Rattle.proto_findings.specs.Views.{finding_of}
+use Rattle.proto_findings.specs.declared.rule_set.RuleSet.{RuleSet}
+use Rattle.proto_lint.specs.Findings.{findings}
 use Rattle.proto_lint.proofs.linting.lint.Goals as goal
 
 pub returns : goal.returns

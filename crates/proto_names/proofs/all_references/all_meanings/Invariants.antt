@@ -1,6 +1,6 @@
 use Rattle.std.proofs.Common.{◌≡◌, ℕ, ◌<◌, List, [], length, get_or, map}
 use Rattle.proto_names.specs.FileReferences.{AreFileMeant, AreLinked}
-use Rattle.proto_names.specs.Links.{ReadOf, AreRead}
+use Rattle.proto_files.specs.FilesRead.{ReadOf, AreRead}
 use Rattle.proto_names.proofs.all_references.all_meanings.Given as goal
 
 abbrev pub invariant-loop-file : goal.invariant-loop-file

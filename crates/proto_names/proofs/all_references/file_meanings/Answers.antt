@@ -1,4 +1,4 @@
-use Rattle.std.proofs.Common.{◌≡◌, ℕ, List, map, sym, ◌∙◌, ap, subst}
+use Rattle.std.proofs.Common.{◌≡◌, List, map, refl, sym, ◌∙◌, ap, subst}
 use Rattle.std.specs.List.{All}
 use Rattle.std.proofs.lemmas.Result.{IfOk-weaker, IfErr-weaker}
 use Rattle.proto_text.proofs.Once.{one_token_list}
@@ -6,10 +6,10 @@ use Rattle.proto_text.specs.Texts.{word_at}
 use Rattle.proto_text.specs.Tokens.{Lexeme, lexeme_at}
 use Rattle.proto_files.specs.GivenFiles.{file_at}
 use Rattle.proto_names.specs.FileReferences.{declared_names}
-use Rattle.proto_names.specs.FromTree.{dotted}
-use Rattle.proto_names.specs.Joined.{ArePlain}
-use Rattle.proto_names.specs.Links.{names_of_files}
-use Rattle.proto_names.specs.declared.listing.Use.{Use}
+use Rattle.proto_tree.specs.References.{dotted}
+use Rattle.proto_meaning.specs.Joined.{ArePlain}
+use Rattle.proto_imports.specs.Links.{names_of_files}
+use Rattle.proto_listing.specs.declared.listing.Use.{Use}
 use Rattle.proto_names.proofs.FileMeanings.{words_plain, listed_meant, listed_error}
 use Rattle.proto_names.proofs.all_references.file_meanings.Goals as goal
 
@@ -18,8 +18,8 @@ meanings-requires-clause-plain c =
     let bytes = (file_at c.args.files.now c.args.file).bytes in
     let r = c.requires.listing.0 in
     let reads = c.requires.listing.1 in
-    let tokens = one_token_list bytes r.tokens c.tokens.result.now reads.tokens_are c.tokens.ensures.tokens in
-    let words : map (lexeme_at bytes) r.tokens ≡ c.new-words.result = ap (map (lexeme_at bytes)) tokens ∙ ap (λ (z : List ℕ). map (lexeme_at z) c.tokens.result.now) (sym c.source.ensures) ∙ sym c.new-words.ensures in
+    let tokens = one_token_list bytes r.tokens c.new-words.ensures.some.0 reads.tokens_are c.new-words.ensures.some.1 in
+    let words : map (lexeme_at bytes) r.tokens ≡ c.new-words.result = ap (map (lexeme_at bytes)) tokens ∙ sym c.new-words.ensures.some.2 in
     subst (λ (us : List Use). All (λ u. ArePlain (map (word_at c.new-words.result) (dotted u.reference.now.words))) us) (sym c.deref.ensures.value)
     (subst (λ (ls : List Lexeme). All (λ u. ArePlain (map (word_at ls) (dotted u.reference.now.words))) c.args.listing.now.used.items) words
     (words_plain bytes r c.args.listing.now reads c.requires.listing.2))
@@ -27,13 +27,13 @@ meanings-requires-clause-plain c =
 pub returns-clause-meant : goal.returns-clause-meant
 returns-clause-meant c =
     IfOk-weaker c.meanings.result _ _ (λ ms h reads are linked.
-    listed_meant c.args.files.now reads are c.args.file c.requires.file c.requires.listing.0 c.requires.listing.1 c.args.listing.now c.requires.listing.2 c.source.result.now c.tokens.result.now c.source.ensures c.tokens.ensures.tokens
-    c.new-words.result c.new-words.ensures c.args.table.now c.deref.result.now ms.items c.deref.ensures.value (h (names_of_files c.args.files.now reads) (declared_names c.args.files.now reads c.args.file) linked))
+    listed_meant c.args.files.now reads are c.args.file c.requires.file c.requires.listing.0 c.requires.listing.1 c.args.listing.now c.requires.listing.2 (file_at c.args.files.now c.args.file).bytes c.new-words.ensures.some.0 refl c.new-words.ensures.some.1
+    c.new-words.result c.new-words.ensures.some.2 c.args.table.now c.deref.result.now ms.items c.deref.ensures.value (h (names_of_files c.args.files.now reads) (declared_names c.args.files.now reads c.args.file) linked))
     c.meanings.ensures.meant
 
 pub returns-clause-fault : goal.returns-clause-fault
 returns-clause-fault c =
     IfErr-weaker c.meanings.result _ _ (λ e h reads are linked.
-    listed_error c.args.files.now reads are c.args.file c.requires.file c.requires.listing.0 c.requires.listing.1 c.args.listing.now c.requires.listing.2 c.source.result.now c.tokens.result.now c.source.ensures c.tokens.ensures.tokens
-    c.new-words.result c.new-words.ensures c.deref.result.now e c.deref.ensures.value (h (names_of_files c.args.files.now reads) (declared_names c.args.files.now reads c.args.file) linked))
+    listed_error c.args.files.now reads are c.args.file c.requires.file c.requires.listing.0 c.requires.listing.1 c.args.listing.now c.requires.listing.2 (file_at c.args.files.now c.args.file).bytes c.new-words.ensures.some.0 refl c.new-words.ensures.some.1
+    c.new-words.result c.new-words.ensures.some.2 c.deref.result.now e c.deref.ensures.value (h (names_of_files c.args.files.now reads) (declared_names c.args.files.now reads c.args.file) linked))
     c.meanings.ensures.fault

@@ -1,13 +1,17 @@
-use Rattle.std.proofs.Common.{◌∙◌, ap, refl}
-use Rattle.std.specs.Prelude.{List}
-use Rattle.proto_text.specs.declared.lexer.Token.{Token}
-use Rattle.proto_text.specs.Texts.{offset_at}
-use Rattle.proto_names.proofs.ReadOnce.{tokens_at}
+use Rattle.std.proofs.Common.{ℕ, ◌<◌, List, length, ap}
+use Rattle.proto_faults.specs.FaultTable.{number_of}
+use Rattle.proto_faults.specs.declared.fault.FaultKind.{FaultKind}
+use Rattle.proto_faults.specs.declared.fault.SchemaFault.{SchemaFault}
+use Rattle.proto_faults.specs.declared.fault.SchemaFault.TheVariants.{Schema, NoMemory}
+use Rattle.proto_files.specs.FileTokens.{IsAtToken as IsAtTokenOf}
+use Rattle.proto_files.specs.FilesRead.{read_at}
+use Rattle.proto_files.specs.GivenFiles.{FileOf}
+use Rattle.proto_names.specs.LinkErrors.{IsAtToken}
 use Rattle.proto_names.proofs.link_fault.fault_at_token.Goals as goal
 
-pub returns-in-Ok : goal.returns-in-Ok
-returns-in-Ok c = λ reads r. (record {
-  path = c.in-Ok.ensures.ok ∙ c.path.ensures;
-  offset = c.offset.ensures ∙ ap (λ (ts : List Token). offset_at ts c.args.token) (tokens_at c.args.files.now reads r c.args.file c.tokens.result.now c.requires c.tokens.ensures.tokens);
-  number = refl;
-})
+at_token : (files : List FileOf) (file token : ℕ) (kind : FaultKind) (e : SchemaFault) → file < length files → IsAtTokenOf files file token kind e → IsAtToken files file token kind e
+at_token files file token kind (Schema f) l h = λ reads r. record { path = h.path; offset = h.offset (read_at reads file).tokens (r.tokens file l); number = ap number_of h.kind_is }
+at_token files file token kind NoMemory l h = tt
+
+pub returns : goal.returns
+returns c = at_token c.args.files.now c.args.file c.args.token c.args.kind c.fault_at_token.result c.requires c.fault_at_token.ensures

@@ -1,17 +1,18 @@
-use Rattle.std.proofs.Common.{◌≡◌, ℕ, ◌≤◌, ◌<◌, List, length, get_or, map, Some, sym, ◌∙◌, ap, subst, arith}
+use Rattle.std.proofs.Common.{◌≡◌, ℕ, ◌≤◌, ◌<◌, List, length, get_or, map, Some, sym, subst, arith}
 use Rattle.proto_text.specs.Texts.{word_at}
-use Rattle.proto_text.specs.Tokens.{lexeme_at}
-use Rattle.proto_names.specs.FromTree.{items_in}
-use Rattle.proto_names.specs.Grown.{at}
-use Rattle.proto_names.specs.LastWords.{AreListed, named_as}
-use Rattle.proto_names.specs.Links.{ReadOf, AreRead, IsListing, read_at, text_of}
-use Rattle.proto_names.specs.Listing.{last_token, needs, package_first, read, whole}
-use Rattle.proto_names.specs.Spelled.{AreSpelled, named_in}
-use Rattle.proto_names.specs.declared.listing.Listed.{Listed}
-use Rattle.proto_names.specs.declared.listing.Listing.{Listing}
-use Rattle.proto_names.proofs.EachFile.{all_pushed, each_pushed, named_files}
+use Rattle.proto_listing.specs.FromTree.{items_in}
+use Rattle.proto_meaning.specs.Grown.{at}
+use Rattle.proto_table.specs.LastWords.{AreListed, named_as}
+use Rattle.proto_files.specs.FilesRead.{ReadOf, AreRead, read_at}
+use Rattle.proto_imports.specs.Links.{IsListing, text_of}
+use Rattle.proto_listing.specs.Listing.{last_token, needs, package_first, read, whole}
+use Rattle.proto_table.specs.Spelled.{AreSpelled, named_in}
+use Rattle.proto_listing.specs.declared.listing.Listed.{Listed}
+use Rattle.proto_listing.specs.declared.listing.Listing.{Listing}
+use Rattle.proto_names.proofs.EachFile.{all_pushed, named_files}
+use Rattle.proto_files.proofs.FilesAreRead.{each_pushed}
 use Rattle.proto_names.proofs.FileLists.{listed_at, named_at}
-use Rattle.proto_names.proofs.OneReading.{AreWordsAt}
+use Rattle.proto_files.proofs.OneReading.{AreWordsAt}
 use Rattle.proto_names.proofs.read_files.all_spelled.Goals as goal
 
 pub spelled-requires-clause-ordered : goal.spelled-requires-clause-ordered
@@ -30,7 +31,7 @@ pub loop-file-preserved : goal.loop-file-preserved
 loop-file-preserved c =
     let files = c.args.files.now in
     let file = c.loop-file.file in
-    let tokens = c.tokens.result.now in
+    let tokens = c.new-words.ensures.some.0 in
     let ls = c.new-words.result in
     let all = c.loop-file.all.items in
     let v = c.in_ok-spelled.field-0 in
@@ -40,8 +41,8 @@ loop-file-preserved c =
     let listing : (reads : List ReadOf) → AreRead files reads → IsListing (read_at reads file) l = λ reads are. c.requires.1 reads are file c.index-listings-file.result within in
     let f : AreWordsAt files file tokens ls = record {
       within = omega (arith, c.loop-file-test.true, c.len-file-end.ensures.len);
-      tokens_are = c.tokens.ensures.tokens;
-      words = c.new-words.ensures ∙ ap (λ (s : List ℕ). map (lexeme_at s) tokens) c.source.ensures;
+      tokens_are = c.new-words.ensures.some.1;
+      words = c.new-words.ensures.some.2;
     } in
     let spelled : AreListed (word_at ls) l.declared.items → AreSpelled v.items = subst (λ (es : List Listed). AreListed (word_at ls) es → AreSpelled v.items) c.deref.ensures.value c.in_ok-spelled.ensures.spelled in
     let named : named_in file v.items ≡ map (named_as file (word_at ls)) (read l.declared.items) =

@@ -1,36 +1,37 @@
-use Rattle.std.proofs.Common.{◌≡◌, ℕ, List, length, map, sym, ◌∙◌, ap, subst, arith}
+use Rattle.std.proofs.Common.{◌≡◌, List, length, map, sym, subst, arith}
 use Rattle.std.specs.List.{All}
 use Rattle.proto_text.specs.Strings.{IsString}
 use Rattle.proto_text.specs.Texts.{word_at}
-use Rattle.proto_text.specs.Tokens.{lexeme_at}
 use Rattle.proto_tree.specs.File.{tree_of_file}
-use Rattle.proto_names.specs.FromTree.{imports_in}
-use Rattle.proto_names.specs.Importing.{asked_by, AreRising}
-use Rattle.proto_names.specs.Links.{ReadOf, asked_as, read_at, text_of}
-use Rattle.proto_names.specs.Written.{AreWritten}
-use Rattle.proto_names.specs.declared.wanted.Wanted.{Wanted}
-use Rattle.proto_names.proofs.EachFile.{all_pushed, asked_files, each_pushed}
+use Rattle.proto_listing.specs.FromTree.{imports_in}
+use Rattle.proto_imports.specs.Importing.{asked_by, AreRising}
+use Rattle.proto_files.specs.FilesRead.{ReadOf, read_at}
+use Rattle.proto_imports.specs.Links.{asked_as, text_of}
+use Rattle.proto_imports.specs.Written.{AreWritten}
+use Rattle.proto_listing.specs.declared.wanted.Wanted.{Wanted}
+use Rattle.proto_names.proofs.EachFile.{all_pushed, asked_files}
+use Rattle.proto_files.proofs.FilesAreRead.{each_pushed}
 use Rattle.proto_names.proofs.FileLists.{asked_at, rising_at, strings_at}
-use Rattle.proto_names.proofs.OneReading.{AreWordsAt}
+use Rattle.proto_files.proofs.OneReading.{AreWordsAt}
 use Rattle.proto_names.proofs.read_files.all_written.Goals as goal
 
 pub written-requires : goal.written-requires
 written-requires c =
-    let f : AreWordsAt c.args.files.now c.loop-file.file c.tokens.result.now c.new-words.result = record {
+    let f : AreWordsAt c.args.files.now c.loop-file.file c.new-words.ensures.some.0 c.new-words.result = record {
       within = omega (arith, c.loop-file-test.true, c.len-file-end.ensures.len);
-      tokens_are = c.tokens.ensures.tokens;
-      words = c.new-words.ensures ∙ ap (λ (s : List ℕ). map (lexeme_at s) c.tokens.result.now) c.source.ensures;
+      tokens_are = c.new-words.ensures.some.1;
+      words = c.new-words.ensures.some.2;
     } in
     record {
       strings = subst (λ (ws : List Wanted). All (λ w. IsString (word_at c.new-words.result w.path)) ws) (sym c.deref.ensures.value)
-          (strings_at c.args.files.now c.loop-file.file c.tokens.result.now c.new-words.result f (tree_of_file c.tree.result.now) c.tree.ensures c.in_ok-wanted.wanted.items c.in_ok-wanted.ensures);
+          (strings_at c.args.files.now c.loop-file.file c.new-words.ensures.some.0 c.new-words.result f (tree_of_file c.tree.result.now) c.tree.ensures c.in_ok-wanted.wanted.items c.in_ok-wanted.ensures);
     }
 
 pub loop-file-preserved : goal.loop-file-preserved
 loop-file-preserved c =
     let files = c.args.files.now in
     let file = c.loop-file.file in
-    let tokens = c.tokens.result.now in
+    let tokens = c.new-words.ensures.some.0 in
     let tree = tree_of_file c.tree.result.now in
     let ls = c.new-words.result in
     let all = c.loop-file.all.items in
@@ -38,8 +39,8 @@ loop-file-preserved c =
     let n : length all ≡ file = c.loop-file.invariant.len in
     let f : AreWordsAt files file tokens ls = record {
       within = omega (arith, c.loop-file-test.true, c.len-file-end.ensures.len);
-      tokens_are = c.tokens.ensures.tokens;
-      words = c.new-words.ensures ∙ ap (λ (s : List ℕ). map (lexeme_at s) tokens) c.source.ensures;
+      tokens_are = c.new-words.ensures.some.1;
+      words = c.new-words.ensures.some.2;
     } in
     let written : AreWritten (word_at ls) c.in_ok-wanted.wanted.items v.items = subst (λ (ws : List Wanted). AreWritten (word_at ls) ws v.items) c.deref.ensures.value c.in_ok-written.ensures in
     record {

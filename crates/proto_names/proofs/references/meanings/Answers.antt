@@ -3,7 +3,7 @@ use Rattle.std.specs.Prelude.{is_ok}
 use Rattle.std.proofs.lemmas.Bool.{cond-true}
 use Rattle.std.proofs.lemmas.List.{take_all}
 use Rattle.proto_text.specs.Texts.{word_at}
-use Rattle.proto_names.specs.Tables.{names_of}
+use Rattle.proto_table.specs.Tables.{names_of}
 use Rattle.proto_names.specs.Referring.{first_token, reference_by, row_flaw, AreMeant}
 use Rattle.proto_names.proofs.Referring.{asked_in, row_flawed, row_faultless, meant_step, first_bad}
 use Rattle.proto_names.proofs.references.meanings.Goals as goal

@@ -2,12 +2,12 @@ use Rattle.std.proofs.Common.{◌∷◌, [], get_or, option_map, is_some, None, 
 use Rattle.std.proofs.lemmas.List.{length-map}
 use Rattle.std.proofs.lemmas.Simd.{map-map}
 use Rattle.proto_text.specs.Texts.{word_at}
-use Rattle.proto_names.specs.Joined.{IsPlain, ArePlain}
-use Rattle.proto_names.specs.Resolved.{IsTypeAt, under_all}
-use Rattle.proto_names.specs.Tables.{names_of}
+use Rattle.proto_meaning.specs.Joined.{IsPlain, ArePlain}
+use Rattle.proto_table.specs.Resolved.{IsTypeAt, under_all}
+use Rattle.proto_table.specs.Tables.{names_of}
 use Rattle.proto_names.proofs.InScope.{empty_behind, words_by, scoped_is, scoped_none}
 use Rattle.proto_names.proofs.Referring.{same_words}
-use Rattle.proto_names.proofs.Resolved.{absolute_is, absolute_none}
+use Rattle.proto_table.proofs.Resolved.{absolute_is, absolute_none}
 use Rattle.proto_names.proofs.resolve.row_in_scope.Goals as goal
 use Rattle.proto_names.proofs.resolve.row_in_scope.Goals.{in-Some+in_ok-start-in-Some, in-None+in_ok-start-in-None}
 

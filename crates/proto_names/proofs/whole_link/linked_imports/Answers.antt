@@ -1,6 +1,6 @@
 use Rattle.std.proofs.Common.{map, ◌∙◌, ap, subst}
-use Rattle.proto_names.specs.Faults.{ImportFault}
-use Rattle.proto_names.specs.Importing.{IsImportError, all_asked, fault_of}
+use Rattle.proto_meaning.specs.Faults.{ImportFault}
+use Rattle.proto_imports.specs.Importing.{IsImportError, all_asked, fault_of}
 use Rattle.proto_names.proofs.LinkErrors.{import_error, import_file, least_as_read}
 use Rattle.proto_names.proofs.whole_link.linked_imports.Goals as goal
 

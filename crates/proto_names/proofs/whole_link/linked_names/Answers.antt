@@ -1,7 +1,7 @@
 use Rattle.std.proofs.Common.{map, subst}
-use Rattle.proto_names.specs.Filling.{IsNameError}
-use Rattle.proto_names.specs.Spelled.{ClashFault, all_named}
-use Rattle.proto_names.specs.declared.filling.NameError.TheVariants.{Clash}
+use Rattle.proto_table.specs.Filling.{IsNameError}
+use Rattle.proto_table.specs.Spelled.{ClashFault, all_named}
+use Rattle.proto_table.specs.declared.filling.NameError.TheVariants.{Clash}
 use Rattle.proto_names.proofs.NameErrors.{clash_error, clash_within, no_name_fault}
 use Rattle.proto_names.proofs.TableNames.{spelled_of, names_of_table, rows_listed, rows_within}
 use Rattle.proto_names.proofs.whole_link.linked_names.Goals as goal

@@ -1,6 +1,6 @@
 use Rattle.std.proofs.Common.{List, subst}
 use Rattle.proto_names.specs.FileReferences.{IsLeastBad}
-use Rattle.proto_names.specs.Links.{ReadOf}
+use Rattle.proto_files.specs.FilesRead.{ReadOf}
 use Rattle.proto_names.proofs.LinkErrors.{are_linked, reference_error, reference_file}
 use Rattle.proto_names.proofs.whole_link.linked_references.Goals as goal
 

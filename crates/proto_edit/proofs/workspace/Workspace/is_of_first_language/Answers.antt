@@ -1,7 +1,7 @@
-use Rattle.std.proofs.Common.{◌↔◌, ◌≤◌, List, length, subst, arith}
+use Rattle.std.proofs.Common.{◌↔◌, ◌≤◌, List, length, refl, subst, arith}
 use Rattle.std.specs.Prelude.{IsTrue}
 use Rattle.std.proofs.lemmas.Result.{IfOk-weaker}
-use Rattle.proto_files.specs.GivenFiles.{FileOf}
+use Rattle.proto_files.specs.GivenFiles.{FileOf, file_at}
 use Rattle.proto_tree.specs.File.{tree_of_file}
 use Rattle.proto_edit.specs.Compiled.{IsOfFirstLanguage}
 use Rattle.proto_edit.proofs.Languages.{one_is_first}
@@ -16,5 +16,5 @@ returns c =
     let few : length v ≤ 1 = omega (arith, c.len.ensures.len, c.if-len-gt1.false) in
     IfOk-weaker c.is_first_language.result _ _
     (λ t h. subst (λ (z : List FileOf). IsTrue t ↔ IsOfFirstLanguage z) c.files-files.ensures.files
-    (one_is_first v c.source.result.now c.tokens.result.now tree c.new-words.result t some few c.source.ensures c.tokens.ensures.tokens c.tree.ensures c.new-words.ensures h))
+    (one_is_first v (file_at v 0).bytes c.new-words.ensures.some.0 tree c.new-words.result t some few refl c.new-words.ensures.some.1 c.tree.ensures c.new-words.ensures.some.2 h))
     c.is_first_language.ensures

@@ -1,8 +1,9 @@
-use Rattle.std.proofs.Common.{◌∙◌, sym}
+use Rattle.std.proofs.Common.{ℕ, List, map, ap, ◌∙◌, sym}
 use Rattle.std.proofs.lemmas.Result.{IfOk-weaker, IfErr-weaker}
+use Rattle.proto_text.specs.Tokens.{lexeme_at}
 use Rattle.proto_tree.specs.File.{tree_of_file}
-use Rattle.proto_edit.specs.Entries.{change_of}
-use Rattle.proto_edit.proofs.OnlyFile.{some_of, empty_of, IsOnly, only, spans_of, renamed_so, refused_so, no_rename}
+use Rattle.proto_entries.specs.Entries.{change_of}
+use Rattle.proto_edit.proofs.OnlyFile.{some_of, empty_of, IsOnly, only, renamed_so, refused_so, no_rename}
 use Rattle.proto_edit.proofs.WholeFirst.{first_compiled}
 use Rattle.proto_edit.proofs.workspace.Workspace.renamed.Goals.{After-tree}
 use Rattle.proto_edit.proofs.workspace.Workspace.renamed.Goals as goal
@@ -19,8 +20,9 @@ returns-then-is_empty-clause-err c =
 pub rename_in-requires-clause-path : goal.rename_in-requires-clause-path
 rename_in-requires-clause-path c = (here (goal.at.rename_in-requires-clause-path c).After-tree).named
 
-pub rename_in-requires-clause-spans : goal.rename_in-requires-clause-spans
-rename_in-requires-clause-spans c = spans_of c.files-files.result.now c.source.result.now c.tokens.result.now c.source.ensures c.tokens.ensures.spans
+pub rename_in-requires-clause-words : goal.rename_in-requires-clause-words
+rename_in-requires-clause-words c =
+    c.new-words.ensures.words c.tokens.result.now c.tokens.ensures.tokens ∙ ap (λ (s : List ℕ). map (lexeme_at s) c.tokens.result.now) (sym c.source.ensures)
 
 pub rename_in-requires-clause-compiles : goal.rename_in-requires-clause-compiles
 rename_in-requires-clause-compiles c = (here (goal.at.rename_in-requires-clause-compiles c).After-tree).compiles

@@ -3,7 +3,7 @@ use Rattle.std.proofs.lemmas.Iterator.Adapters.{YieldsList-from_rev_slice}
 use Rattle.std.proofs.lemmas.Iterator.Consumers.{YieldsList-so_far, YieldsList-turn, YieldsList-end}
 use Rattle.std.proofs.lemmas.Result.{err_from_is_err_and}
 use Rattle.proto_edit.specs.Answers.{IsUndoAllRefusal}
-use Rattle.proto_edit.specs.Entries.{ChangeOf}
+use Rattle.proto_entries.specs.Entries.{ChangeOf}
 use Rattle.proto_edit.specs.Workspaces.{Undone}
 use Rattle.proto_edit.proofs.Chains.{undone_next, stuck_so, back_ok, back_err}
 use Rattle.proto_edit.proofs.workspace.Workspace.undo_all.Goals.{In_err-workspace-2}

@@ -1,7 +1,7 @@
 use Rattle.std.proofs.Common.{◌∙◌, List, [], ◌∷◌, map, sym, ap, subst}
 use Rattle.std.specs.Prelude.{Some, None}
 use Rattle.proto_edit.specs.Answers.{asked, IsReopened}
-use Rattle.proto_edit.specs.Entries.{ChangeOf, change_of, IsEntry}
+use Rattle.proto_entries.specs.Entries.{ChangeOf, change_of, IsEntry}
 use Rattle.proto_edit.proofs.Chains.{changes_are, step_made}
 use Rattle.proto_edit.proofs.StepEntries.{entry_is}
 use Rattle.proto_edit.proofs.Steps.{cannot_fail}

@@ -1,7 +1,7 @@
 use Rattle.std.proofs.Common.{◌≡◌, ◌++◌, List, map, drop}
-use Rattle.proto_names.specs.Links.{AreRead, ReadOf}
+use Rattle.proto_files.specs.FilesRead.{AreRead, ReadOf}
+use Rattle.proto_findings.specs.Views.{finding_of}
 use Rattle.proto_lint.specs.Findings.{findings, findings_from}
-use Rattle.proto_lint.specs.Views.{finding_of}
 use Rattle.proto_lint.proofs.linting.Linter.findings.Given as goal
 
 abbrev pub invariant-loop-file : goal.invariant-loop-file

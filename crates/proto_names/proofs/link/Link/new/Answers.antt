@@ -3,8 +3,8 @@ use Rattle.std.specs.Global.{Vec}
 use Rattle.std.proofs.lemmas.List.{length-map}
 use Rattle.proto_names.specs.FileReferences.{AreFileMeant}
 use Rattle.proto_names.specs.Linking.{LinkOf, all_meant, name_of_row, references_to}
-use Rattle.proto_names.specs.Links.{AreListings, names_of_files}
-use Rattle.proto_names.specs.Resolved.{MarksSeen}
+use Rattle.proto_imports.specs.Links.{AreListings, names_of_files}
+use Rattle.proto_meaning.specs.Marks.{MarksSeen}
 use Rattle.proto_names.specs.declared.references.Meant.{Meant}
 use Rattle.proto_names.proofs.LeastLinkFault.{no_fault}
 use Rattle.proto_names.proofs.LinkMeanings.{all_tokens_rise, is_link_read}

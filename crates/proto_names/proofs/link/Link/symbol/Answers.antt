@@ -2,7 +2,7 @@ use Rattle.std.proofs.Common.{◌≢◌, ℕ, Some, sym, ◌∙◌, ap}
 use Rattle.std.proofs.lemmas.Option.{none-some}
 use Rattle.proto_names.specs.Linking.{text_at}
 use Rattle.proto_names.proofs.Linking.{text_from, text_none, text_once}
-use Rattle.proto_names.proofs.Resolved.{if_none}
+use Rattle.proto_table.proofs.Resolved.{if_none}
 use Rattle.proto_names.proofs.link.Link.symbol.Goals as goal
 
 pub returns-in_err-row-clause-none : goal.returns-in_err-row-clause-none

@@ -1,0 +1,29 @@
+//! Does one step of the compiler over the files that its words name, so that it can be tried on whole schemas, and timed.
+//!
+//!     bench lex|parse|link|lint|compile FILE..
+#![tactic(auto)]
+
+mod counts;
+mod kind;
+mod report;
+mod steps;
+
+use crate::steps::answer;
+use std::{env, fs, io};
+
+fn main(rt: HostRuntime) -> io::Result<()> {
+    // The first word is the name of the program itself.
+    let mut words = env::args(&rt)?.skip(1);
+    let Some(step) = words.next() else {
+        return println!(rt; "no step");
+    };
+    let mut files = Vec::new(rt.alloc());
+    for path in words {
+        let bytes = fs::read(&rt, path.as_str())?;
+        files.push((path, bytes))?;
+    }
+    match answer(rt.alloc(), step.as_str(), files) {
+        Ok(text) => print!(rt; "{text}"),
+        Err(_) => println!(rt; "no memory"),
+    }
+}

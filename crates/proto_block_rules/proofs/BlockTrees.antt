@@ -1,0 +1,107 @@
+-- What is found in the blocks of trees that stand one behind another, and of one block.
+use Rattle.std.proofs.Common.{◌≡◌, ℕ, List, [], ◌∷◌, ◌++◌, flat_map, refl, sym, ap, ◌∙◌, append_assoc}
+use Rattle.std.proofs.lemmas.Grind.{flat_map-append}
+use Rattle.std.proofs.lemmas.List.{append-nil}
+use Rattle.proto_tree.specs.declared.piece.Header.{Header}
+use Rattle.proto_tree.specs.declared.piece.Header.TheVariants as header
+use Rattle.proto_tree.specs.declared.tree.Block.{Block as Braced}
+use Rattle.proto_tree.specs.declared.tree.EnumItem.{EnumItem}
+use Rattle.proto_tree.specs.declared.tree.EnumItem.TheVariants as enum_item
+use Rattle.proto_tree.specs.declared.tree.Field.{Field}
+use Rattle.proto_tree.specs.declared.tree.Member.{Member}
+use Rattle.proto_tree.specs.declared.tree.MethodEnd.{MethodEnd}
+use Rattle.proto_tree.specs.declared.tree.MethodEnd.TheVariants as method_end
+use Rattle.proto_tree.specs.declared.tree.MethodItem.{MethodItem}
+use Rattle.proto_tree.specs.declared.tree.MethodItem.TheVariants as method_item
+use Rattle.proto_tree.specs.declared.tree.ServiceItem.{ServiceItem}
+use Rattle.proto_tree.specs.declared.tree.ServiceItem.TheVariants as service_item
+use Rattle.proto_tree.specs.declared.tree.Signature.{Signature}
+use Rattle.proto_tree.specs.File.{enum_item_tree, enum_tree, field_tree, member_tree, message_tree, method_by, method_item_tree, oneof_tree, service_item_tree, service_tree, trees}
+use Rattle.proto_tree.specs.Tree.{Tree, End, Leaf, Block, joined}
+use Rattle.proto_findings.specs.Placed.{Found, below}
+use Rattle.proto_findings.specs.Readings.{Reading, reading_of, text}
+use Rattle.proto_block_rules.specs.declared.walk.Walk.{Walk}
+use Rattle.proto_block_rules.specs.Blocks.{Scoped, blocks_in, scope_within}
+use Rattle.proto_block_rules.specs.BlockFinds.{block_finds}
+use Rattle.proto_block_rules.specs.Methods.{methods_finds}
+use Rattle.proto_block_rules.specs.NameRules.{enum_finds, message_finds, oneof_finds, service_finds}
+use Rattle.proto_block_rules.specs.Walks.{walk_finds}
+
+pub blocks_joined : (r : Reading) (scope : List ℕ) (t u : Tree) → blocks_in r scope (joined t u) ≡ blocks_in r scope t ++ blocks_in r scope u
+blocks_joined r scope End u = refl
+blocks_joined r scope (Leaf s rest) u = blocks_joined r scope rest u
+blocks_joined r scope (Block h i within j rest) u =
+    let b : Scoped = record { scope = scope; header = h; within = within } in
+    let inner = blocks_in r (scope_within r scope h) within in
+    ap (λ (bs : List Scoped). b ∷ (inner ++ bs)) (blocks_joined r scope rest u) ∙ ap (λ (bs : List Scoped). b ∷ bs) (sym (append_assoc inner (blocks_in r scope rest) (blocks_in r scope u)))
+
+module _ (w : Walk) where
+  abbrev r : Reading
+  r = reading_of w.reading.now
+
+  abbrev one : Scoped → List Found
+  one b = block_finds w.rules.now.chosen r w.messages.now b.scope b.header b.within
+
+  finds_joined : (scope : List ℕ) (t u : Tree) → walk_finds w scope (joined t u) ≡ walk_finds w scope t ++ walk_finds w scope u
+  finds_joined scope t u = ap (flat_map one) (blocks_joined r scope t u) ∙ flat_map-append one (blocks_in r scope t) (blocks_in r scope u)
+
+  -- item by item
+  pub finds_of_trees : {A : Type 0} (view : A → Tree) (scope : List ℕ) (xs : List A) → walk_finds w scope (trees view xs) ≡ flat_map (λ x. walk_finds w scope (view x)) xs
+  finds_of_trees view scope [] = refl
+  finds_of_trees view scope (x ∷ xs) = finds_joined scope (view x) (trees view xs) ∙ ap (λ (fs : List Found). walk_finds w scope (view x) ++ fs) (finds_of_trees view scope xs)
+
+  -- one block: its own, and those in it
+  finds_of_block : (scope : List ℕ) (h : Header) (i : ℕ) (within : Tree) (j : ℕ)
+      → walk_finds w scope (Block h i within j End) ≡ block_finds w.rules.now.chosen r w.messages.now scope h within ++ walk_finds w (scope_within r scope h) within
+  finds_of_block scope h i within j =
+      ap (λ (bs : List Scoped). block_finds w.rules.now.chosen r w.messages.now scope h within ++ flat_map one bs) (append-nil (blocks_in r (scope_within r scope h) within))
+
+  -- one with nothing found in it
+  finds_of_flat : (scope : List ℕ) (h : Header) (i : ℕ) (within : Tree) (j : ℕ) → walk_finds w (scope_within r scope h) within ≡ []
+      → walk_finds w scope (Block h i within j End) ≡ block_finds w.rules.now.chosen r w.messages.now scope h within
+  finds_of_flat scope h i within j e =
+      let own = block_finds w.rules.now.chosen r w.messages.now scope h within in
+      finds_of_block scope h i within j ∙ ap (λ (fs : List Found). own ++ fs) e ∙ append-nil own
+
+  no_finds : {A : Type 0} (view : A → Tree) (scope : List ℕ) → ((x : A) → walk_finds w scope (view x) ≡ []) → (xs : List A) → walk_finds w scope (trees view xs) ≡ []
+  no_finds view scope none [] = refl
+  no_finds view scope none (x ∷ xs) = finds_joined scope (view x) (trees view xs) ∙ ap (λ (fs : List Found). fs ++ walk_finds w scope (trees view xs)) (none x) ∙ no_finds view scope none xs
+
+  none_in_enum : (scope : List ℕ) (item : EnumItem) → walk_finds w scope (enum_item_tree item) ≡ []
+  none_in_enum scope (enum_item.Value v) = refl
+  none_in_enum scope (enum_item.Option o) = refl
+  none_in_enum scope (enum_item.Reserved x) = refl
+  none_in_enum scope (enum_item.Empty i) = refl
+
+  none_in_method : (scope : List ℕ) (item : MethodItem) → walk_finds w scope (method_item_tree item) ≡ []
+  none_in_method scope (method_item.Option o) = refl
+  none_in_method scope (method_item.Empty i) = refl
+
+  none_in_end : (scope : List ℕ) (s : Signature) (end : MethodEnd) → walk_finds w scope (method_by s end) ≡ []
+  none_in_end scope s (method_end.Semicolon i) = refl
+  none_in_end scope s (method_end.Block i items j) = finds_of_flat scope (header.Method s) i (trees method_item_tree items.items) j (no_finds method_item_tree scope (none_in_method scope) items.items)
+
+  none_in_service : (scope : List ℕ) (item : ServiceItem) → walk_finds w scope (service_item_tree item) ≡ []
+  none_in_service scope (service_item.Method m) = none_in_end scope m.signature m.end
+  none_in_service scope (service_item.Option o) = refl
+  none_in_service scope (service_item.Empty i) = refl
+
+  -- ---- what stands in a message or a file
+
+  pub finds_of_message : (scope : List ℕ) (m : Braced Member) → walk_finds w scope (message_tree m)
+      ≡ message_finds w.rules.now.chosen r scope m.name (trees member_tree m.members.items) ++ walk_finds w (below scope (text r m.name)) (trees member_tree m.members.items)
+  finds_of_message scope m = finds_of_block scope (header.Message (record { keyword = m.keyword; name = m.name })) m.open (trees member_tree m.members.items) m.close
+
+  pub finds_of_oneof : (scope : List ℕ) (o : Braced Field) → walk_finds w scope (oneof_tree o) ≡ oneof_finds w.rules.now.chosen r scope o.name
+  finds_of_oneof scope o =
+      finds_of_flat scope (header.Oneof (record { keyword = o.keyword; name = o.name })) o.open (trees field_tree o.members.items) o.close (no_finds field_tree scope (λ f. refl) o.members.items)
+
+  pub finds_of_enum : (scope : List ℕ) (e : Braced EnumItem) → walk_finds w scope (enum_tree e) ≡ enum_finds w.rules.now.chosen r scope e.name (trees enum_item_tree e.members.items)
+  finds_of_enum scope e =
+      finds_of_flat scope (header.Enum (record { keyword = e.keyword; name = e.name })) e.open (trees enum_item_tree e.members.items) e.close (no_finds enum_item_tree scope (none_in_enum scope) e.members.items)
+
+  pub finds_of_service : (scope : List ℕ) (s : Braced ServiceItem) → walk_finds w scope (service_tree s)
+      ≡ service_finds w.rules.now.chosen r scope s.name ++ methods_finds w.rules.now.chosen r w.messages.now scope s.name (trees service_item_tree s.members.items)
+  finds_of_service scope s =
+      let inner = below scope (text r s.name) in
+      finds_of_flat scope (header.Service (record { keyword = s.keyword; name = s.name })) s.open (trees service_item_tree s.members.items) s.close (no_finds service_item_tree inner (none_in_service inner) s.members.items)

@@ -1,0 +1,6 @@
+mod BlockTrees
+mod EnumItems
+mod FileMessages
+mod Joins
+mod OuterMessages
+mod Twice

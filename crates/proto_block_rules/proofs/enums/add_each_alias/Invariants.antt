@@ -1,0 +1,12 @@
+use Rattle.std.proofs.Common.{◌≡◌, ◌++◌, drop, map, flat_map}
+use Rattle.proto_tree.specs.File.{enum_item_tree, trees}
+use Rattle.proto_parts.specs.Parts.{statements}
+use Rattle.proto_findings.specs.declared.rule.Rule.TheVariants as rule
+use Rattle.proto_findings.specs.Placed.{found_at}
+use Rattle.proto_findings.specs.Readings.{reading_of}
+use Rattle.proto_findings.specs.Views.{found_of}
+use Rattle.proto_block_rules.specs.NameRules.{allowed_alias}
+use Rattle.proto_block_rules.proofs.enums.add_each_alias.Given as goal
+
+abbrev pub invariant-loop-item : goal.invariant-loop-item
+invariant-loop-item l = map found_of l.found.items ++ map (found_at (reading_of l.reading) rule.EnumNoAllowAlias) (flat_map (allowed_alias (reading_of l.reading) l.full_name) (statements (trees enum_item_tree (drop l.item-index l.items)))) ≡ map found_of l.initial.found.items ++ map (found_at (reading_of l.reading) rule.EnumNoAllowAlias) (flat_map (allowed_alias (reading_of l.reading) l.full_name) (statements (trees enum_item_tree l.items)))

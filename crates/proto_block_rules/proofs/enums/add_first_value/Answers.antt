@@ -1,0 +1,31 @@
+use Rattle.std.proofs.Common.{◌≡◌, Bool, ◌++◌, List, get_or, map, sym, ap, subst, ◌∙◌}
+use Rattle.std.specs.Result.{OnOk}
+use Rattle.std.proofs.lemmas.List.{append-nil}
+use Rattle.proto_tree.specs.declared.tree.EnumItem.{EnumItem}
+use Rattle.proto_findings.specs.declared.found.Found.{Found as FoundAt}
+use Rattle.proto_findings.specs.declared.rule.Rule.TheVariants as rule
+use Rattle.proto_findings.specs.Placed.{Found, below, found_at, unless}
+use Rattle.proto_findings.specs.Readings.{reading_of, text}
+use Rattle.proto_findings.specs.Views.{found_of}
+use Rattle.proto_block_rules.proofs.EnumItems.{first_found, first_there, none_found, none_left}
+use Rattle.proto_block_rules.proofs.enums.add_first_value.Goals as goal
+
+pub returns-in-Value : goal.returns-in-Value
+returns-in-Value c =
+    let r = reading_of c.args.reading.now in
+    let items = c.args.items.now in
+    let here = sym c.in-Value.is ∙ c.item-item.is ∙ ap (λ (x : EnumItem). get_or items c.loop-item.item-index x) c.in-Value.is in
+    let first = first_there items c.loop-item.item-index c.in-Value.value c.loop-item-test.true here c.loop-item.invariant.left in
+    let found = first_found c.args.rules.now.chosen r rule.EnumFirstValueZero c.args.scope.now _ _ c.in-Value.value (sym c.has.ensures ∙ c.if-not-has.false) first in
+    let v = c.in-Value.value in
+    let told : Bool → List Found = λ passes. map (found_at r rule.EnumFirstValueZero) (unless passes v.name (below c.args.scope.now (text r v.name))) in
+    let new = map found_of c.add_below_unless.new.found.items in
+    let same = subst (λ (fs : List FoundAt). OnOk c.add_below_unless.result (new ≡ map found_of fs ++ told c.is_zero-passes.result)) c.loop-item.invariant.same c.add_below_unless.ensures in
+    subst (λ (fs : List Found). OnOk c.add_below_unless.result (new ≡ map found_of c.args.found.now.items ++ fs)) found
+    (subst (λ (passes : Bool). OnOk c.add_below_unless.result (new ≡ map found_of c.args.found.now.items ++ told passes)) c.is_zero-passes.ensures same)
+
+pub returns : goal.returns
+returns c =
+    let r = reading_of c.args.reading.now in
+    let none = none_found c.args.rules.now.chosen r rule.EnumFirstValueZero c.args.scope.now _ (sym c.has.ensures ∙ c.if-not-has.false) (none_left c.args.items.now c.loop-item.item-index c.loop-item-test.false c.loop-item.invariant.left) in
+    ap (λ (fs : List FoundAt). map found_of fs) c.loop-item.invariant.same ∙ sym (append-nil (map found_of c.args.found.now.items)) ∙ ap (λ (fs : List Found). map found_of c.args.found.now.items ++ fs) none

@@ -1,0 +1,5 @@
+pub mod BlockFinds
+pub mod Blocks
+pub mod Methods
+pub mod NameRules
+pub mod Walks

@@ -1,0 +1,113 @@
+//! The rules of messages, their fields and their oneofs.
+
+ghost use Rattle.std.specs.Prelude.{◌≡◌, ◌++◌, flat_map, map, OnOk};
+ghost use Rattle.proto_tree.specs.File.{member_tree, trees};
+ghost use Rattle.proto_parts.specs.Views.{field_of};
+ghost use Rattle.proto_case.specs.Cases.{is_lower_snake};
+ghost use Rattle.proto_findings.specs.declared.rule.Rule.TheVariants as rule;
+ghost use Rattle.proto_findings.specs.Placed.{found_at, found_by, unless_word};
+ghost use Rattle.proto_findings.specs.Readings.{reading_of};
+ghost use Rattle.proto_findings.specs.Views.{found_of};
+ghost use Rattle.proto_block_rules.specs.NameRules.{field_lower_snake_case, message_finds, message_pascal_case, oneof_finds};
+
+use proto_case::{is_lower_snake, is_pascal};
+use proto_faults::NoMemory;
+use proto_findings::{Found, Reading, Rule, RuleSet, add_below_unless, below};
+use proto_parts::{FieldAt, fields_of};
+use proto_tree::{Message, Oneof};
+use std::alloc::Global;
+
+fn add_message_name(
+    alloc: Global,
+    found: &mut Vec<Found>,
+    rules: &RuleSet,
+    reading: &Reading,
+    scope: &str,
+    name: u32,
+) -> Result<(), NoMemory>
+    ensures { OnOk result (map found_of found.new.items ≡ map found_of found.old.items ++ found_by rules.now.chosen (reading_of reading.now) rule.MessagePascalCase (message_pascal_case (reading_of reading.now) scope.now name)) }
+{
+    let rule = Rule::MessagePascalCase;
+    if !rules.has(rule) {
+        return Ok(());
+    }
+    let passes = is_pascal(reading.text(name));
+    add_below_unless(alloc, found, reading, rule, passes, scope, name)
+}
+
+// The fields of a message with this full name.
+fn add_each_field(
+    alloc: Global,
+    found: &mut Vec<Found>,
+    reading: &Reading,
+    message: &str,
+    fields: &[FieldAt],
+) -> Result<(), NoMemory>
+    ensures { OnOk result (map found_of found.new.items ≡ map found_of found.old.items ++ map (found_at (reading_of reading.now) rule.FieldLowerSnakeCase) (flat_map (λ f. unless_word (reading_of reading.now) is_lower_snake message.now f.name) (map field_of fields.now))) }
+{
+    for field in fields {
+        let passes = is_lower_snake(reading.text(field.name));
+        add_below_unless(
+            alloc,
+            found,
+            reading,
+            Rule::FieldLowerSnakeCase,
+            passes,
+            message,
+            field.name,
+        )?;
+    }
+    Ok(())
+}
+
+fn add_field_names(
+    alloc: Global,
+    found: &mut Vec<Found>,
+    rules: &RuleSet,
+    reading: &Reading,
+    scope: &str,
+    message: &Message,
+) -> Result<(), NoMemory>
+    ensures { OnOk result (map found_of found.new.items ≡ map found_of found.old.items ++ found_by rules.now.chosen (reading_of reading.now) rule.FieldLowerSnakeCase (field_lower_snake_case (reading_of reading.now) scope.now message.now.name (trees member_tree message.now.members.items))) }
+{
+    if !rules.has(Rule::FieldLowerSnakeCase) {
+        return Ok(());
+    }
+    let full_name = below(alloc, scope, reading.text(message.name))?;
+    let fields = fields_of(alloc, &message.members)?;
+    add_each_field(alloc, found, reading, &full_name, &fields)
+}
+
+/// Adds what the rules find at a message in a scope: its name, and those of its fields.
+pub(crate) fn add_message(
+    alloc: Global,
+    found: &mut Vec<Found>,
+    rules: &RuleSet,
+    reading: &Reading,
+    scope: &str,
+    message: &Message,
+) -> Result<(), NoMemory>
+    ensures { OnOk result (map found_of found.new.items ≡ map found_of found.old.items ++ message_finds rules.now.chosen (reading_of reading.now) scope.now message.now.name (trees member_tree message.now.members.items)) }
+{
+    add_message_name(alloc, found, rules, reading, scope, message.name)?;
+    add_field_names(alloc, found, rules, reading, scope, message)
+}
+
+/// Adds what the rules find at the name of a oneof in a scope.
+pub(crate) fn add_oneof(
+    alloc: Global,
+    found: &mut Vec<Found>,
+    rules: &RuleSet,
+    reading: &Reading,
+    scope: &str,
+    oneof: &Oneof,
+) -> Result<(), NoMemory>
+    ensures { OnOk result (map found_of found.new.items ≡ map found_of found.old.items ++ oneof_finds rules.now.chosen (reading_of reading.now) scope.now oneof.now.name) }
+{
+    let rule = Rule::OneofLowerSnakeCase;
+    if !rules.has(rule) {
+        return Ok(());
+    }
+    let passes = is_lower_snake(reading.text(oneof.name));
+    add_below_unless(alloc, found, reading, rule, passes, scope, oneof.name)
+}

@@ -1,0 +1,151 @@
+//! The rules of services, and those of their methods.
+
+ghost use Rattle.std.specs.Prelude.{◌≡◌, ◌++◌, nat_eq, codes, flat_map, map, OnOk};
+ghost use Rattle.std.specs.List.{ends_with};
+ghost use Rattle.proto_tree.specs.File.{service_item_tree, trees};
+ghost use Rattle.proto_findings.specs.declared.rule.Rule.TheVariants as rule;
+ghost use Rattle.proto_findings.specs.Placed.{found_by};
+ghost use Rattle.proto_findings.specs.Readings.{reading_of};
+ghost use Rattle.proto_findings.specs.Views.{found_of};
+ghost use Rattle.proto_block_rules.specs.Methods.{method_finds, methods_finds, signatures_in};
+ghost use Rattle.proto_block_rules.specs.NameRules.{service_finds, service_pascal_case, service_suffix};
+
+use crate::methods::{ServiceName, add_method};
+use crate::shared::Messages;
+use proto_case::is_pascal;
+use proto_faults::NoMemory;
+use proto_findings::{Found, Reading, Rule, RuleSet, add_below_unless, below};
+use proto_tree::{Service, ServiceItem};
+use std::alloc::Global;
+
+fn add_service_name(
+    alloc: Global,
+    found: &mut Vec<Found>,
+    rules: &RuleSet,
+    reading: &Reading,
+    scope: &str,
+    name: u32,
+) -> Result<(), NoMemory>
+    ensures { OnOk result (map found_of found.new.items ≡ map found_of found.old.items ++ found_by rules.now.chosen (reading_of reading.now) rule.ServicePascalCase (service_pascal_case (reading_of reading.now) scope.now name)) }
+{
+    let rule = Rule::ServicePascalCase;
+    if !rules.has(rule) {
+        return Ok(());
+    }
+    let passes = is_pascal(reading.text(name));
+    add_below_unless(alloc, found, reading, rule, passes, scope, name)
+}
+
+fn has_service_suffix(word: &str) -> bool
+    ensures { result ≡ ends_with nat_eq word.now (codes "Service") }
+{
+    word.ends_with("Service")
+}
+
+fn add_service_suffix(
+    alloc: Global,
+    found: &mut Vec<Found>,
+    rules: &RuleSet,
+    reading: &Reading,
+    scope: &str,
+    name: u32,
+) -> Result<(), NoMemory>
+    ensures { OnOk result (map found_of found.new.items ≡ map found_of found.old.items ++ found_by rules.now.chosen (reading_of reading.now) rule.ServiceSuffix (service_suffix (reading_of reading.now) scope.now name)) }
+{
+    let rule = Rule::ServiceSuffix;
+    if !rules.has(rule) {
+        return Ok(());
+    }
+    let passes = has_service_suffix(reading.text(name));
+    add_below_unless(alloc, found, reading, rule, passes, scope, name)
+}
+
+// What the rules of methods find at an item of a service.
+fn add_item(
+    alloc: Global,
+    found: &mut Vec<Found>,
+    rules: &RuleSet,
+    reading: &Reading,
+    messages: &Messages,
+    service: &ServiceName,
+    item: &ServiceItem,
+) -> Result<(), NoMemory>
+    ensures { OnOk result (map found_of found.new.items ≡ map found_of found.old.items ++ flat_map (method_finds rules.now.chosen (reading_of reading.now) messages.now service.now.full.now service.now.token) (signatures_in (service_item_tree item.now))) }
+{
+    match item {
+        ServiceItem::Method(method) => {
+            add_method(
+                alloc,
+                found,
+                rules,
+                reading,
+                messages,
+                service,
+                &method.signature,
+            )
+        }
+        _ => Ok(()),
+    }
+}
+
+fn add_items(
+    alloc: Global,
+    found: &mut Vec<Found>,
+    rules: &RuleSet,
+    reading: &Reading,
+    messages: &Messages,
+    service: &ServiceName,
+    items: &[ServiceItem],
+) -> Result<(), NoMemory>
+    ensures { OnOk result (map found_of found.new.items ≡ map found_of found.old.items ++ flat_map (method_finds rules.now.chosen (reading_of reading.now) messages.now service.now.full.now service.now.token) (signatures_in (trees service_item_tree items.now))) }
+{
+    for item in items {
+        add_item(alloc, found, rules, reading, messages, service, item)?;
+    }
+    Ok(())
+}
+
+fn add_methods(
+    alloc: Global,
+    found: &mut Vec<Found>,
+    rules: &RuleSet,
+    reading: &Reading,
+    messages: &Messages,
+    scope: &str,
+    service: &Service,
+) -> Result<(), NoMemory>
+    ensures { OnOk result (map found_of found.new.items ≡ map found_of found.old.items ++ methods_finds rules.now.chosen (reading_of reading.now) messages.now scope.now service.now.name (trees service_item_tree service.now.members.items)) }
+{
+    let full = below(alloc, scope, reading.text(service.name))?;
+    let name = ServiceName {
+        full: &full,
+        token: service.name,
+    };
+    add_items(
+        alloc,
+        found,
+        rules,
+        reading,
+        messages,
+        &name,
+        &service.members,
+    )
+}
+
+/// Adds what the rules find at a service in a scope: its name, and its methods, where these are the messages of all
+/// methods of the workspace.
+pub(crate) fn add_service(
+    alloc: Global,
+    found: &mut Vec<Found>,
+    rules: &RuleSet,
+    reading: &Reading,
+    messages: &Messages,
+    scope: &str,
+    service: &Service,
+) -> Result<(), NoMemory>
+    ensures { OnOk result (map found_of found.new.items ≡ map found_of found.old.items ++ (service_finds rules.now.chosen (reading_of reading.now) scope.now service.now.name ++ methods_finds rules.now.chosen (reading_of reading.now) messages.now scope.now service.now.name (trees service_item_tree service.now.members.items))) }
+{
+    add_service_name(alloc, found, rules, reading, scope, service.name)?;
+    add_service_suffix(alloc, found, rules, reading, scope, service.name)?;
+    add_methods(alloc, found, rules, reading, messages, scope, service)
+}

@@ -1,7 +1,0 @@
-use Rattle.std.proofs.Common.{take}
-use Rattle.std.specs.List.{Contains}
-use Rattle.proto_checks.specs.Flaws.{IsLeast}
-use Rattle.proto_checks.proofs.flaw.least.Given as goal
-
-abbrev pub invariant-loop-flaw : goal.invariant-loop-flaw
-invariant-loop-flaw l = IsLeast (Contains (take l.flaw-index l.found)) l.least

@@ -1,8 +1,0 @@
-use Rattle.std.proofs.Common.{◌≡◌, ◌++◌, List, take}
-use Rattle.proto_checks.specs.declared.numbers.RangeAt.{RangeAt}
-use Rattle.proto_checks.specs.NumberFlaws.{reserved_numbers}
-use Rattle.proto_checks.specs.RangeIndex.{IsIndexOf}
-use Rattle.proto_checks.proofs.numbers.add_inside.Given as goal
-
-abbrev pub invariant-loop-at : goal.invariant-loop-at
-invariant-loop-at l = (rs : List RangeAt) → IsIndexOf rs l.index → l.found.items ≡ l.initial.found.items ++ reserved_numbers rs (take l.at-index l.numbers)

@@ -1,0 +1,4 @@
+pub mod DeletedFlaws
+pub mod MovedFlaws
+pub mod MovedParts
+pub mod RenamedFlaws

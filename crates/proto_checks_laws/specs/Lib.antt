@@ -1,0 +1,3 @@
+pub mod Deleted
+pub mod Imports
+pub mod Renamed

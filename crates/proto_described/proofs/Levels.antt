@@ -1,0 +1,124 @@
+-- What stands right in a message or a file, of trees that stand one behind another.
+use Rattle.std.proofs.Common.{◌≡◌, ℕ, ◌+◌, ◌<◌, ◌≤◌, List, [], ◌∷◌, ◌++◌, length, get_or, drop, refl, sym, ap, ◌∙◌, map}
+use Rattle.std.specs.List.{flat_map}
+use Rattle.std.specs.Prelude.{Option, option_to_list}
+use Rattle.std.proofs.lemmas.List.{append-nil, at_drop_more, at_drop_all}
+use Rattle.proto_tree.specs.declared.piece.Statement.TheVariants as statement
+use Rattle.proto_tree.specs.declared.piece.Header.TheVariants as header
+use Rattle.proto_tree.specs.File.{trees}
+use Rattle.proto_tree.specs.Tree.{Tree, End, Leaf, Block, joined}
+use Rattle.proto_parts.specs.Scenes.{Scene, text}
+use Rattle.proto_described.specs.Described.{below, enum_described, enums_described, oneof_names, entry_described, message_described, messages_described, method_described, methods_described, service_described, services_described}
+use Rattle.proto_parts.specs.Parts.{options_in}
+use Rattle.proto_meaning.specs.Joined.{joined as joined_name}
+use Rattle.proto_json.specs.Views.{MessageTree, message_desc, message_step, message_tree, messages_desc}
+use Rattle.proto_json.specs.declared.message.MessageDescriptor.{MessageDescriptor}
+use Rattle.proto_json.specs.declared.message.MessageDescriptor.TheOpen.{MessageDescriptor-F}
+use Rattle.proto_json.specs.declared.message.MessageDescriptor.TheFolds.{fold-roll-MessageDescriptor}
+use Rattle.proto_json.specs.declared.message.MessageDescriptor.TheViews.{roll-MessageDescriptor}
+use Rattle.proto_json.specs.Descriptors.{EnumDesc, MessageDesc, Messages, NoMessages, Message, MethodDesc, ServiceDesc}
+
+pub enums_joined : (scene : Scene) (t u : Tree) → enums_described scene (joined t u) ≡ enums_described scene t ++ enums_described scene u
+enums_joined scene End u = refl
+enums_joined scene (Leaf s rest) u = enums_joined scene rest u
+enums_joined scene (Block (header.Enum h) i within j rest) u = ap (λ (ds : List EnumDesc). enum_described scene h.name within ∷ ds) (enums_joined scene rest u)
+enums_joined scene (Block (header.Message h) i within j rest) u = enums_joined scene rest u
+enums_joined scene (Block (header.Oneof h) i within j rest) u = enums_joined scene rest u
+enums_joined scene (Block (header.Service h) i within j rest) u = enums_joined scene rest u
+enums_joined scene (Block (header.Method s) i within j rest) u = enums_joined scene rest u
+
+pub oneofs_joined : (scene : Scene) (t u : Tree) → oneof_names scene (joined t u) ≡ oneof_names scene t ++ oneof_names scene u
+oneofs_joined scene End u = refl
+oneofs_joined scene (Leaf s rest) u = oneofs_joined scene rest u
+oneofs_joined scene (Block (header.Oneof h) i within j rest) u = ap (λ (names : List (List ℕ)). text scene h.name ∷ names) (oneofs_joined scene rest u)
+oneofs_joined scene (Block (header.Message h) i within j rest) u = oneofs_joined scene rest u
+oneofs_joined scene (Block (header.Enum h) i within j rest) u = oneofs_joined scene rest u
+oneofs_joined scene (Block (header.Service h) i within j rest) u = oneofs_joined scene rest u
+oneofs_joined scene (Block (header.Method s) i within j rest) u = oneofs_joined scene rest u
+
+pub methods_joined : (scene : Scene) (t u : Tree) → methods_described scene (joined t u) ≡ methods_described scene t ++ methods_described scene u
+methods_joined scene End u = refl
+methods_joined scene (Leaf (statement.Method s i) rest) u = ap (λ (ds : List MethodDesc). method_described scene s [] ∷ ds) (methods_joined scene rest u)
+methods_joined scene (Leaf s rest) u = methods_joined scene rest u
+methods_joined scene (Block (header.Method s) i within j rest) u = ap (λ (ds : List MethodDesc). method_described scene s (options_in within) ∷ ds) (methods_joined scene rest u)
+methods_joined scene (Block (header.Oneof h) i within j rest) u = methods_joined scene rest u
+methods_joined scene (Block (header.Message h) i within j rest) u = methods_joined scene rest u
+methods_joined scene (Block (header.Enum h) i within j rest) u = methods_joined scene rest u
+methods_joined scene (Block (header.Service h) i within j rest) u = methods_joined scene rest u
+
+pub services_joined : (scene : Scene) (t u : Tree) → services_described scene (joined t u) ≡ services_described scene t ++ services_described scene u
+services_joined scene End u = refl
+services_joined scene (Leaf s rest) u = services_joined scene rest u
+services_joined scene (Block (header.Service h) i within j rest) u = ap (λ (ds : List ServiceDesc). service_described scene h.name within ∷ ds) (services_joined scene rest u)
+services_joined scene (Block (header.Message h) i within j rest) u = services_joined scene rest u
+services_joined scene (Block (header.Oneof h) i within j rest) u = services_joined scene rest u
+services_joined scene (Block (header.Enum h) i within j rest) u = services_joined scene rest u
+services_joined scene (Block (header.Method s) i within j rest) u = services_joined scene rest u
+
+-- ---- messages
+
+abbrev pub and_then : Messages → Messages → Messages
+and_then NoMessages others = others
+and_then (Message m nested rest) others = Message m nested (and_then rest others)
+
+pub messages_joined : (scene : Scene) (full : List ℕ) (t u : Tree) → messages_described scene full (joined t u) ≡ and_then (messages_described scene full t) (messages_described scene full u)
+messages_joined scene full End u = refl
+messages_joined scene full (Leaf (statement.MapField f) rest) u = ap (λ ms. Message (entry_described scene f) NoMessages ms) (messages_joined scene full rest u)
+messages_joined scene full (Leaf s rest) u = messages_joined scene full rest u
+messages_joined scene full (Block (header.Message h) i within j rest) u =
+    ap (λ ms. Message (message_described scene (below full (text scene h.name)) h.name within) (messages_described scene (below full (text scene h.name)) within) ms) (messages_joined scene full rest u)
+messages_joined scene full (Block (header.Oneof h) i within j rest) u = messages_joined scene full rest u
+messages_joined scene full (Block (header.Enum h) i within j rest) u = messages_joined scene full rest u
+messages_joined scene full (Block (header.Service h) i within j rest) u = messages_joined scene full rest u
+messages_joined scene full (Block (header.Method s) i within j rest) u = messages_joined scene full rest u
+
+pub and_then_assoc : (a b c : Messages) → and_then (and_then a b) c ≡ and_then a (and_then b c)
+and_then_assoc NoMessages b c = refl
+and_then_assoc (Message m nested rest) b c = ap (λ ms. Message m nested ms) (and_then_assoc rest b c)
+
+pub and_then_none : (ms : Messages) → and_then ms NoMessages ≡ ms
+and_then_none NoMessages = refl
+and_then_none (Message m nested rest) = ap (λ ms. Message m nested ms) (and_then_none rest)
+
+pub desc_append : (a b : List MessageDescriptor) → messages_desc (a ++ b) ≡ and_then (messages_desc a) (messages_desc b)
+desc_append [] b = refl
+desc_append (d ∷ a) b = ap (λ ms. Message (message_tree d).message (message_tree d).nested_type ms) (desc_append a b)
+
+-- the next item gives one descriptor or none
+pub described_more : {A : Type 0} (view : A → Tree) (scene : Scene) (full : List ℕ) (items : List A) (i : ℕ) (x : A) (ds : List MessageDescriptor) (o : Option MessageDescriptor) (whole : Messages)
+    → i < length items → x ≡ get_or items i x → messages_desc (option_to_list o) ≡ messages_described scene full (view x)
+    → and_then (messages_desc ds) (messages_described scene full (trees view (drop i items))) ≡ whole
+    → and_then (messages_desc (ds ++ option_to_list o)) (messages_described scene full (trees view (drop (i + 1) items))) ≡ whole
+described_more view scene full items i x ds o whole l e m before =
+    let next = trees view (drop (i + 1) items) in
+    ap (λ ms. and_then ms (messages_described scene full next)) (desc_append ds (option_to_list o) ∙ ap (and_then (messages_desc ds)) m)
+    ∙ and_then_assoc (messages_desc ds) (messages_described scene full (view x)) (messages_described scene full next)
+    ∙ ap (and_then (messages_desc ds)) (sym (messages_joined scene full (view x) next) ∙ ap (λ y. messages_described scene full (joined (view y) next)) e ∙ sym (at_drop_more (λ xs. messages_described scene full (trees view xs)) items i x l))
+    ∙ before
+
+-- there is no next item
+pub described_all : {A : Type 0} (view : A → Tree) (scene : Scene) (full : List ℕ) (items : List A) (i : ℕ) (ds : List MessageDescriptor) (whole : Messages)
+    → length items ≤ i → and_then (messages_desc ds) (messages_described scene full (trees view (drop i items))) ≡ whole → messages_desc ds ≡ whole
+described_all view scene full items i ds whole l before =
+    sym (and_then_none (messages_desc ds)) ∙ ap (and_then (messages_desc ds)) (sym (at_drop_all (λ xs. messages_described scene full (trees view xs)) items i l)) ∙ before
+
+-- a message's own part and those nested in it
+pub level_of : (m : MessageDescriptor-F MessageDescriptor) → message_tree (roll-MessageDescriptor m) ≡ record { message = message_desc m; nested_type = messages_desc m.nested_type.items }
+level_of m = fold-roll-MessageDescriptor MessageTree message_step m
+
+pub same_parts : (a b : MessageDesc) → a.name ≡ b.name → a.field ≡ b.field → a.enum_type ≡ b.enum_type → a.extension_range ≡ b.extension_range → a.oneof_decl ≡ b.oneof_decl → a.reserved_range ≡ b.reserved_range → a.reserved_name ≡ b.reserved_name → a.options ≡ b.options → a ≡ b
+same_parts a b n f e x o r w s =
+    ap (λ v. record { name = v; field = a.field; enum_type = a.enum_type; extension_range = a.extension_range; oneof_decl = a.oneof_decl; reserved_range = a.reserved_range; reserved_name = a.reserved_name; options = a.options }) n
+    ∙ ap (λ v. record { name = b.name; field = v; enum_type = a.enum_type; extension_range = a.extension_range; oneof_decl = a.oneof_decl; reserved_range = a.reserved_range; reserved_name = a.reserved_name; options = a.options }) f
+    ∙ ap (λ v. record { name = b.name; field = b.field; enum_type = v; extension_range = a.extension_range; oneof_decl = a.oneof_decl; reserved_range = a.reserved_range; reserved_name = a.reserved_name; options = a.options }) e
+    ∙ ap (λ v. record { name = b.name; field = b.field; enum_type = b.enum_type; extension_range = v; oneof_decl = a.oneof_decl; reserved_range = a.reserved_range; reserved_name = a.reserved_name; options = a.options }) x
+    ∙ ap (λ v. record { name = b.name; field = b.field; enum_type = b.enum_type; extension_range = b.extension_range; oneof_decl = v; reserved_range = a.reserved_range; reserved_name = a.reserved_name; options = a.options }) o
+    ∙ ap (λ v. record { name = b.name; field = b.field; enum_type = b.enum_type; extension_range = b.extension_range; oneof_decl = b.oneof_decl; reserved_range = v; reserved_name = a.reserved_name; options = a.options }) r
+    ∙ ap (λ v. record { name = b.name; field = b.field; enum_type = b.enum_type; extension_range = b.extension_range; oneof_decl = b.oneof_decl; reserved_range = b.reserved_range; reserved_name = v; options = a.options }) w
+    ∙ ap (λ v. record { name = b.name; field = b.field; enum_type = b.enum_type; extension_range = b.extension_range; oneof_decl = b.oneof_decl; reserved_range = b.reserved_range; reserved_name = b.reserved_name; options = v }) s
+
+-- ---- names
+
+pub joined_words : (scene : Scene) (t : ℕ) (ts : List ℕ) → joined_name (map (text scene) (t ∷ ts)) ≡ text scene t ++ flat_map (λ w. 46 ∷ text scene w) ts
+joined_words scene t [] = sym (append-nil (text scene t))
+joined_words scene t (w ∷ ts) = ap (λ (rest : List ℕ). text scene t ++ 46 ∷ rest) (joined_words scene w ts)

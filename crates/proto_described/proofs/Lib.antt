@@ -1,0 +1,2 @@
+pub mod CappedDescriptors
+pub mod Levels

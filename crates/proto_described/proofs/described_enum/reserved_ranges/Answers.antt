@@ -1,0 +1,14 @@
+use Rattle.std.proofs.Common.{◌∙◌, ap, sym, map, Bor, arith}
+use Rattle.std.proofs.lemmas.List.{take_all}
+use Rattle.proto_tree.specs.declared.tree.Range.{Range}
+use Rattle.proto_tree.specs.declared.tree.Signed.{Signed}
+use Rattle.proto_numbers.specs.NumberFlaws.{enum_range_of}
+use Rattle.proto_described.specs.Described.{value_range}
+use Rattle.proto_json.proofs.Mapped.{map_both}
+use Rattle.proto_described.proofs.described_enum.reserved_ranges.Goals as goal
+
+pub returns : goal.returns
+returns c =
+    c.loop-range.invariant
+    ∙ ap (map value_range) (take_all c.loop-range.range-index c.deref-range-items.result.now (omega (arith, c.loop-range-test.false)) ∙ c.deref-range-items.ensures.value ∙ c.in_ok-ranges.ensures)
+    ∙ sym (map_both value_range (enum_range_of c.args.scene.now) (map {A = Bor (Range Signed)} {B = Range Signed} (λ r. r.now) c.args.written.now))

@@ -1,0 +1,12 @@
+use Rattle.std.proofs.Common.{◌∙◌, List, ap, map, Bor, arith}
+use Rattle.std.proofs.lemmas.List.{take_all}
+use Rattle.proto_tree.specs.declared.tree.Value.{Value}
+use Rattle.proto_described.specs.Described.{value_described}
+use Rattle.proto_json.proofs.Mapped.{map_both}
+use Rattle.proto_described.proofs.described_enum.value_descriptors.Goals as goal
+
+pub returns : goal.returns
+returns c =
+    c.loop-value.invariant
+    ∙ ap (λ (vs : List (Bor Value)). map (λ v. value_described c.args.scene.now v.now) vs) (take_all c.loop-value.value-index c.args.values.now (omega (arith, c.loop-value-test.false)))
+    ∙ map_both {A = Bor Value} {B = Value} (value_described c.args.scene.now) (λ v. v.now) c.args.values.now

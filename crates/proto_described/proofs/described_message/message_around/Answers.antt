@@ -1,0 +1,22 @@
+use Rattle.std.proofs.Common.{◌∙◌, ap, map}
+use Rattle.proto_tree.specs.File.{member_tree, trees}
+use Rattle.proto_parts.specs.Scenes.{value}
+use Rattle.proto_json.specs.Descriptors.{MessageDesc}
+use Rattle.proto_described.specs.Described.{message_described}
+use Rattle.proto_json.specs.Views.{messages_desc}
+use Rattle.proto_described.proofs.Levels.{level_of, same_parts}
+use Rattle.proto_described.proofs.described_message.message_around.Goals as goal
+
+pub returns : goal.returns
+returns c =
+    level_of _
+    ∙ ap (λ (m : MessageDesc). record { message = m; nested_type = messages_desc c.args.nested.items })
+    (same_parts _ (message_described c.args.scene.now c.args.full.now c.args.name (trees member_tree c.args.members.now))
+    (c.in_ok-from_str.ensures.ok ∙ c.text.ensures)
+    c.in_ok-field_descriptors.ensures
+    c.in_ok-enum_descriptors.ensures
+    c.in_ok-extensions.ensures
+    c.in_ok-oneof_descriptors.ensures
+    c.in_ok-reserved_numbers.ensures
+    (c.in_ok-strings.ensures ∙ ap (map (value c.args.scene.now)) (c.deref.ensures.value ∙ c.in_ok-reserved_names.ensures))
+    c.in_ok-options_of_message.ensures)

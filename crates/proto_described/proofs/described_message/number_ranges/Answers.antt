@@ -1,0 +1,12 @@
+use Rattle.std.proofs.Common.{◌∙◌, sym, ap, map, arith}
+use Rattle.std.proofs.lemmas.List.{take_all}
+use Rattle.proto_numbers.specs.NumberFlaws.{range_of}
+use Rattle.proto_described.specs.Described.{number_range}
+use Rattle.proto_json.proofs.Mapped.{map_both}
+use Rattle.proto_described.proofs.described_message.number_ranges.Goals as goal
+
+pub returns : goal.returns
+returns c =
+    c.loop-range.invariant
+    ∙ ap (map number_range) (take_all c.loop-range.range-index c.deref-range-items.result.now (omega arith) ∙ c.deref-range-items.ensures.value ∙ c.in_ok-ranges.ensures)
+    ∙ sym (map_both number_range (range_of c.args.scene.now) (map (λ r. r.now) c.args.written.now))

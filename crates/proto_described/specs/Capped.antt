@@ -1,0 +1,10 @@
+-- A cap past every limit of the language changes nothing of a file's descriptor.
+use Rattle.std.specs.Prelude.{◌≡◌, ℕ, List, Some}
+use Rattle.proto_tree.specs.Tree.{Tree}
+use Rattle.proto_parts.specs.Numbers.{past}
+use Rattle.proto_parts.specs.Scenes.{Scene, uncapped}
+use Rattle.proto_described.specs.Described.{file_described}
+
+-- the descriptor is the same with the cap and without it
+abbrev pub CapsKeepTheDescriptor : Type 0
+CapsKeepTheDescriptor = (scene : Scene) (path : List ℕ) (tree : Tree) → scene.cap ≡ Some past → file_described scene path tree ≡ file_described (uncapped scene) path tree

@@ -1,0 +1,98 @@
+//! The descriptors of enums.
+
+ghost use Rattle.std.specs.Prelude.{◌≡◌, map, IfOk};
+ghost use Rattle.proto_tree.specs.File.{enum_item_tree, trees};
+ghost use Rattle.proto_parts.specs.Views.{option_of};
+ghost use Rattle.proto_numbers.specs.NumberFlaws.{enum_range_of};
+ghost use Rattle.proto_described.specs.Described.{value_described, value_range, enum_options, enum_described};
+ghost use Rattle.proto_json.specs.Views.{enum_value_desc, enum_desc};
+
+use crate::described_names::strings;
+use crate::described_numbers::{value_number, value_range};
+use proto_faults::NoMemory;
+use proto_json::{
+    EnumDescriptor, EnumOptions, EnumReservedRange, EnumValueDescriptor, EnumValueOptions,
+};
+use proto_numbers::value_ranges;
+use proto_parts::{
+    OptionAt, Scene, enum_ranges, enum_reserved_names, options_between, truth_option, values,
+};
+use proto_tree::{Enum, Range, Signed, Value};
+use std::alloc::Global;
+
+fn value_descriptor(
+    alloc: Global,
+    scene: &Scene,
+    value: &Value,
+) -> Result<EnumValueDescriptor, NoMemory>
+    ensures { IfOk result (λ d. enum_value_desc d ≡ value_described scene.now value.now) }
+{
+    let options = options_between(alloc, value.settings.as_ref())?;
+    Ok(EnumValueDescriptor {
+        name: String::from_str(alloc, scene.text(value.name))?,
+        number: value_number(scene.signed(value.number)),
+        options: EnumValueOptions {
+            deprecated: truth_option(scene, &options, "deprecated"),
+        },
+    })
+}
+
+fn value_descriptors(
+    alloc: Global,
+    scene: &Scene,
+    values: &[&Value],
+) -> Result<Vec<EnumValueDescriptor>, NoMemory>
+    ensures { IfOk result (λ ds. map enum_value_desc ds.items ≡ map (value_described scene.now) (map (λ v. v.now) values.now)) }
+{
+    let mut descriptors = Vec::new(alloc);
+    for value in values {
+        descriptors.push(value_descriptor(alloc, scene, value)?)?;
+    }
+    Ok(descriptors)
+}
+
+fn reserved_ranges(
+    alloc: Global,
+    scene: &Scene,
+    written: &[&Range<Signed>],
+) -> Result<Vec<EnumReservedRange>, NoMemory>
+    ensures { IfOk result (λ found. found.items ≡ map (λ r. value_range (enum_range_of scene.now r)) (map (λ r. r.now) written.now)) }
+{
+    let ranges = value_ranges(alloc, scene, written)?;
+    let mut found = Vec::new(alloc);
+    for range in &ranges {
+        found.push(value_range(*range))?;
+    }
+    Ok(found)
+}
+
+fn enum_options(scene: &Scene, options: &[OptionAt]) -> EnumOptions
+    ensures { result ≡ enum_options scene.now (map option_of options.now) }
+{
+    EnumOptions {
+        allow_alias: truth_option(scene, options, "allow_alias"),
+        deprecated: truth_option(scene, options, "deprecated"),
+    }
+}
+
+/// The descriptor of an enum.
+pub(crate) fn enum_descriptor(
+    alloc: Global,
+    scene: &Scene,
+    enumeration: &Enum,
+) -> Result<EnumDescriptor, NoMemory>
+    ensures { IfOk result (λ d. enum_desc d ≡ enum_described scene.now enumeration.now.name (trees enum_item_tree enumeration.now.members.items)) }
+{
+    let items = &enumeration.members;
+    let values = values(alloc, items)?;
+    let ranges = enum_ranges(alloc, items)?;
+    let names = enum_reserved_names(alloc, items)?;
+    let options = proto_parts::enum_options(alloc, items)?;
+    Ok(EnumDescriptor {
+        name: String::from_str(alloc, scene.text(enumeration.name))?,
+        value: value_descriptors(alloc, scene, &values)?,
+        reserved_range: reserved_ranges(alloc, scene, &ranges)?,
+        reserved_name: strings(alloc, scene, &names)?,
+        options: enum_options(scene, &options),
+    })
+}

@@ -1,0 +1,121 @@
+//! The descriptors of fields.
+
+ghost use Rattle.std.specs.Prelude.{◌≡◌, codes, map, option_map, IfOk};
+ghost use Rattle.std.specs.String.{string_bytes};
+ghost use Rattle.proto_parts.specs.Options.{value_named};
+ghost use Rattle.proto_parts.specs.Scenes.{text};
+ghost use Rattle.proto_parts.specs.Views.{field_of, option_of};
+ghost use Rattle.proto_parts.specs.Labels.{has_label};
+ghost use Rattle.proto_described.specs.Described.{label_of, field_type_of, field_type_name, default_text, field_options, field_described};
+ghost use Rattle.proto_json.specs.Views.{field_desc};
+
+use crate::described_names::below;
+use crate::described_numbers::{default_number, field_number};
+use crate::described_type::{type_name, type_of};
+use proto_case::entry_name;
+use proto_faults::NoMemory;
+use proto_json::{FieldDescriptor, FieldOptions, FieldType, Label};
+use proto_parts::{
+    FieldAt, OptionAt, Scene, has_label, json_name, option_named, options_between, text_value,
+    truth_option,
+};
+use proto_tree::Constant;
+use std::alloc::Global;
+
+fn label_of(scene: &Scene, field: FieldAt) -> Label
+    ensures { result ≡ label_of scene.now (field_of field.entry) }
+{
+    if field.map_key.is_some() || has_label(scene, "repeated", field) {
+        Label::Repeated
+    } else if has_label(scene, "required", field) {
+        Label::Required
+    } else {
+        Label::Optional
+    }
+}
+
+fn field_type_of(scene: &Scene, field: FieldAt) -> FieldType
+    ensures { result ≡ field_type_of scene.now (field_of field.entry) }
+{
+    if field.map_key.is_some() {
+        FieldType::Message
+    } else {
+        type_of(scene, field.kind)
+    }
+}
+
+// The entry of a map field is nested in the field's own message.
+fn field_type_name(
+    alloc: Global,
+    scene: &Scene,
+    full: &str,
+    field: FieldAt,
+) -> Result<Option<String>, NoMemory>
+    ensures { IfOk result (λ name. option_map string_bytes name ≡ field_type_name scene.now full.now (field_of field.entry)) }
+{
+    if field.map_key.is_some() {
+        let entry = entry_name(alloc, scene.text(field.name))?;
+        Ok(Some(below(alloc, full, &entry)?))
+    } else {
+        type_name(alloc, scene, field.kind)
+    }
+}
+
+fn default_text(alloc: Global, scene: &Scene, constant: &Constant) -> Result<String, NoMemory>
+    ensures { IfOk result (λ d. string_bytes d ≡ default_text scene.now constant.now) }
+{
+    match constant {
+        Constant::Number(number) => { Ok(default_number(scene.signed(*number)).to_string(alloc)?) }
+        Constant::Word(word) => Ok(String::from_str(alloc, scene.text(*word))?),
+        Constant::Text(_) => match text_value(alloc, scene, constant)? {
+            Some(value) => Ok(value),
+            None => Ok(String::new(alloc)),
+        },
+    }
+}
+
+fn default_value(
+    alloc: Global,
+    scene: &Scene,
+    options: &[OptionAt],
+) -> Result<Option<String>, NoMemory>
+    ensures { IfOk result (λ d. option_map string_bytes d ≡ option_map (default_text scene.now) (value_named (text scene.now) (codes "default") (map option_of options.now))) }
+{
+    match option_named(scene, options, "default") {
+        Some(option) => Ok(Some(default_text(alloc, scene, option.value)?)),
+        None => Ok(None),
+    }
+}
+
+fn field_options(scene: &Scene, options: &[OptionAt]) -> FieldOptions
+    ensures { result ≡ field_options scene.now (map option_of options.now) }
+{
+    FieldOptions {
+        packed: truth_option(scene, options, "packed"),
+        deprecated: truth_option(scene, options, "deprecated"),
+    }
+}
+
+/// The descriptor of a field of the message with this full name, which stands behind a dot.
+pub(crate) fn field_descriptor(
+    alloc: Global,
+    scene: &Scene,
+    full: &str,
+    field: FieldAt,
+) -> Result<FieldDescriptor, NoMemory>
+    ensures { IfOk result (λ d. field_desc d ≡ field_described scene.now full.now (field_of field.entry)) }
+{
+    let options = options_between(alloc, field.settings)?;
+    Ok(FieldDescriptor {
+        name: String::from_str(alloc, scene.text(field.name))?,
+        number: field_number(scene.number(field.number)),
+        label: label_of(scene, field),
+        field_type: field_type_of(scene, field),
+        type_name: field_type_name(alloc, scene, full, field)?,
+        default_value: default_value(alloc, scene, &options)?,
+        oneof_index: field.oneof,
+        json_name: Some(json_name(alloc, scene, field)?),
+        proto3_optional: scene.is_proto3() && has_label(scene, "optional", field),
+        options: field_options(scene, &options),
+    })
+}

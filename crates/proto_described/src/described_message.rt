@@ -1,0 +1,226 @@
+//! The descriptors of messages, with those nested in them.
+
+ghost use Rattle.std.specs.Prelude.{◌≡◌, false, [], ◌∷◌, flat_map, map, option_to_list, IfOk};
+ghost use Rattle.proto_tree.specs.File.{member_tree, trees, message_tree as written_message};
+ghost use Rattle.proto_parts.specs.Parts.{extension_ranges, fields_in, options_in, reserved_ranges, statements};
+ghost use Rattle.proto_numbers.specs.NumberFlaws.{range_of};
+ghost use Rattle.proto_described.specs.Described.{enums_described, field_described, message_described, message_options, messages_described, number_range, oneof_names};
+ghost use Rattle.proto_json.specs.Views.{enum_desc, field_desc, message_tree, messages_desc, oneof_desc};
+
+use crate::described_entry::entry_descriptor;
+use crate::described_enum::enum_descriptor;
+use crate::described_field::field_descriptor;
+use crate::described_names::{below, strings};
+use crate::described_numbers::number_range;
+use proto_faults::NoMemory;
+use proto_json::{
+    EnumDescriptor, FieldDescriptor, MessageDescriptor, MessageOptions, NumberRange,
+    OneofDescriptor,
+};
+use proto_numbers::field_ranges;
+use proto_parts::{
+    Scene, extension_ranges, fields_of, message_options, reserved_names, reserved_ranges,
+    truth_option,
+};
+use proto_tree::{Member, Message, Range};
+use std::alloc::Global;
+
+/// The message, and those nested in it, right below the name around it.
+#[cycle(messages)]
+pub(crate) fn message_descriptor(
+    alloc: Global,
+    scene: &Scene,
+    around: &str,
+    message: &Message,
+) -> Result<MessageDescriptor, NoMemory>
+    ensures { IfOk result (λ d. messages_desc (d ∷ []) ≡ messages_described scene.now around.now (written_message message.now)) }
+{
+    let full = below(alloc, around, scene.text(message.name))?;
+    let nested = nested_messages(alloc, scene, &full, &message.members)?;
+    message_around(alloc, scene, &full, message.name, &message.members, nested)
+}
+
+#[cycle(messages)]
+fn nested_messages(
+    alloc: Global,
+    scene: &Scene,
+    full: &str,
+    members: &[Member],
+) -> Result<Vec<MessageDescriptor>, NoMemory>
+    ensures { IfOk result (λ ds. messages_desc ds.items ≡ messages_described scene.now full.now (trees member_tree members.now)) }
+{
+    let mut nested = Vec::new(alloc);
+    for member in members {
+        if let Some(message) = nested_message(alloc, scene, full, member)? {
+            nested.push(message)?;
+        }
+    }
+    Ok(nested)
+}
+
+#[cycle(messages)]
+fn nested_message(
+    alloc: Global,
+    scene: &Scene,
+    full: &str,
+    member: &Member,
+) -> Result<Option<MessageDescriptor>, NoMemory>
+    ensures { IfOk result (λ d. messages_desc (option_to_list d) ≡ messages_described scene.now full.now (member_tree member.now)) }
+{
+    match member {
+        Member::MapField(field) => Ok(Some(entry_descriptor(alloc, scene, field)?)),
+        Member::Message(message) => { Ok(Some(message_descriptor(alloc, scene, full, message)?)) }
+        _ => Ok(None),
+    }
+}
+
+/// The message of this full name, with the descriptors of those nested in it.
+fn message_around(
+    alloc: Global,
+    scene: &Scene,
+    full: &str,
+    name: u32,
+    members: &[Member],
+    nested: Vec<MessageDescriptor>,
+) -> Result<MessageDescriptor, NoMemory>
+    ensures { IfOk result (λ d. message_tree d ≡ record { message = message_described scene.now full.now name (trees member_tree members.now); nested_type = messages_desc nested.items }) }
+{
+    Ok(MessageDescriptor {
+        name: String::from_str(alloc, scene.text(name))?,
+        field: field_descriptors(alloc, scene, full, members)?,
+        nested_type: nested,
+        enum_type: enum_descriptors(alloc, scene, members)?,
+        extension_range: extensions(alloc, scene, members)?,
+        oneof_decl: oneof_descriptors(alloc, scene, members)?,
+        reserved_range: reserved_numbers(alloc, scene, members)?,
+        reserved_name: strings(alloc, scene, &reserved_names(alloc, members)?)?,
+        options: options_of_message(alloc, scene, members)?,
+    })
+}
+
+fn field_descriptors(
+    alloc: Global,
+    scene: &Scene,
+    full: &str,
+    members: &[Member],
+) -> Result<Vec<FieldDescriptor>, NoMemory>
+    ensures { IfOk result (λ ds. map field_desc ds.items ≡ map (field_described scene.now full.now) (fields_in (trees member_tree members.now))) }
+{
+    let mut descriptors = Vec::new(alloc);
+    let fields = fields_of(alloc, members)?;
+    for field in &fields {
+        descriptors.push(field_descriptor(alloc, scene, full, *field)?)?;
+    }
+    Ok(descriptors)
+}
+
+fn member_enum(
+    alloc: Global,
+    scene: &Scene,
+    member: &Member,
+) -> Result<Option<EnumDescriptor>, NoMemory>
+    ensures { IfOk result (λ d. map enum_desc (option_to_list d) ≡ enums_described scene.now (member_tree member.now)) }
+{
+    match member {
+        Member::Enum(enumeration) => Ok(Some(enum_descriptor(alloc, scene, enumeration)?)),
+        _ => Ok(None),
+    }
+}
+
+#[tactic(auto, using(crate::proofs::Levels::enums_joined))]
+fn enum_descriptors(
+    alloc: Global,
+    scene: &Scene,
+    members: &[Member],
+) -> Result<Vec<EnumDescriptor>, NoMemory>
+    ensures { IfOk result (λ ds. map enum_desc ds.items ≡ enums_described scene.now (trees member_tree members.now)) }
+{
+    let mut descriptors = Vec::new(alloc);
+    for member in members {
+        if let Some(descriptor) = member_enum(alloc, scene, member)? {
+            descriptors.push(descriptor)?;
+        }
+    }
+    Ok(descriptors)
+}
+
+fn member_oneof(
+    alloc: Global,
+    scene: &Scene,
+    member: &Member,
+) -> Result<Option<OneofDescriptor>, NoMemory>
+    ensures { IfOk result (λ d. map oneof_desc (option_to_list d) ≡ oneof_names scene.now (member_tree member.now)) }
+{
+    match member {
+        Member::Oneof(oneof) => Ok(Some(OneofDescriptor {
+            name: String::from_str(alloc, scene.text(oneof.name))?,
+        })),
+        _ => Ok(None),
+    }
+}
+
+#[tactic(auto, using(crate::proofs::Levels::oneofs_joined))]
+fn oneof_descriptors(
+    alloc: Global,
+    scene: &Scene,
+    members: &[Member],
+) -> Result<Vec<OneofDescriptor>, NoMemory>
+    ensures { IfOk result (λ ds. map oneof_desc ds.items ≡ oneof_names scene.now (trees member_tree members.now)) }
+{
+    let mut descriptors = Vec::new(alloc);
+    for member in members {
+        if let Some(descriptor) = member_oneof(alloc, scene, member)? {
+            descriptors.push(descriptor)?;
+        }
+    }
+    Ok(descriptors)
+}
+
+fn number_ranges(
+    alloc: Global,
+    scene: &Scene,
+    written: &[&Range<u32>],
+) -> Result<Vec<NumberRange>, NoMemory>
+    ensures { IfOk result (λ found. found.items ≡ map (λ r. number_range (range_of scene.now r)) (map (λ r. r.now) written.now)) }
+{
+    let ranges = field_ranges(alloc, scene, written)?;
+    let mut found = Vec::new(alloc);
+    for range in &ranges {
+        found.push(number_range(*range))?;
+    }
+    Ok(found)
+}
+
+fn extensions(
+    alloc: Global,
+    scene: &Scene,
+    members: &[Member],
+) -> Result<Vec<NumberRange>, NoMemory>
+    ensures { IfOk result (λ found. found.items ≡ map (λ r. number_range (range_of scene.now r)) (flat_map extension_ranges (statements (trees member_tree members.now)))) }
+{
+    number_ranges(alloc, scene, &extension_ranges(alloc, members)?)
+}
+
+fn reserved_numbers(
+    alloc: Global,
+    scene: &Scene,
+    members: &[Member],
+) -> Result<Vec<NumberRange>, NoMemory>
+    ensures { IfOk result (λ found. found.items ≡ map (λ r. number_range (range_of scene.now r)) (flat_map reserved_ranges (statements (trees member_tree members.now)))) }
+{
+    number_ranges(alloc, scene, &reserved_ranges(alloc, members)?)
+}
+
+fn options_of_message(
+    alloc: Global,
+    scene: &Scene,
+    members: &[Member],
+) -> Result<MessageOptions, NoMemory>
+    ensures { IfOk result (λ o. o ≡ message_options scene.now false (options_in (trees member_tree members.now))) }
+{
+    let options = message_options(alloc, members)?;
+    Ok(MessageOptions {
+        deprecated: truth_option(scene, &options, "deprecated"),
+        map_entry: false,
+    })
+}

@@ -1,0 +1,4 @@
+pub mod Puts
+pub mod Walks
+mod EntrySums
+mod EntryTests

@@ -1,0 +1,4 @@
+pub mod Entries
+pub mod Putting
+pub mod RefusalTable
+pub mod Laws

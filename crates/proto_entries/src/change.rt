@@ -1,0 +1,86 @@
+//! Changes of one file: made, copied and turned round.
+
+ghost use Rattle.std.specs.Prelude.{◌≡◌, ◌+◌, ◌≤◌, ◌++◌, ◌∷◌, [], length, map, IfOk, OnOk};
+ghost use Rattle.std.specs.String.{string_bytes};
+ghost use Rattle.proto_text.specs.Edits.{AreShort};
+ghost use Rattle.proto_text.specs.Splicing.{edit_of, edits};
+ghost use Rattle.proto_entries.specs.Entries.{change_of, turned_round, inverted};
+
+use crate::entry::Change;
+use proto_faults::NoMemory;
+use proto_text::{Splice, SpliceFault, Splices, invert};
+use std::alloc::Global;
+
+/// One splice: the new word in place of the old one, which begins at this byte.
+pub fn one_splice(alloc: Global, at: u32, old: &str, new: &str) -> Result<Splices, NoMemory>
+    requires old_fits { at + length old.now ≤ 1048576 }
+    requires new_fits { at + length new.now ≤ 1048576 }
+    ensures { IfOk result (λ splices. splices ≡ record { at = at; old = old.now; new = new.now } ∷ []) }
+{
+    let mut list = Vec::new(alloc);
+    list.push(Splice {
+        at,
+        old: old.to_string(alloc)?,
+        new: new.to_string(alloc)?,
+    })?;
+    in_order(list)
+}
+
+// Splices that are in order.
+fn in_order(list: Vec<Splice>) -> Result<Splices, NoMemory>
+    requires { AreShort 0 0 (edits list.items) }
+    ensures { IfOk result (λ splices. splices ≡ edits list.items) }
+{
+    match Splices::new(list) {
+        Ok(splices) => Ok(splices),
+        Err(SpliceFault::NoMemory) => Err(NoMemory),
+        Err(_) => unreachable!(),
+    }
+}
+
+fn push_copy(list: &mut Vec<Splice>, alloc: Global, splice: &Splice) -> Result<(), NoMemory>
+    ensures { OnOk result (edits list.new.items ≡ edits list.old.items ++ edit_of splice.now ∷ []) }
+{
+    list.push(Splice {
+        at: splice.at,
+        old: splice.old.as_str().to_string(alloc)?,
+        new: splice.new.as_str().to_string(alloc)?,
+    })?;
+    Ok(())
+}
+
+fn copied(alloc: Global, splices: &Splices) -> Result<Splices, NoMemory>
+    ensures { IfOk result (λ copy. copy ≡ splices.now) }
+{
+    let mut list = Vec::new(alloc);
+    let items = splices.as_slice();
+    for splice in items {
+        push_copy(&mut list, alloc, splice)?;
+    }
+    in_order(list)
+}
+
+// The change that leads back.
+fn turned_round(alloc: Global, change: &Change) -> Result<Change, NoMemory>
+    ensures { IfOk result (λ back. change_of back ≡ turned_round (change_of change.now)) }
+{
+    let path = change.path.as_str().to_string(alloc)?;
+    let splices = copied(alloc, &change.splices)?;
+    Ok(Change {
+        path,
+        before: change.after,
+        after: change.before,
+        splices: invert(splices),
+    })
+}
+
+/// The changes that lead back: each with its lengths exchanged and its splices inverted.
+pub fn all_turned_round(alloc: Global, changes: &[Change]) -> Result<Vec<Change>, NoMemory>
+    ensures { IfOk result (λ back. map change_of back.items ≡ inverted (map change_of changes.now)) }
+{
+    let mut back = Vec::new(alloc);
+    for change in changes {
+        back.push(turned_round(alloc, change)?)?;
+    }
+    Ok(back)
+}

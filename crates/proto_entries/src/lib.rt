@@ -1,0 +1,13 @@
+//! What an edit changed, how it is put into files and taken back, and why an edit is refused. No schema is needed here.
+#![tactic(auto)]
+
+mod change;
+mod entry;
+pub mod laws;
+mod putting;
+mod refusal;
+
+pub use change::{all_turned_round, one_splice};
+pub use entry::{Change, Entry};
+pub use putting::put_all;
+pub use refusal::Refusal;

@@ -1,0 +1,150 @@
+//! Why an edit or an undo is refused.
+
+ghost use Rattle.std.specs.Prelude.{◌≡◌};
+ghost use Rattle.proto_entries.specs.RefusalTable.{number_of, name_of};
+
+use proto_faults::NoMemory;
+use std::alloc::{AllocError, AllocFailed};
+use thiserror::Error;
+
+/// Why an edit or an undo is refused: the least case that holds, by number. Want of memory may come in place of any.
+#[derive(Debug, Drop, Error)]
+pub enum Refusal {
+    /// No symbol has the name.
+    #[error("no symbol has the name")]
+    UnknownTarget,
+    /// The edit is not for a symbol of this kind.
+    #[error("the edit is not for a symbol of this kind")]
+    KindNotAllowed,
+    /// The new name is no word.
+    #[error("the new name is no word")]
+    NotAnIdentifier,
+    /// The new name is a listed word that such a symbol may not have.
+    #[error("the new name is a listed word")]
+    KeywordName,
+    /// The new name is the present one.
+    #[error("the new name is the present one")]
+    SameName,
+    /// A new name is the name of another symbol.
+    #[error("a new name is the name of another symbol")]
+    Collision,
+    /// A reference would mean something else. Its file, and the offset of its first token in bytes from 0.
+    #[error("a reference would mean something else: {path}: byte {offset}")]
+    Captured { path: String, offset: u32 },
+    /// The new name is reserved where the symbol stands.
+    #[error("the new name is reserved")]
+    NameReserved,
+    /// Two fields of a proto3 message would have one JSON name.
+    #[error("two fields would have one JSON name")]
+    JsonClash,
+    /// The field is the only one of its oneof.
+    #[error("the field is the only one of its oneof")]
+    LastOfOneof,
+    /// A file is not in the workspace.
+    #[error("the file is not in the workspace")]
+    UnknownFile,
+    /// The file imports the path.
+    #[error("the file imports the path")]
+    AlreadyImported,
+    /// The file does not import the path.
+    #[error("the file does not import the path")]
+    NotImported,
+    /// An import cycle would be closed.
+    #[error("an import cycle would be closed")]
+    Cycle,
+    /// A reference means a symbol that would no longer be seen. Its file, and the offset of its first token in bytes from 0.
+    #[error("a reference means a symbol that would no longer be seen: {path}: byte {offset}")]
+    Needed { path: String, offset: u32 },
+    /// A changed file would pass 1,048,576 bytes.
+    #[error("a changed file would have more than 1,048,576 bytes")]
+    TooLarge,
+    /// The files are not as the entry left them.
+    #[error("the files are not as the entry left them")]
+    Stale,
+    #[error("no memory")]
+    NoMemory,
+}
+
+impl Refusal {
+    /// The number in the table of refusals, from 1 to 18.
+    pub fn number(&self) -> u32
+        ensures { result ≡ number_of self.now }
+    {
+        match self {
+            Refusal::UnknownTarget => 1,
+            Refusal::KindNotAllowed => 2,
+            Refusal::NotAnIdentifier => 3,
+            Refusal::KeywordName => 4,
+            Refusal::SameName => 5,
+            Refusal::Collision => 6,
+            Refusal::Captured { .. } => 7,
+            Refusal::NameReserved => 8,
+            Refusal::JsonClash => 9,
+            Refusal::LastOfOneof => 10,
+            Refusal::UnknownFile => 11,
+            Refusal::AlreadyImported => 12,
+            Refusal::NotImported => 13,
+            Refusal::Cycle => 14,
+            Refusal::Needed { .. } => 15,
+            Refusal::TooLarge => 16,
+            Refusal::Stale => 17,
+            Refusal::NoMemory => 18,
+        }
+    }
+
+    /// The name in the table of refusals.
+    pub fn name(&self) -> &'static str
+        ensures { result.now ≡ name_of self.now }
+    {
+        match self {
+            Refusal::UnknownTarget => "UnknownTarget",
+            Refusal::KindNotAllowed => "KindNotAllowed",
+            Refusal::NotAnIdentifier => "NotAnIdentifier",
+            Refusal::KeywordName => "KeywordName",
+            Refusal::SameName => "SameName",
+            Refusal::Collision => "Collision",
+            Refusal::Captured { .. } => "Captured",
+            Refusal::NameReserved => "NameReserved",
+            Refusal::JsonClash => "JsonClash",
+            Refusal::LastOfOneof => "LastOfOneof",
+            Refusal::UnknownFile => "UnknownFile",
+            Refusal::AlreadyImported => "AlreadyImported",
+            Refusal::NotImported => "NotImported",
+            Refusal::Cycle => "Cycle",
+            Refusal::Needed { .. } => "Needed",
+            Refusal::TooLarge => "TooLarge",
+            Refusal::Stale => "Stale",
+            Refusal::NoMemory => "NoMemory",
+        }
+    }
+}
+
+impl From<AllocError> for Refusal {
+    ghost use Rattle.proto_entries.specs.declared.refusal.Refusal.TheVariants.{NoMemory};
+
+    ghost from_gives = { λ _ e. e ≡ NoMemory };
+
+    fn from(_e: AllocError) -> Refusal {
+        Refusal::NoMemory
+    }
+}
+
+impl From<NoMemory> for Refusal {
+    ghost use Rattle.proto_entries.specs.declared.refusal.Refusal.TheVariants.{NoMemory as OutOfMemory};
+
+    ghost from_gives = { λ _ e. e ≡ OutOfMemory };
+
+    fn from(_e: NoMemory) -> Refusal {
+        Refusal::NoMemory
+    }
+}
+
+impl<T: Drop> From<AllocFailed<T>> for Refusal {
+    ghost use Rattle.proto_entries.specs.declared.refusal.Refusal.TheVariants.{NoMemory};
+
+    ghost from_gives = { λ _ e. e ≡ NoMemory };
+
+    fn from(_e: AllocFailed<T>) -> Refusal {
+        Refusal::NoMemory
+    }
+}

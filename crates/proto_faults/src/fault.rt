@@ -1,0 +1,300 @@
+//! What may be wrong with the schemas of a workspace.
+
+ghost use Rattle.std.specs.Prelude.{◌≡◌};
+ghost use Rattle.proto_faults.specs.FaultTable.{number_of, name_of, phase_of, answer_number, answer_name};
+
+use crate::no_memory::NoMemory;
+use std::alloc::{AllocError, AllocFailed};
+use thiserror::Error;
+
+/// The faults of schemas, in the order of their numbers, which begin at 1.
+#[derive(Clone, Copy, Debug, PartialEq, Eq, Error)]
+pub enum FaultKind {
+    #[error("a file of more than 1,048,576 bytes")]
+    TooLarge,
+    #[error("a file that is not UTF-8")]
+    NotUtf8,
+    #[error("a character that begins no token, white space or comment")]
+    BadChar,
+    #[error("a block comment that is not closed")]
+    OpenComment,
+    #[error("a string that is not closed")]
+    OpenString,
+    #[error("a string with a refused escape, or whose value is not UTF-8")]
+    BadEscape,
+    #[error("a word that begins with a digit and is no number")]
+    BadNumber,
+    #[error("a statement that the grammar does not have")]
+    Syntax,
+    #[error("more than 32 braces open at once")]
+    TooDeep,
+    #[error("an import of a path that is not in the workspace")]
+    UnknownImport,
+    #[error("an import of a path that the file imports before")]
+    DoubleImport,
+    #[error("an import that leads back to its file")]
+    ImportCycle,
+    #[error("a full name that an earlier declaration or a package has")]
+    DuplicateName,
+    #[error("a reference that means nothing")]
+    Unresolved,
+    #[error("a method's reference that means an enum")]
+    WrongKind,
+    #[error("a reference that means a generated map entry")]
+    MapEntryRef,
+    #[error("a number or a range outside its limits")]
+    NumberRange,
+    #[error("a field number that an earlier field has")]
+    DuplicateNumber,
+    #[error("a number inside a reserved or extension range")]
+    ReservedNumber,
+    #[error("a name that is reserved, or reserved twice")]
+    ReservedName,
+    #[error("a range that shares a number with an earlier one")]
+    RangeOverlap,
+    #[error("an enum without values")]
+    EmptyEnum,
+    #[error("an enum whose first value has to be 0 and is not")]
+    FirstNotZero,
+    #[error("an enum of a proto2 file in a field of a proto3 file")]
+    ClosedEnum,
+    #[error("a proto2 field without a label")]
+    Label,
+    #[error("a map key of a type that no key has")]
+    BadMap,
+    #[error("an option that the element does not have, or with a value of another kind")]
+    BadOption,
+    #[error("a default that the field does not have")]
+    BadDefault,
+    #[error("a oneof without fields")]
+    EmptyOneof,
+    #[error("a JSON name that an earlier field has")]
+    JsonClash,
+    #[error("a word of proto2 in a proto3 file")]
+    NotInProto3,
+    #[error("a value number that an earlier value has, without leave")]
+    AliasNotAllowed,
+    #[error("a path that is no workspace path")]
+    BadPath,
+    #[error("a path that is given twice")]
+    DoublePath,
+    #[error("more files than a workspace holds")]
+    TooManyFiles,
+}
+
+impl FaultKind {
+    /// The number of the fault, from 1 to 35.
+    pub fn number(self) -> u32
+        ensures { result ≡ number_of self }
+    {
+        match self {
+            FaultKind::TooLarge => 1,
+            FaultKind::NotUtf8 => 2,
+            FaultKind::BadChar => 3,
+            FaultKind::OpenComment => 4,
+            FaultKind::OpenString => 5,
+            FaultKind::BadEscape => 6,
+            FaultKind::BadNumber => 7,
+            FaultKind::Syntax => 8,
+            FaultKind::TooDeep => 9,
+            FaultKind::UnknownImport => 10,
+            FaultKind::DoubleImport => 11,
+            FaultKind::ImportCycle => 12,
+            FaultKind::DuplicateName => 13,
+            FaultKind::Unresolved => 14,
+            FaultKind::WrongKind => 15,
+            FaultKind::MapEntryRef => 16,
+            FaultKind::NumberRange => 17,
+            FaultKind::DuplicateNumber => 18,
+            FaultKind::ReservedNumber => 19,
+            FaultKind::ReservedName => 20,
+            FaultKind::RangeOverlap => 21,
+            FaultKind::EmptyEnum => 22,
+            FaultKind::FirstNotZero => 23,
+            FaultKind::ClosedEnum => 24,
+            FaultKind::Label => 25,
+            FaultKind::BadMap => 26,
+            FaultKind::BadOption => 27,
+            FaultKind::BadDefault => 28,
+            FaultKind::EmptyOneof => 29,
+            FaultKind::JsonClash => 30,
+            FaultKind::NotInProto3 => 31,
+            FaultKind::AliasNotAllowed => 32,
+            FaultKind::BadPath => 33,
+            FaultKind::DoublePath => 34,
+            FaultKind::TooManyFiles => 35,
+        }
+    }
+
+    /// The name of the fault.
+    pub fn name(self) -> &'static str
+        ensures { result.now ≡ name_of self }
+    {
+        match self {
+            FaultKind::TooLarge => "TooLarge",
+            FaultKind::NotUtf8 => "NotUtf8",
+            FaultKind::BadChar => "BadChar",
+            FaultKind::OpenComment => "OpenComment",
+            FaultKind::OpenString => "OpenString",
+            FaultKind::BadEscape => "BadEscape",
+            FaultKind::BadNumber => "BadNumber",
+            FaultKind::Syntax => "Syntax",
+            FaultKind::TooDeep => "TooDeep",
+            FaultKind::UnknownImport => "UnknownImport",
+            FaultKind::DoubleImport => "DoubleImport",
+            FaultKind::ImportCycle => "ImportCycle",
+            FaultKind::DuplicateName => "DuplicateName",
+            FaultKind::Unresolved => "Unresolved",
+            FaultKind::WrongKind => "WrongKind",
+            FaultKind::MapEntryRef => "MapEntryRef",
+            FaultKind::NumberRange => "NumberRange",
+            FaultKind::DuplicateNumber => "DuplicateNumber",
+            FaultKind::ReservedNumber => "ReservedNumber",
+            FaultKind::ReservedName => "ReservedName",
+            FaultKind::RangeOverlap => "RangeOverlap",
+            FaultKind::EmptyEnum => "EmptyEnum",
+            FaultKind::FirstNotZero => "FirstNotZero",
+            FaultKind::ClosedEnum => "ClosedEnum",
+            FaultKind::Label => "Label",
+            FaultKind::BadMap => "BadMap",
+            FaultKind::BadOption => "BadOption",
+            FaultKind::BadDefault => "BadDefault",
+            FaultKind::EmptyOneof => "EmptyOneof",
+            FaultKind::JsonClash => "JsonClash",
+            FaultKind::NotInProto3 => "NotInProto3",
+            FaultKind::AliasNotAllowed => "AliasNotAllowed",
+            FaultKind::BadPath => "BadPath",
+            FaultKind::DoublePath => "DoublePath",
+            FaultKind::TooManyFiles => "TooManyFiles",
+        }
+    }
+
+    /// The phase that finds the fault: 0 paths, 1 text, 2 grammar, 3 imports, 4 names, 5 references, 6 checks.
+    pub fn phase(self) -> u32
+        ensures { result ≡ phase_of self }
+    {
+        match self {
+            FaultKind::TooLarge => 1,
+            FaultKind::NotUtf8 => 1,
+            FaultKind::BadChar => 1,
+            FaultKind::OpenComment => 1,
+            FaultKind::OpenString => 1,
+            FaultKind::BadEscape => 1,
+            FaultKind::BadNumber => 1,
+            FaultKind::Syntax => 2,
+            FaultKind::TooDeep => 2,
+            FaultKind::UnknownImport => 3,
+            FaultKind::DoubleImport => 3,
+            FaultKind::ImportCycle => 3,
+            FaultKind::DuplicateName => 4,
+            FaultKind::Unresolved => 5,
+            FaultKind::WrongKind => 5,
+            FaultKind::MapEntryRef => 5,
+            FaultKind::NumberRange => 6,
+            FaultKind::DuplicateNumber => 6,
+            FaultKind::ReservedNumber => 6,
+            FaultKind::ReservedName => 6,
+            FaultKind::RangeOverlap => 6,
+            FaultKind::EmptyEnum => 6,
+            FaultKind::FirstNotZero => 6,
+            FaultKind::ClosedEnum => 6,
+            FaultKind::Label => 6,
+            FaultKind::BadMap => 6,
+            FaultKind::BadOption => 6,
+            FaultKind::BadDefault => 6,
+            FaultKind::EmptyOneof => 6,
+            FaultKind::JsonClash => 6,
+            FaultKind::NotInProto3 => 6,
+            FaultKind::AliasNotAllowed => 6,
+            FaultKind::BadPath => 0,
+            FaultKind::DoublePath => 0,
+            FaultKind::TooManyFiles => 0,
+        }
+    }
+}
+
+/// A fault at a place: a file and an offset in it, in bytes from 0.
+#[derive(Debug, Drop, Error)]
+#[error("{path}: byte {offset}: {kind}")]
+pub struct Fault {
+    pub path: String,
+    pub offset: u32,
+    pub kind: FaultKind,
+}
+
+impl Fault {
+    /// The number of the fault, from 1 to 35.
+    pub fn number(&self) -> u32
+        ensures { result ≡ number_of self.now.kind }
+    {
+        self.kind.number()
+    }
+
+    /// The name of the fault.
+    pub fn name(&self) -> &'static str
+        ensures { result.now ≡ name_of self.now.kind }
+    {
+        self.kind.name()
+    }
+}
+
+/// Why no files, no link, no descriptors or no schema is answered: the least fault of the schemas, or want of memory.
+#[derive(Debug, Drop, Error)]
+pub enum SchemaFault {
+    #[error("{0}")]
+    Schema(Fault),
+    #[error("no memory")]
+    NoMemory,
+}
+
+impl SchemaFault {
+    /// The number of the fault, from 1 to 35, or 0 for want of memory.
+    pub fn number(&self) -> u32
+        ensures { result ≡ answer_number self.now }
+    {
+        match self {
+            SchemaFault::Schema(fault) => fault.number(),
+            SchemaFault::NoMemory => 0,
+        }
+    }
+
+    /// The name of the fault, or `NoMemory`.
+    pub fn name(&self) -> &'static str
+        ensures { result.now ≡ answer_name self.now }
+    {
+        match self {
+            SchemaFault::Schema(fault) => fault.name(),
+            SchemaFault::NoMemory => "NoMemory",
+        }
+    }
+}
+
+impl From<NoMemory> for SchemaFault {
+    ghost use Rattle.proto_faults.specs.declared.fault.SchemaFault.TheVariants.{NoMemory as OutOfMemory};
+
+    ghost from_gives = { λ _ e. e ≡ OutOfMemory };
+
+    fn from(_e: NoMemory) -> SchemaFault {
+        SchemaFault::NoMemory
+    }
+}
+
+impl From<AllocError> for SchemaFault {
+    ghost use Rattle.proto_faults.specs.declared.fault.SchemaFault.TheVariants.{NoMemory as OutOfMemory};
+
+    ghost from_gives = { λ _ e. e ≡ OutOfMemory };
+
+    fn from(_e: AllocError) -> SchemaFault {
+        SchemaFault::NoMemory
+    }
+}
+
+impl<T: Drop> From<AllocFailed<T>> for SchemaFault {
+    ghost use Rattle.proto_faults.specs.declared.fault.SchemaFault.TheVariants.{NoMemory as OutOfMemory};
+
+    ghost from_gives = { λ _ e. e ≡ OutOfMemory };
+
+    fn from(_e: AllocFailed<T>) -> SchemaFault {
+        SchemaFault::NoMemory
+    }
+}

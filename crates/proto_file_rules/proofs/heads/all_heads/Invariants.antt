@@ -1,0 +1,7 @@
+use Rattle.std.proofs.Common.{◌≡◌, List, take}
+use Rattle.proto_files.specs.FilesRead.{ReadOf, AreRead}
+use Rattle.proto_file_rules.specs.Heads.{heads}
+use Rattle.proto_file_rules.proofs.heads.all_heads.Given as goal
+
+abbrev pub invariant-loop-file : goal.invariant-loop-file
+invariant-loop-file l = (reads : List ReadOf) → AreRead l.files reads → l.all.items ≡ take l.file (heads l.files reads)

@@ -1,0 +1,14 @@
+use Rattle.std.proofs.Common.{◌+◌, ◌*◌, length, map}
+use Rattle.proto_imports.specs.Walks.{unseen}
+use Rattle.proto_imports.proofs.Walks.{IsPart}
+use Rattle.proto_file_rules.proofs.MarkedWalks.{AreClear}
+use Rattle.proto_file_rules.proofs.uses.leads_to_marked.Given as goal
+
+abbrev pub invariant-loop-file : goal.invariant-loop-file
+invariant-loop-file l = record {
+  part : IsPart (map (λ v. v.items) l.next) l.start l.seen.items l.todo.items;
+  clear : AreClear l.marks l.seen.items l.todo.items;
+}
+
+abbrev pub decreases-loop-file : goal.decreases-loop-file
+decreases-loop-file l = 2 * unseen l.seen.items + length l.todo.items

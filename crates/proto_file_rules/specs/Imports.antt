@@ -1,0 +1,61 @@
+-- The rules of imports.
+use Rattle.std.specs.Prelude.{ℕ, Bool, false, not, ◌||◌, ◌&&◌, ◌==◌, List, [], ◌∷◌, ◌++◌, flat_map, Option, Some, None, is_some}
+use Rattle.std.specs.List.{list_any}
+use Rattle.proto_text.specs.Values.{value_of}
+use Rattle.proto_tree.specs.declared.tree.Import.{Import}
+use Rattle.proto_tree.specs.declared.piece.Statement.{Statement}
+use Rattle.proto_tree.specs.declared.piece.Statement.TheVariants as statement
+use Rattle.proto_tree.specs.Tree.{Tree}
+use Rattle.proto_meaning.specs.Faults.{file_of}
+use Rattle.proto_meaning.specs.Names.{Workspace, meaning, reaches, same_name}
+use Rattle.proto_imports.specs.Links.{value_or_none}
+use Rattle.proto_parts.specs.Parts.{statements}
+use Rattle.proto_findings.specs.declared.rule.Rule.TheVariants as rule
+use Rattle.proto_findings.specs.Placed.{Found, Named, found_by, unless}
+use Rattle.proto_findings.specs.Readings.{Reading, text}
+
+abbrev pub statement_imports : Statement → List Import
+statement_imports (statement.Import i) = i ∷ []
+statement_imports _ = []
+
+-- the import statements of a file
+abbrev pub imports_in : Tree → List Import
+imports_in tree = flat_map statement_imports (statements tree)
+
+-- the path that an import names
+abbrev pub path_of : Reading → Import → List ℕ
+path_of r i = value_or_none (value_of (text r i.path))
+
+-- an import at its word `import`, with the path that it names
+abbrev pub import_unless : Reading → Bool → Import → List Named
+import_unless r passes i = unless passes i.keyword (path_of r i)
+
+abbrev pub import_no_public : Reading → Import → List Named
+import_no_public r i = import_unless r (not (is_some i.public)) i
+
+-- ---- imports that are used
+
+-- a symbol of this name is declared in a file that is reached from another by public imports
+abbrev pub is_reached : Workspace → ℕ → Option (List (List ℕ)) → Bool
+is_reached w to None = false
+is_reached w to (Some name) = list_any (λ s. same_name s.name name && reaches w.imports w.files to s.file) w.symbols
+
+-- some reference of the file means such a symbol
+abbrev pub is_used : Workspace → ℕ → Option ℕ → Bool
+is_used w file None = false
+is_used w file (Some to) = list_any (λ u. u.file == file && is_reached w to (meaning w u)) w.references
+
+-- a public import is for others, and needs no use
+abbrev pub import_used : Workspace → List (List ℕ) → Reading → ℕ → Import → List Named
+import_used w paths r file i = import_unless r (is_some i.public || is_used w file (file_of paths (path_of r i))) i
+
+-- ---- what they find
+
+-- of an import of this file, in this workspace with these paths
+abbrev pub import_finds : List Bool → Workspace → List (List ℕ) → Reading → ℕ → Import → List Found
+import_finds rules w paths r file i =
+    found_by rules r rule.ImportNoPublic (import_no_public r i)
+    ++ found_by rules r rule.ImportUsed (import_used w paths r file i)
+
+abbrev pub imports_finds : List Bool → Workspace → List (List ℕ) → Reading → ℕ → Tree → List Found
+imports_finds rules w paths r file tree = flat_map (import_finds rules w paths r file) (imports_in tree)

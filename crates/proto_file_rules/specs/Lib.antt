@@ -1,0 +1,4 @@
+pub mod Heads
+pub mod ImportTables
+pub mod Imports
+pub mod Packages

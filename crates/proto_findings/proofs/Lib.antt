@@ -1,0 +1,4 @@
+pub mod LastSplit
+mod Listing
+mod Readings
+mod RuleOrder

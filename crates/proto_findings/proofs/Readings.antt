@@ -1,0 +1,54 @@
+-- What a reading of the code says is what is read of the file.
+use Rattle.std.proofs.Common.{◌≡◌, ℕ, ◌<◌, Bool, true, false, ◌==◌, List, [], ◌∷◌, length, map, get_or, Option, Some, None, Bor, option_map, refl, ap, ◌∙◌}
+use Rattle.std.specs.List.{find}
+use Rattle.std.specs.Option.{option_and_then, unwrap_or}
+use Rattle.proto_text.specs.declared.lexer.Token.{Token}
+use Rattle.proto_text.specs.Tokens.{AreTokens, Lexeme, lexeme_at}
+use Rattle.proto_tree.specs.declared.tree.Separated.{Separated}
+use Rattle.proto_tree.specs.References.{first_of}
+use Rattle.proto_files.specs.GivenFiles.{FileOf, file_at}
+use Rattle.proto_files.specs.FilesRead.{ReadOf, AreRead, read_at}
+use Rattle.proto_names.specs.declared.references.Meant.{Meant}
+use Rattle.proto_names.specs.LinkOfFiles.{IsLinkOf, TextMeant, meant_by_link}
+use Rattle.proto_names.specs.Linking.{LinkOf, row_at, text_at}
+use Rattle.proto_files.proofs.ReadOnce.{tokens_at}
+use Rattle.proto_findings.specs.Readings.{read_of_file, Reading, or_nothing}
+
+-- ---- what a reference means
+
+pub first_is : (dot : Option ℕ) (words : Separated ℕ) → unwrap_or dot words.first ≡ first_of dot words
+first_is None words = refl
+first_is (Some d) words = refl
+
+abbrev text_of_first : LinkOf → List Meant → ℕ → List ℕ
+text_of_first l ms token = or_nothing (option_and_then (λ m. m.text) (find (λ m. m.token == token) (map (meant_by_link l) ms)))
+
+abbrev pub text_of_row : LinkOf → Option ℕ → List ℕ
+text_of_row l row = or_nothing (option_and_then (text_at l) row)
+
+text_step : (l : LinkOf) (m : Meant) (ms : List Meant) (token : ℕ) (b : Bool) → (m.token == token) ≡ b → text_of_first l ms token ≡ text_of_row l (row_at ms token) → text_of_first l (m ∷ ms) token ≡ text_of_row l (row_at (m ∷ ms) token)
+text_step l m ms token true e rest = simp e
+text_step l m ms token false e rest = simp e rest
+
+pub text_by_row : (l : LinkOf) (ms : List Meant) (token : ℕ) → text_of_first l ms token ≡ text_of_row l (row_at ms token)
+text_by_row l [] token = refl
+text_by_row l (m ∷ ms) token = text_step l m ms token (m.token == token) refl (text_by_row l ms token)
+
+pub text_is : (t : Option (Bor (List ℕ))) (other : Bor (List ℕ)) → other.now ≡ [] → (unwrap_or t other).now ≡ or_nothing (option_map (λ s. s.now) t)
+text_is None other e = e
+text_is (Some s) other e = refl
+
+-- ---- what is read of a file
+
+pub read_is : (files : List FileOf) (reads : List ReadOf) → AreRead files reads → (l : LinkOf) → IsLinkOf files l → (file : ℕ) → file < length files
+    → (text : List ℕ) → text ≡ (file_at files file).bytes → (tokens : List Token) → AreTokens (file_at files file).bytes tokens
+    → (words : List Lexeme) → words ≡ map (lexeme_at text) tokens
+    → (let r : Reading = record { tokens = tokens; lexemes = words; means = map (meant_by_link l) (get_or l.meant file []) } in r) ≡ read_of_file files reads file
+read_is files reads are l linked file within text same tokens lexed words spelled =
+    let t = tokens_at files reads are file tokens within lexed in
+    let w : words ≡ map (lexeme_at (file_at files file).bytes) (read_at reads file).tokens = spelled ∙ ap (λ (b : List ℕ). map (lexeme_at b) tokens) same ∙ ap (map (lexeme_at (file_at files file).bytes)) t in
+    let m = ((linked reads are).means file within).texts in
+    let means : List TextMeant = map (meant_by_link l) (get_or l.meant file []) in
+    ap (λ (ts : List Token). let r : Reading = record { tokens = ts; lexemes = words; means = means } in r) t
+    ∙ ap (λ (ls : List Lexeme). let r : Reading = record { tokens = (read_at reads file).tokens; lexemes = ls; means = means } in r) w
+    ∙ ap (λ (ms : List TextMeant). let r : Reading = record { tokens = (read_at reads file).tokens; lexemes = map (lexeme_at (file_at files file).bytes) (read_at reads file).tokens; means = ms } in r) m

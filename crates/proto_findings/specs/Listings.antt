@@ -1,0 +1,28 @@
+-- Findings, and their listing.
+use Rattle.std.specs.Prelude.{◌≡◌, ◌↔◌, ℕ, List, AllPairs}
+use Rattle.std.specs.List.{Contains}
+use Rattle.std.specs.Ordering.{nat_cmp, ordering_then}
+use Rattle.std.specs.Cmp.Lexicographic.{slice_cmp}
+use Rattle.std.specs.declared.cmp.Ordering.{Ordering}
+use Rattle.std.specs.declared.cmp.Ordering.TheVariants.{Less}
+use Rattle.proto_findings.specs.declared.rule.Rule.{Rule}
+use Rattle.proto_findings.specs.Placed.{Found}
+use Rattle.proto_findings.specs.Rules.{identifier}
+
+pub record FindingOf : Type 0 where
+  pub path : List ℕ
+  pub offset : ℕ
+  pub rule : Rule
+  pub name : List ℕ
+
+abbrev pub found_in : List ℕ → Found → FindingOf
+found_in path f = record { path = path; offset = f.offset; rule = f.rule; name = f.name }
+
+-- by path, offset, the bytes of the rule's identifier, and name
+abbrev pub finding_cmp : FindingOf → FindingOf → Ordering
+finding_cmp f g = ordering_then (slice_cmp nat_cmp f.path g.path) (ordering_then (nat_cmp f.offset g.offset) (ordering_then (slice_cmp nat_cmp (identifier f.rule) (identifier g.rule)) (slice_cmp nat_cmp f.name g.name)))
+
+-- each finding once, in order
+pub record IsListingOf (all listed : List FindingOf) : Type 0 where
+  pub ordered : AllPairs (λ f g. finding_cmp f g ≡ Less) listed
+  pub same : (f : FindingOf) → Contains listed f ↔ Contains all f

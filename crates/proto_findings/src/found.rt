@@ -1,0 +1,72 @@
+//! What rules find in one file.
+
+ghost use Rattle.std.specs.Prelude.{◌≡◌, ◌++◌, map, IfOk, OnOk};
+ghost use Rattle.std.specs.String.{string_bytes};
+ghost use Rattle.proto_findings.specs.Placed.{below, found_at, unless};
+ghost use Rattle.proto_findings.specs.Readings.{reading_of, text};
+ghost use Rattle.proto_findings.specs.Views.{found_of};
+
+use crate::reading::Reading;
+use crate::rule::Rule;
+use proto_faults::NoMemory;
+use std::alloc::Global;
+
+/// What a rule found in a file: the offset in bytes from 0, the rule, and the name that is printed.
+#[derive(Drop)]
+pub struct Found {
+    pub offset: u32,
+    pub rule: Rule,
+    pub name: String,
+}
+
+/// A name right below another, or outermost where that is empty. Only want of memory is refused, here and below.
+pub fn below(alloc: Global, scope: &str, word: &str) -> Result<String, NoMemory>
+    ensures { IfOk result (λ s. string_bytes s ≡ below scope.now word.now) }
+{
+    let mut name = String::from_str(alloc, scope)?;
+    if !scope.is_empty() {
+        name.push('.')?;
+    }
+    name.push_str(word)?;
+    Ok(name)
+}
+
+/// Adds a name at a token, unless it passes.
+pub fn add_unless(
+    alloc: Global,
+    found: &mut Vec<Found>,
+    reading: &Reading,
+    rule: Rule,
+    passes: bool,
+    token: u32,
+    name: &str,
+) -> Result<(), NoMemory>
+    ensures { OnOk result (map found_of found.new.items ≡ map found_of found.old.items ++ map (found_at (reading_of reading.now) rule) (unless passes token name.now)) }
+{
+    if !passes {
+        let offset = reading.offset(token);
+        let name = String::from_str(alloc, name)?;
+        found.push(Found { offset, rule, name })?;
+    }
+    Ok(())
+}
+
+/// Adds a name that stands right in a scope, at its own token, unless it passes.
+pub fn add_below_unless(
+    alloc: Global,
+    found: &mut Vec<Found>,
+    reading: &Reading,
+    rule: Rule,
+    passes: bool,
+    scope: &str,
+    token: u32,
+) -> Result<(), NoMemory>
+    ensures { OnOk result (map found_of found.new.items ≡ map found_of found.old.items ++ map (found_at (reading_of reading.now) rule) (unless passes token (below scope.now (text (reading_of reading.now) token)))) }
+{
+    if !passes {
+        let offset = reading.offset(token);
+        let name = below(alloc, scope, reading.text(token))?;
+        found.push(Found { offset, rule, name })?;
+    }
+    Ok(())
+}

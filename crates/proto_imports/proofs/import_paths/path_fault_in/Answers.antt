@@ -1,0 +1,62 @@
+use Rattle.std.proofs.Common.{◌≡◌, ◌⊎◌, ℕ, Bool, true, false, Some, None, length, get_or, map, nat_eq, string_bytes, not, refl, sym, ◌∙◌, ap, subst, inl, inr, arith, cond}
+use Rattle.std.specs.HashSet.{contains}
+use Rattle.std.proofs.lemmas.Bool.{cases_Bool, cond-true, cond-false, eqb-true, eq-eqb}
+use Rattle.std.proofs.lemmas.List.{get_or_default}
+use Rattle.indexmap.specs.IndexMap.{get_by_text}
+use Rattle.proto_meaning.specs.Faults.{fault, IsLeast}
+use Rattle.proto_meaning.specs.Grown.{at}
+use Rattle.proto_imports.specs.Importing.{asked_by}
+use Rattle.proto_imports.specs.ImportSteps.{PathFault}
+use Rattle.proto_imports.proofs.PathFaults.{IsFresh, fresh_more, path_none, path_unknown, path_double}
+use Rattle.proto_imports.proofs.import_paths.path_fault_in.Goals as goal
+
+not_false : (b x : Bool) → x ≡ not b → x ≡ false → b ≡ true
+not_false true x e h = refl
+not_false false x e h = sym h ∙ e
+
+not_true : (b x : Bool) → x ≡ not b → x ≡ true → b ≡ false
+not_true true x e h = sym h ∙ e
+not_true false x e h = refl
+
+kept : (eq old new : Bool) → new ≡ cond eq true old → old ≡ true → new ≡ true
+kept true old new e h = e
+kept false old new e h = e ∙ h
+
+only : (to q : ℕ) (old new : Bool) → new ≡ cond (nat_eq to q) true old → new ≡ true → (q ≡ to) ⊎ (old ≡ true)
+only to q old new e h = elim (cases_Bool (nat_eq to q)) [
+  | inl same ↦ inl (sym (eqb-true to q same))
+  | inr apart ↦ inr (sym (e ∙ cond-false (nat_eq to q) true old apart) ∙ h)
+]
+
+pub returns-in-None : goal.returns-in-None
+returns-in-None c = λ paths index. (
+    let look : get_by_text c.args.index.now (string_bytes (get_or c.args.written.now c.loop-import.import-index c.import-item.result).path) ≡ None =
+    ap (λ w. get_by_text c.args.index.now (string_bytes w.path)) (sym c.import-item.is) ∙ ap (get_by_text c.args.index.now) (sym c.as_str.ensures.value) ∙ sym c.file_with.ensures ∙ c.in-None.is in
+    subst (λ w. IsLeast (PathFault paths (map (asked_by c.args.file) c.args.written.now)) (fault (at c.args.file w.token) 10)) (sym c.import-item.is)
+    (path_unknown (λ w. get_by_text c.args.index.now (string_bytes w.path)) (contains nat_eq c.loop-import.named) paths c.args.file c.args.written.now c.loop-import.import-index c.import-item.result (λ w. index (string_bytes w.path)) c.requires c.loop-import.invariant c.loop-import-test.true look))
+
+pub returns-then-not-branch : goal.returns-then-not-branch
+returns-then-not-branch c = λ paths index. (
+    let look : get_by_text c.args.index.now (string_bytes (get_or c.args.written.now c.loop-import.import-index c.import-item.result).path) ≡ Some c.in-Some.to =
+    ap (λ w. get_by_text c.args.index.now (string_bytes w.path)) (sym c.import-item.is) ∙ ap (get_by_text c.args.index.now) (sym c.as_str.ensures.value) ∙ sym c.file_with.ensures ∙ c.in-Some.is in
+    let again : contains nat_eq c.loop-import.named c.in-Some.to ≡ true = not_false _ _ c.in_ok-insert-in-Some.ensures.added c.if-not-branch.true in
+    subst (λ w. IsLeast (PathFault paths (map (asked_by c.args.file) c.args.written.now)) (fault (at c.args.file w.token) 11)) (sym c.import-item.is)
+    (path_double (λ w. get_by_text c.args.index.now (string_bytes w.path)) (contains nat_eq c.loop-import.named) paths c.args.file c.args.written.now c.loop-import.import-index c.in-Some.to c.import-item.result (λ w. index (string_bytes w.path)) c.requires c.loop-import.invariant c.loop-import-test.true look again))
+
+pub loop-import-preserved : goal.loop-import-preserved
+loop-import-preserved c =
+    let h = c.in_ok-insert-in-Some.ensures.updates in
+    let look : get_by_text c.args.index.now (string_bytes (get_or c.args.written.now c.loop-import.import-index c.import-item.result).path) ≡ Some c.in-Some.to =
+    ap (λ w. get_by_text c.args.index.now (string_bytes w.path)) (sym c.import-item.is) ∙ ap (get_by_text c.args.index.now) (sym c.as_str.ensures.value) ∙ sym c.file_with.ensures ∙ c.in-Some.is in
+    fresh_more (λ w. get_by_text c.args.index.now (string_bytes w.path)) (contains nat_eq c.loop-import.named) (contains nat_eq c.insert.new.self) c.args.written.now c.loop-import.import-index c.in-Some.to c.loop-import.invariant
+    (λ d. ap (λ w. get_by_text c.args.index.now (string_bytes w.path)) (get_or_default c.args.written.now c.loop-import.import-index d c.import-item.result c.loop-import-test.true) ∙ look)
+    (not_true _ _ c.in_ok-insert-in-Some.ensures.added c.if-not-branch.false)
+    (λ q old. kept _ _ _ (h.0 q) old)
+    (h.0 c.in-Some.to ∙ cond-true (nat_eq c.in-Some.to c.in-Some.to) true _ (eq-eqb c.in-Some.to c.in-Some.to refl))
+    (λ q new. only c.in-Some.to q _ _ (h.0 q) new)
+
+pub returns : goal.returns
+returns c = λ paths index f p.
+    (let e : c.loop-import.import-index ≡ length c.args.written.now = omega (arith, c.loop-import-test.false, c.loop-import.auto.import-index-end) in
+    path_none (λ w. get_by_text c.args.index.now (string_bytes w.path)) (contains nat_eq c.loop-import.named) paths c.args.file c.args.written.now (λ w. index (string_bytes w.path))
+    (subst (IsFresh (λ w. get_by_text c.args.index.now (string_bytes w.path)) (contains nat_eq c.loop-import.named) c.args.written.now) e c.loop-import.invariant) f p)

@@ -1,0 +1,47 @@
+-- The imports of files as they are written and as they are resolved.
+use Rattle.std.specs.Prelude.{ℕ, suc, ◌<◌, List, [], ◌∷◌, ◌++◌, map, string_bytes}
+use Rattle.std.specs.List.{AllPairs}
+use Rattle.proto_meaning.specs.Names.{Import}
+use Rattle.proto_meaning.specs.Faults.{Fault, fault, IsLeast, Asked}
+use Rattle.proto_meaning.specs.Grown.{at}
+use Rattle.proto_imports.specs.declared.import.WrittenImport.{WrittenImport}
+use Rattle.proto_imports.specs.declared.import.FileImport.{FileImport}
+use Rattle.proto_imports.specs.declared.import.BadImport.{BadImport}
+use Rattle.proto_imports.specs.declared.import.ImportFlaw.{ImportFlaw}
+use Rattle.proto_imports.specs.declared.import.ImportFlaw.TheVariants.{Unknown, Double, Cycle}
+use Rattle.proto_imports.specs.declared.import.ImportError.{ImportError}
+use Rattle.proto_imports.specs.declared.import.ImportError.TheVariants.{Bad, NoMemory}
+
+-- an import as it is written in a file
+abbrev pub asked_by : ℕ → WrittenImport → Asked
+asked_by file w = record { place = at file w.token; path = string_bytes w.path; is_public = w.is_public }
+
+-- the imports of all files from this number on, file after file
+abbrev pub all_asked : ℕ → List (List WrittenImport) → List Asked
+all_asked file [] = []
+all_asked file (ws ∷ rest) = map (asked_by file) ws ++ all_asked (suc file) rest
+
+abbrev pub import_from : ℕ → FileImport → Import
+import_from file i = record { from = file; to = i.to; is_public = i.is_public }
+
+-- the same of imports of files
+abbrev pub all_imports : ℕ → List (List FileImport) → List Import
+all_imports file [] = []
+all_imports file (is ∷ rest) = map (import_from file) is ++ all_imports (suc file) rest
+
+-- the tokens of a file's imports are in order
+abbrev pub AreRising : List WrittenImport → Type 0
+AreRising ws = AllPairs (λ a b. a.token < b.token) ws
+
+abbrev pub number_of : ImportFlaw → ℕ
+number_of Unknown = 10
+number_of Double = 11
+number_of Cycle = 12
+
+abbrev pub fault_of : BadImport → Fault
+fault_of b = fault (at b.file b.token) (number_of b.flaw)
+
+-- the error is the least fault, or want of memory
+abbrev pub IsImportError : (Fault → Type 0) → ImportError → Type 0
+IsImportError Says (Bad b) = IsLeast Says (fault_of b)
+IsImportError Says NoMemory = Unit {0}

@@ -1,0 +1,5 @@
+pub mod ImportSteps
+pub mod Importing
+pub mod Links
+pub mod Walks
+pub mod Written

@@ -1,0 +1,74 @@
+-- The link of files: what they declare, see and refer to, as the texts of their tokens spell it; and the faults of imports, names and references.
+use Rattle.std.specs.Prelude.{◌≡◌, ℕ, suc, List, [], ◌∷◌, ◌++◌, length, map, Option, Some, None}
+use Rattle.proto_text.specs.Values.{value_of}
+use Rattle.proto_text.specs.Texts.{words, offset_at}
+use Rattle.proto_files.specs.Faults.{FaultAt}
+use Rattle.proto_faults.specs.FaultTable.{number_of}
+use Rattle.proto_files.specs.FilesRead.{Each, ReadOf, read_at, AreRead}
+use Rattle.proto_files.specs.GivenFiles.{FileOf, file_at, paths_of}
+use Rattle.proto_case.specs.Camel.{entry_name}
+use Rattle.proto_meaning.specs.Faults.{Fault, Asked, imports_of, ImportFault, NameFault, ReferenceFault}
+use Rattle.proto_listing.specs.FromTree.{Wanted, imports_in, items_in, file_names}
+use Rattle.proto_listing.specs.Listing.{IsSound, package_first, read, uses_in}
+use Rattle.proto_listing.specs.declared.listing.Listing.{Listing}
+use Rattle.proto_meaning.specs.Grown.{At, at, FileNames, skeleton_of_files}
+use Rattle.proto_meaning.specs.Names.{Import, Workspace}
+use Rattle.proto_meaning.specs.Skeleton.{Skeleton, workspace_of}
+
+-- the texts of all tokens
+abbrev pub text_of : List FileOf → List ReadOf → At → List ℕ
+text_of files reads a = words (file_at files a.file).bytes (read_at reads a.file).tokens a.token
+
+-- ---- imports
+
+-- the value of a string, and nothing for another text
+abbrev pub value_or_none : Option (List ℕ) → List ℕ
+value_or_none None = []
+value_or_none (Some v) = v
+
+abbrev pub asked_as : (At → List ℕ) → ℕ → Wanted → Asked
+asked_as text file w = record { place = at file w.path; path = value_or_none (value_of (text (at file w.path))); is_public = w.is_public }
+
+-- the imports of all files from this number on, file after file
+abbrev pub all_wanted : (At → List ℕ) → ℕ → List ReadOf → List Asked
+all_wanted text file [] = []
+all_wanted text file (r ∷ rs) = map (asked_as text file) (imports_in r.tree) ++ all_wanted text (suc file) rs
+
+abbrev pub names_in : ReadOf → FileNames
+names_in r = file_names r.tree
+
+abbrev pub link_imports : List FileOf → List ReadOf → List Import
+link_imports files reads = imports_of (paths_of files) (all_wanted (text_of files reads) 0 reads)
+
+-- what the files declare and use
+abbrev pub link_skeleton : List FileOf → List ReadOf → Skeleton At
+link_skeleton files reads = skeleton_of_files (link_imports files reads) (map names_in reads)
+
+-- the names, imports and references of the files
+abbrev pub names_of_files : List FileOf → List ReadOf → Workspace
+names_of_files files reads = workspace_of (text_of files reads) entry_name (link_skeleton files reads)
+
+-- ---- faults
+
+-- a fault at a token, as a fault of the file at an offset
+pub record StandsAt (files : List FileOf) (reads : List ReadOf) (f : Fault) (x : FaultAt) : Type 0 where
+  pub path : x.path ≡ (file_at files f.place.file).path
+  pub offset : x.offset ≡ offset_at (read_at reads f.place.file).tokens f.place.token
+  pub number : number_of x.kind ≡ f.number
+
+-- the faults of imports, names and references (a later phase counts only where no earlier one has a fault: the least fault is by phase first)
+pub data LinkFaults (files : List FileOf) : FaultAt → Type 0 where
+  of_import : (reads : List ReadOf) (f : Fault) (x : FaultAt) → AreRead files reads → StandsAt files reads f x → ImportFault (paths_of files) (all_wanted (text_of files reads) 0 reads) f → LinkFaults files x
+  of_name : (reads : List ReadOf) (f : Fault) (x : FaultAt) → AreRead files reads → StandsAt files reads f x → NameFault (text_of files reads) (link_skeleton files reads).declared f → LinkFaults files x
+  of_reference : (reads : List ReadOf) (f : Fault) (x : FaultAt) → AreRead files reads → StandsAt files reads f x → ReferenceFault (text_of files reads) (link_skeleton files reads) f → LinkFaults files x
+
+-- ---- what is said of each file
+
+-- the listing of a file that is read so
+pub record IsListing (r : ReadOf) (l : Listing) : Type 0 where
+  pub sound : IsSound l
+  pub declared : read l.declared.items ≡ package_first (items_in r.tree)
+  pub used : uses_in l ≡ (file_names r.tree).used
+
+abbrev pub AreListings : List FileOf → List Listing → Type 0
+AreListings files ls = (length ls ≡ length files) × ((reads : List ReadOf) → AreRead files reads → Each (λ k l. IsListing (read_at reads k) l) ls)

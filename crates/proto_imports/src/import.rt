@@ -1,0 +1,137 @@
+//! The imports of a workspace: the files that they name, or the first that is faulty.
+
+ghost use Rattle.std.specs.Prelude.{◌≡◌, ◌⊎◌, ◌↔◌, ◌<◌, ◌≤◌, ◌^◌, length, map, option_map, Some, IsTrue, IfOk, IfErr};
+ghost use Rattle.std.specs.List.{All};
+ghost use Rattle.proto_meaning.specs.Faults.{Fault, ImportFault, IsBefore, imports_of};
+ghost use Rattle.proto_imports.specs.Importing.{AreRising, all_asked, all_imports, fault_of, number_of, IsImportError};
+ghost use Rattle.proto_imports.specs.ImportSteps.{IsFirst};
+
+use crate::import_cycles::first_on_cycle;
+use crate::import_paths::{file_index, first_path_fault, resolved};
+use proto_faults::NoMemory;
+use std::alloc::{AllocError, Global};
+
+/// An import as a file has it: the token of its path, its path, and whether it is public.
+#[derive(Drop)]
+pub struct WrittenImport {
+    pub token: u32,
+    pub path: String,
+    pub is_public: bool,
+}
+
+/// An import of a file of the workspace, by its number.
+#[derive(Clone, Copy)]
+pub struct FileImport {
+    pub to: u32,
+    pub is_public: bool,
+}
+
+/// What is wrong with an import.
+#[derive(Clone, Copy)]
+pub enum ImportFlaw {
+    /// No file has its path.
+    Unknown,
+    /// An earlier import of its file has its path.
+    Double,
+    /// The file that it names is its own, or reaches it by imports.
+    Cycle,
+}
+
+impl ImportFlaw {
+    fn number(self) -> u32
+        ensures { result ≡ number_of self }
+    {
+        match self {
+            ImportFlaw::Unknown => 10,
+            ImportFlaw::Double => 11,
+            ImportFlaw::Cycle => 12,
+        }
+    }
+}
+
+/// A faulty import: its file, the token of its path, and what is wrong.
+#[derive(Clone, Copy)]
+pub struct BadImport {
+    pub file: u32,
+    pub token: u32,
+    pub flaw: ImportFlaw,
+}
+
+impl BadImport {
+    fn is_before(&self, other: &BadImport) -> bool
+        ensures { IsTrue result ↔ IsBefore (fault_of self.now) (fault_of other.now) }
+    {
+        if self.file != other.file {
+            return self.file < other.file;
+        }
+        if self.token != other.token {
+            return self.token < other.token;
+        }
+        self.flaw.number() < other.flaw.number()
+    }
+}
+
+/// Why imports are not resolved: the least fault, or want of memory.
+#[derive(Drop)]
+pub enum ImportError {
+    Bad(BadImport),
+    NoMemory,
+}
+
+impl From<AllocError> for ImportError {
+    ghost use Rattle.proto_imports.specs.declared.import.ImportError.TheVariants.{NoMemory};
+
+    ghost from_gives = { λ _ e. e ≡ NoMemory };
+
+    fn from(_e: AllocError) -> ImportError {
+        ImportError::NoMemory
+    }
+}
+
+impl From<NoMemory> for ImportError {
+    ghost use Rattle.proto_imports.specs.declared.import.ImportError.TheVariants.{NoMemory as OutOfMemory};
+
+    ghost from_gives = { λ _ e. e ≡ OutOfMemory };
+
+    fn from(_e: NoMemory) -> ImportError {
+        ImportError::NoMemory
+    }
+}
+
+/// The imports of each file, by the numbers of the files that they name, in the order in which they are written.
+/// The files are numbered by their paths. Where an import is faulty, the least fault is answered, by file, token and
+/// number.
+pub fn resolve_imports(
+    alloc: Global,
+    paths: &[&str],
+    files: &[Vec<WrittenImport>],
+) -> Result<Vec<Vec<FileImport>>, ImportError>
+    requires count { length paths.now ≤ 2 ^ 32 }
+    requires paired { length files.now ≡ length paths.now }
+    requires rising { All (λ v. AreRising v.items) files.now }
+    ensures clean { IfOk result (λ _. (f : Fault) → ImportFault (map (λ p. p.now) paths.now) (all_asked 0 (map (λ v. v.items) files.now)) f → ⊥) }
+    ensures len { IfOk result (λ imports. length imports.items ≡ length files.now) }
+    ensures imports { IfOk result (λ imports. all_imports 0 (map (λ v. v.items) imports.items) ≡ imports_of (map (λ p. p.now) paths.now) (all_asked 0 (map (λ v. v.items) files.now))) }
+    ensures within { IfOk result (λ imports. All (λ v. All (λ i. i.to < length files.now) v.items) imports.items) }
+    ensures fault { IfErr result (IsImportError (ImportFault (map (λ p. p.now) paths.now) (all_asked 0 (map (λ v. v.items) files.now)))) }
+{
+    let index = file_index(alloc, paths)?;
+    let imports = resolved(alloc, &index, files)?;
+    let path_fault = first_path_fault(alloc, &index, files)?;
+    let cycle_fault = first_on_cycle(alloc, &index, files, &imports)?;
+    match first(path_fault, cycle_fault) {
+        None => Ok(imports),
+        Some(bad) => Err(ImportError::Bad(bad)),
+    }
+}
+
+/// The first of two faults.
+fn first(one: Option<BadImport>, other: Option<BadImport>) -> Option<BadImport>
+    ensures { IsFirst (λ f. (option_map fault_of one ≡ Some f) ⊎ (option_map fault_of other ≡ Some f)) (option_map fault_of result) }
+{
+    match (one, other) {
+        (Some(a), Some(b)) if b.is_before(&a) => Some(b),
+        (Some(a), _) => Some(a),
+        (None, b) => b,
+    }
+}

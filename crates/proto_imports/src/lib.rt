@@ -1,0 +1,9 @@
+//! The imports of files: their paths, their cycles, and what each file sees.
+#![tactic(auto)]
+
+pub mod import;
+mod import_cycles;
+mod import_paths;
+pub mod sight;
+pub mod walk;
+pub mod written;

@@ -1,9 +1,0 @@
-use Rattle.std.proofs.Common.{List, ℕ, map, ◌∙◌, ap, subst, arith, take_all, IfOk}
-use Rattle.proto_names.specs.ImportSteps.{IsFileIndex}
-use Rattle.proto_lint.specs.Packages.{directory}
-use Rattle.proto_lint.proofs.heads.first_of_directories.Goals as goal
-
-pub returns : goal.returns
-returns c =
-    let done = take_all c.loop-head.head-index c.args.heads.now (omega (arith, c.loop-head-test.false)) in
-    subst (λ (ts : List (List ℕ)). IfOk c.first_places.result (λ index. IsFileIndex index ts)) (ap (map (λ t. t.now)) c.deref.ensures.value ∙ c.loop-head.invariant ∙ ap (map directory) done) c.first_places.ensures

@@ -1,8 +1,0 @@
-use Rattle.std.proofs.Common.{◌≡◌, ◌++◌, map, take, flat_map}
-use Rattle.proto_tree.specs.File.{item_tree}
-use Rattle.proto_lint.specs.Readings.{reading_of}
-use Rattle.proto_lint.specs.Walks.{outer_messages}
-use Rattle.proto_lint.proofs.method_types.add_file_messages.Given as goal
-
-abbrev pub invariant-loop-item : goal.invariant-loop-item
-invariant-loop-item l = map (λ s. s.now) l.all.items ≡ map (λ s. s.now) l.fn.all.items ++ flat_map (λ i. outer_messages (reading_of l.reading) (item_tree i)) (take l.item-index l.item-items)

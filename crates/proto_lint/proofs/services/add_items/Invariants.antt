@@ -1,9 +1,0 @@
-use Rattle.std.proofs.Common.{◌≡◌, ◌++◌, drop, map, flat_map}
-use Rattle.proto_tree.specs.File.{service_item_tree, trees}
-use Rattle.proto_lint.specs.Methods.{method_finds, signatures_in}
-use Rattle.proto_lint.specs.Readings.{reading_of}
-use Rattle.proto_lint.specs.Views.{found_of}
-use Rattle.proto_lint.proofs.services.add_items.Given as goal
-
-abbrev pub invariant-loop-item : goal.invariant-loop-item
-invariant-loop-item l = map found_of l.found.items ++ flat_map (method_finds l.rules.chosen (reading_of l.reading) l.messages l.service.full.now l.service.token) (signatures_in (trees service_item_tree (drop l.item-index l.items))) ≡ map found_of l.initial.found.items ++ flat_map (method_finds l.rules.chosen (reading_of l.reading) l.messages l.service.full.now l.service.token) (signatures_in (trees service_item_tree l.items))

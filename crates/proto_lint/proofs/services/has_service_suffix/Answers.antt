@@ -1,6 +1,0 @@
-use Rattle.std.specs.Prelude.{codes}
-use Rattle.std.proofs.lemmas.Str.Pattern.{ends_text}
-use Rattle.proto_lint.proofs.services.has_service_suffix.Goals as goal
-
-pub returns : goal.returns
-returns c = ends_text c.ends_with.result (codes "Service") c.args.word.now c.ends_with.ensures.cases

@@ -1,0 +1,10 @@
+mod Behind
+mod FromTree
+pub mod Growing
+pub mod InTokens
+mod Listed
+mod MarkedNames
+mod MarkedTokens
+mod MarkedUses
+pub mod PackageFirst
+pub mod ReadTrees

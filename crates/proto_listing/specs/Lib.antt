@@ -1,0 +1,2 @@
+pub mod FromTree
+pub mod Listing

@@ -1,0 +1,97 @@
+-- What the lists of one file say: its imports, its declarations and its references.
+use Rattle.std.specs.Prelude.{◌≡◌, ℕ, ◌+◌, ◌<◌, ◌≤◌, List, [], ◌∷◌, ◌++◌, length, get_or, map, Option, Some, None}
+use Rattle.std.specs.List.{All}
+use Rattle.proto_listing.specs.FromTree.{Wanted, used_as}
+use Rattle.proto_meaning.specs.Skeleton.{Source, Token, EntryOf, Given, Used}
+use Rattle.proto_meaning.specs.Tree.{Placed, place, placed, prefixes, key_word, value_word, Items, no_items, packaged, item, package_of, token_of}
+use Rattle.proto_listing.specs.declared.listing.Above.{Above}
+use Rattle.proto_listing.specs.declared.listing.Above.TheVariants.{Outermost, Below}
+use Rattle.proto_listing.specs.declared.listing.LastWord.{LastWord}
+use Rattle.proto_listing.specs.declared.listing.LastWord.TheVariants.{Text, EntryName, Key, Value}
+use Rattle.proto_listing.specs.declared.listing.Listed.{Listed}
+use Rattle.proto_listing.specs.declared.listing.Use.{Use}
+use Rattle.proto_listing.specs.declared.listing.Listing.{Listing}
+use Rattle.proto_listing.specs.declared.wanted.Wanted.{Wanted as WantedAt}
+
+abbrev pub wanted_of : WantedAt → Wanted
+wanted_of w = record { path = w.path; is_public = w.is_public }
+
+abbrev pub wanted_if : Option WantedAt → List Wanted
+wanted_if None = []
+wanted_if (Some w) = wanted_of w ∷ []
+
+-- ---- declarations
+
+abbrev pub source_of : LastWord → ℕ → Source ℕ
+source_of Text t = Token t
+source_of EntryName t = EntryOf t
+source_of Key t = Given key_word
+source_of Value t = Given value_word
+
+abbrev pub whole : Placed → List (Source ℕ)
+whole p = p.above ++ p.last ∷ []
+
+-- the first one, where there is one
+abbrev pub later : Option ℕ → Option ℕ → Option ℕ
+later (Some t) o = Some t
+later None o = o
+
+-- the last token on a path
+abbrev pub last_token : List (Source ℕ) → Option ℕ
+last_token [] = None
+last_token (s ∷ rest) = later (last_token rest) (token_of s)
+
+-- the path of the declaration with this index
+abbrev pub path_of : List Placed → ℕ → List (Source ℕ)
+path_of declared k = get_or (map whole declared) k []
+
+abbrev pub path_at : List Placed → Above → List (Source ℕ)
+path_at declared Outermost = []
+path_at declared (Below k) = path_of declared k
+
+abbrev pub seen : List (Source ℕ) → Listed → Placed
+seen path e = place path (source_of e.word e.token) e.kind
+
+-- the entries as declarations, each below one of those before it
+abbrev pub read_on : List Placed → List Listed → List Placed
+read_on before [] = before
+read_on before (e ∷ es) = read_on (before ++ seen (path_at before e.above) e ∷ []) es
+
+abbrev pub read : List Listed → List Placed
+read es = read_on [] es
+
+-- how many entries there are before one that stands here
+abbrev pub needs : Above → ℕ
+needs Outermost = 0
+needs (Below k) = k + 1
+
+-- what a file declares below its package
+abbrev pub items_below : List (Source ℕ) → Items → List Placed
+items_below path no_items = []
+items_below path (packaged ts rest) = items_below path rest
+items_below path (item m rest) = placed path m ++ items_below path rest
+
+-- what a file declares, its package first
+abbrev pub package_first : Items → List Placed
+package_first items = prefixes [] (package_of items) ++ items_below (map (λ t. Token t) (package_of items)) items
+
+-- ---- references
+
+abbrev pub used_by : List Placed → Use → Used ℕ
+used_by declared u = used_as (path_of declared u.scope) u.is_method u.reference.now
+
+abbrev pub uses_in : Listing → List (Used ℕ)
+uses_in l = map (used_by (read l.declared.items)) l.used.items
+
+-- each index is that of an entry, each entry stands behind the one right above it, and its token is the last of its path
+pub record IsSound (l : Listing) : Type 0 where
+  pub ordered : (k : ℕ) (d : Listed) → k < length l.declared.items → needs (get_or l.declared.items k d).above ≤ k
+  pub tokens : map (λ e. Some e.token) l.declared.items ≡ map (λ p. last_token (whole p)) (read l.declared.items)
+  pub scopes : All (λ u. u.scope < length l.declared.items) l.used.items
+
+-- the new entries and references are these, below the path
+pub record Adds (old new : Listing) (above : Above) (placed : List (Source ℕ) → List Placed) (uses : List (Source ℕ) → List (Used ℕ)) : Type 0 where
+  pub grown : length old.declared.items ≤ length new.declared.items
+  pub sound : IsSound old → IsSound new
+  pub declared : read new.declared.items ≡ read old.declared.items ++ placed (path_at (read old.declared.items) above)
+  pub used : IsSound old → uses_in new ≡ uses_in old ++ uses (path_at (read old.declared.items) above)

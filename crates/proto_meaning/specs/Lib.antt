@@ -1,0 +1,11 @@
+pub mod Cycles
+pub mod Edits
+pub mod Faults
+pub mod Forest
+pub mod Grown
+pub mod Joined
+pub mod Linked
+pub mod Marks
+pub mod Names
+pub mod Skeleton
+pub mod Tree

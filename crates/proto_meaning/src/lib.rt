@@ -1,0 +1,10 @@
+//! What names are: what a workspace declares, which files a file sees, what a reference means, and what an edit does to all this.
+#![tactic(auto)]
+
+pub mod edits;
+mod kind;
+pub mod marks;
+pub mod spelling;
+pub mod visibility;
+
+pub use kind::Kind;

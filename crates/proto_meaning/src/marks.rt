@@ -1,0 +1,13 @@
+//! Marks of files.
+
+ghost use Rattle.std.specs.Prelude.{◌≡◌, false, slice_index_or};
+
+/// Whether a file is marked; false for a place past the marks.
+pub fn is_marked(marks: &[bool], file: u32) -> bool
+    ensures { result ≡ slice_index_or marks.now file false }
+{
+    match marks.get(file as usize) {
+        Some(is_marked) => *is_marked,
+        None => false,
+    }
+}

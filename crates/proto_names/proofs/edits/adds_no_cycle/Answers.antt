@@ -1,5 +1,0 @@
-use Rattle.proto_names.proofs.edits.adds_no_cycle.Goals as goal
-use Rattle.proto_names.proofs.Cycles.{added_acyclic}
-
-pub returns : goal.returns
-returns c = added_acyclic

@@ -1,8 +1,0 @@
-use Rattle.std.proofs.Common.{ℕ, ◌<◌, List, map}
-use Rattle.proto_names.specs.Faults.{Fault}
-use Rattle.proto_names.specs.Importing.{all_asked}
-use Rattle.proto_names.specs.ImportSteps.{IsFileIndex, PathFault}
-use Rattle.proto_names.proofs.import_paths.first_path_fault.Given as goal
-
-abbrev pub invariant-loop-file : goal.invariant-loop-file
-invariant-loop-file l = (paths : List (List ℕ)) → IsFileIndex l.index paths → (f : Fault) → PathFault paths (all_asked 0 (map (λ v. v.items) l.files)) f → f.place.file < l.file → ⊥

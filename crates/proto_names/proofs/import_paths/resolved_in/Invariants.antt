@@ -1,8 +1,0 @@
-use Rattle.std.proofs.Common.{◌≡◌, ℕ, List, map, take}
-use Rattle.proto_names.specs.Faults.{imports_of}
-use Rattle.proto_names.specs.Importing.{asked_by, import_from}
-use Rattle.proto_names.specs.ImportSteps.{IsFileIndex}
-use Rattle.proto_names.proofs.import_paths.resolved_in.Given as goal
-
-abbrev pub invariant-loop-import : goal.invariant-loop-import
-invariant-loop-import l = (paths : List (List ℕ)) → IsFileIndex l.index paths → (file : ℕ) → map (import_from file) l.imports.items ≡ imports_of paths (map (asked_by file) (take l.import-index l.written))

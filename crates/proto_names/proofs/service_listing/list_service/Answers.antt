@@ -1,8 +1,0 @@
-use Rattle.std.proofs.lemmas.Result.{on_ok_weaker}
-use Rattle.proto_names.specs.Names.{Service}
-use Rattle.proto_names.specs.Skeleton.{Token}
-use Rattle.proto_names.proofs.Growing.{adds_below}
-use Rattle.proto_names.proofs.service_listing.list_service.Goals as goal
-
-pub returns : goal.returns
-returns c = on_ok_weaker c.list_methods.result (λ methods. adds_below (Token c.args.service.now.name) Service c.in_ok-index.index c.in_ok-index.ensures.adds c.in_ok-index.ensures.index.0 methods) (rw c.deref.ensures.value at c.list_methods.ensures)

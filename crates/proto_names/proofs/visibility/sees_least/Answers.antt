@@ -1,5 +1,0 @@
-use Rattle.proto_names.proofs.visibility.sees_least.Goals as goal
-use Rattle.proto_names.proofs.Seeing.{sees_is}
-
-pub returns : goal.returns
-returns c = sees_is

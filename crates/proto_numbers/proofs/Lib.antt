@@ -1,0 +1,5 @@
+pub mod CappedCovers
+pub mod CappedNumbers
+pub mod CappedRanges
+pub mod FlawLists
+pub mod IndexLemmas

@@ -1,0 +1,16 @@
+use Rattle.std.proofs.Common.{List, subst, refl}
+use Rattle.std.specs.List.{Contains}
+use Rattle.std.proofs.lemmas.List.{take_all}
+use Rattle.proto_numbers.specs.declared.flaw.Flaw.{Flaw}
+use Rattle.proto_numbers.specs.Flaws.{IsLeast}
+use Rattle.proto_numbers.proofs.FlawLists.{least_none, least_more}
+use Rattle.proto_numbers.proofs.flaw.least.Goals as goal
+
+pub loop-flaw-init : goal.loop-flaw-init
+loop-flaw-init c = least_none
+
+pub loop-flaw-preserved : goal.loop-flaw-preserved
+loop-flaw-preserved c = least_more c.args.found.now c.loop-flaw.flaw-index _ _ c.lower-least.result c.loop-flaw-test.true refl (c.lower-least.ensures _ c.loop-flaw.invariant)
+
+pub returns : goal.returns
+returns c = subst (λ (xs : List Flaw). IsLeast (Contains xs) c.loop-flaw.least) (take_all c.loop-flaw.flaw-index c.args.found.now c.loop-flaw-test.false) c.loop-flaw.invariant

@@ -1,0 +1,16 @@
+use Rattle.std.proofs.Common.{◌++◌, ◌∷◌, [], List, Bool, sym, ap, ◌∙◌}
+use Rattle.std.specs.Prelude.{not}
+use Rattle.std.specs.List.{list_any}
+use Rattle.indexmap.specs.IndexSet.{contains}
+use Rattle.proto_numbers.specs.Flaws.{after_earlier}
+use Rattle.proto_numbers.proofs.FlawLists.{repeats_snoc, new_is, seen_more}
+use Rattle.proto_numbers.proofs.flaw.repeats.Goals as goal
+
+pub loop-key-preserved : goal.loop-key-preserved
+loop-key-preserved g c = record {
+  flags = c.in_ok-push.ensures.items
+      ∙ ap (λ (z : List Bool). z ++ not c.in_ok-is_new.is_new ∷ []) c.loop-key.invariant.flags
+      ∙ ap (λ (b : Bool). after_earlier g.K.PartialEq.eq c.loop-key.yielded ++ b ∷ []) (new_is c.in_ok-is_new.is_new (contains g.K.PartialEq.eq c.loop-key.seen c.in-Some.key) (list_any (λ p. g.K.PartialEq.eq p c.in-Some.key) c.loop-key.yielded) c.in_ok-is_new.ensures.added (c.loop-key.invariant.seen c.in-Some.key))
+      ∙ sym (repeats_snoc g.K.PartialEq.eq [] c.loop-key.yielded c.in-Some.key);
+  seen = λ q. seen_more g.K.PartialEq.eq c.loop-key.yielded c.in-Some.key q (contains g.K.PartialEq.eq c.insert.new.self q) (contains g.K.PartialEq.eq c.loop-key.seen q) (c.in_ok-is_new.ensures.updates.0 q) (c.loop-key.invariant.seen q);
+}

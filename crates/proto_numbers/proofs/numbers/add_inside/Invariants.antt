@@ -1,0 +1,8 @@
+use Rattle.std.proofs.Common.{◌≡◌, ◌++◌, List, take}
+use Rattle.proto_numbers.specs.declared.numbers.RangeAt.{RangeAt}
+use Rattle.proto_numbers.specs.NumberFlaws.{reserved_numbers}
+use Rattle.proto_numbers.specs.RangeIndex.{IsIndexOf}
+use Rattle.proto_numbers.proofs.numbers.add_inside.Given as goal
+
+abbrev pub invariant-loop-at : goal.invariant-loop-at
+invariant-loop-at l = (rs : List RangeAt) → IsIndexOf rs l.index → l.found.items ≡ l.initial.found.items ++ reserved_numbers rs (take l.at-index l.numbers)

@@ -1,0 +1,9 @@
+use Rattle.std.proofs.Common.{◌≡◌, ◌++◌, List, take}
+use Rattle.proto_numbers.specs.declared.numbers.RangeAt.{RangeAt}
+use Rattle.proto_numbers.specs.Flaws.{earlier}
+use Rattle.proto_numbers.specs.NumberFlaws.{share}
+use Rattle.proto_numbers.specs.RangeIndex.{IsIndexOf}
+use Rattle.proto_numbers.proofs.numbers.add_sharing.Given as goal
+
+abbrev pub invariant-loop-i : goal.invariant-loop-i
+invariant-loop-i l = (rs : List RangeAt) → IsIndexOf rs l.index → l.flags.items ≡ l.initial.flags.items ++ earlier share rs (take l.i l.ranges)

@@ -1,0 +1,112 @@
+-- What is wrong with numbers and ranges: of fields, of the values of enums, and what is reserved.
+use Rattle.std.specs.Prelude.{ℕ, ℤ, pos, negsuc, int_le, Bool, not, ◌&&◌, List, ◌++◌, map, flat_map, Option, Some, None}
+use Rattle.std.specs.List.{list_any}
+use Rattle.std.specs.Ordering.{int_eq}
+use Rattle.proto_faults.specs.declared.fault.FaultKind.TheVariants as kind
+use Rattle.proto_tree.specs.declared.tree.Range.{Range}
+use Rattle.proto_tree.specs.declared.tree.RangeEnd.{RangeEnd}
+use Rattle.proto_tree.specs.declared.tree.RangeEnd.TheVariants as range_end
+use Rattle.proto_tree.specs.declared.tree.UpTo.{UpTo}
+use Rattle.proto_tree.specs.declared.tree.Signed.{Signed}
+use Rattle.proto_tree.specs.declared.tree.Value.{Value}
+use Rattle.proto_parts.specs.Parts.{FieldOf}
+use Rattle.proto_parts.specs.Scenes.{Scene, number_at, signed_at}
+use Rattle.proto_numbers.specs.declared.flaw.Flaw.{Flaw}
+use Rattle.proto_numbers.specs.declared.numbers.NumberAt.{NumberAt}
+use Rattle.proto_numbers.specs.declared.numbers.RangeAt.{RangeAt}
+use Rattle.proto_numbers.specs.Flaws.{flaw_if, after_earlier, marked}
+
+-- ---- numbers, by the first tokens that they stand at
+
+abbrev pub number_of_field : Scene → FieldOf → NumberAt
+number_of_field scene f = record { token = f.number; number = number_at scene f.number }
+
+abbrev pub first_of : Option ℕ → ℕ → ℕ
+first_of None number = number
+first_of (Some minus) number = minus
+
+abbrev pub first_of_signed : Signed → ℕ
+first_of_signed s = first_of s.minus s.number
+
+abbrev pub number_of_value : Scene → Value → NumberAt
+number_of_value scene v = record { token = first_of_signed v.number; number = signed_at scene v.number }
+
+-- ---- ranges
+
+abbrev pub bound_of : {N : Type 0} → ℤ → (N → ℤ) → RangeEnd N → ℤ
+bound_of most number (range_end.Number n) = number n
+bound_of most number (range_end.Max i) = most
+
+-- the last number of a range: one number is its own last
+abbrev pub end_of : {N : Type 0} → ℤ → (N → ℤ) → N → Option (UpTo N) → ℤ
+end_of most number first None = number first
+end_of most number first (Some up_to) = bound_of most number up_to.end
+
+-- `max` of a message's ranges, and of an enum's
+abbrev pub most_field : ℤ
+most_field = pos 536870911
+
+abbrev pub most_value : ℤ
+most_value = pos 2147483647
+
+abbrev pub least_value : ℤ
+least_value = negsuc 2147483647
+
+abbrev pub range_of : Scene → Range ℕ → RangeAt
+range_of scene r = record { token = r.first; first = number_at scene r.first; last = end_of most_field (number_at scene) r.first r.up_to }
+
+abbrev pub enum_range_of : Scene → Range Signed → RangeAt
+enum_range_of scene r = record { token = first_of_signed r.first; first = signed_at scene r.first; last = end_of most_value (signed_at scene) r.first r.up_to }
+
+-- ---- sentences
+
+abbrev pub is_within : ℤ → ℤ → ℤ → Bool
+is_within least most n = int_le least n && int_le n most
+
+-- 1 to 536870911 without 19000 to 19999
+abbrev pub is_field_number : ℤ → Bool
+is_field_number n = is_within (pos 1) most_field n && not (is_within (pos 19000) (pos 19999) n)
+
+abbrev pub is_value_number : ℤ → Bool
+is_value_number n = is_within least_value most_value n
+
+-- a number outside its limits
+abbrev pub outside : (ℤ → Bool) → List NumberAt → List Flaw
+outside limits ns = flat_map (λ n. flaw_if (not (limits n.number)) kind.NumberRange n.token) ns
+
+-- a bound outside its limits, or a range that ends before it begins
+abbrev pub is_sound_range : ℤ → ℤ → RangeAt → Bool
+is_sound_range least most r = is_within least most r.first && (is_within least most r.last && int_le r.first r.last)
+
+abbrev pub broken_ranges : ℤ → ℤ → List RangeAt → List Flaw
+broken_ranges least most rs = flat_map (λ r. flaw_if (not (is_sound_range least most r)) kind.NumberRange r.token) rs
+
+-- a number inside one of the ranges
+abbrev pub is_inside : ℤ → RangeAt → Bool
+is_inside n r = is_within r.first r.last n
+
+abbrev pub reserved_numbers : List RangeAt → List NumberAt → List Flaw
+reserved_numbers rs ns = flat_map (λ n. flaw_if (list_any (is_inside n.number) rs) kind.ReservedNumber n.token) ns
+
+-- two ranges share a number: neither ends before it begins, or before the other
+abbrev pub share : RangeAt → RangeAt → Bool
+share a b = int_le a.first a.last && (int_le b.first b.last && (int_le a.first b.last && int_le b.first a.last))
+
+-- a range that shares a number with an earlier one
+abbrev pub overlaps : List RangeAt → List Flaw
+overlaps rs = marked kind.RangeOverlap (map (λ r. r.token) rs) (after_earlier share rs)
+
+-- a number that an earlier one is
+abbrev pub repeated_numbers : List NumberAt → List Bool
+repeated_numbers ns = after_earlier int_eq (map (λ n. n.number) ns)
+
+-- ---- of a message
+
+-- the number flaws of a message's fields and ranges
+abbrev pub field_number_flaws : List RangeAt → List NumberAt → List Flaw
+field_number_flaws ranges numbers =
+    outside is_field_number numbers
+    ++ (marked kind.DuplicateNumber (map (λ n. n.token) numbers) (repeated_numbers numbers)
+    ++ (reserved_numbers ranges numbers
+    ++ (broken_ranges (pos 1) most_field ranges
+    ++ overlaps ranges)))

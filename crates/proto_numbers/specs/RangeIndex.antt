@@ -1,0 +1,35 @@
+-- Ranges as they are looked up: in order, each ending where it or one before it ends last.
+use Rattle.std.specs.Prelude.{◌≡◌, ℕ, ℤ, ◌+◌, ◌<◌, ◌≤◌, int_le, Bool, true, false, List, length, get_or, take, Option, Some, None}
+use Rattle.std.specs.List.{list_any, filter}
+use Rattle.std.specs.List.Sorted.{IsPermutation}
+use Rattle.proto_numbers.specs.declared.numbers.RangeAt.{RangeAt}
+
+-- it does not end before it begins
+abbrev pub has_numbers : RangeAt → Bool
+has_numbers r = int_le r.first r.last
+
+-- in the order of their first numbers
+abbrev pub AreInOrder : List RangeAt → Type 0
+AreInOrder rs = (i j : ℕ) (d : RangeAt) → i ≤ j → j < length rs → int_le (get_or rs i d).first (get_or rs j d).first ≡ true
+
+-- one of them ends at the number or past it
+abbrev pub reach : ℤ → List RangeAt → Bool
+reach n rs = list_any (λ r. int_le n r.last) rs
+
+-- a range that is the last to end does so, where there is one
+abbrev pub reaches : ℤ → Option RangeAt → Bool
+reaches n None = false
+reaches n (Some r) = int_le n r.last
+
+-- the same ranges, each ending where it or one before it ends last
+pub record AreRaised (rs raised : List RangeAt) : Type 0 where
+  pub len : length raised ≡ length rs
+  pub first : (k : ℕ) (d : RangeAt) → k < length rs → (get_or raised k d).first ≡ (get_or rs k d).first
+  pub last : (k : ℕ) (d : RangeAt) (n : ℤ) → k < length rs → int_le n (get_or raised k d).last ≡ reach n (take (k + 1) rs)
+
+-- an index of the ranges that have numbers
+pub record IsIndexOf (rs index : List RangeAt) : Type 0 where
+  pub sorted : List RangeAt
+  pub same : IsPermutation (filter has_numbers rs) sorted
+  pub order : AreInOrder sorted
+  pub raised : AreRaised sorted index

@@ -1,0 +1,93 @@
+//! Flaws of a file, each at one of its tokens.
+
+ghost use Rattle.std.specs.Prelude.{◌≡◌, ◌++◌, ◌∷◌, [], List, length, IfOk, OnOk};
+ghost use Rattle.std.specs.List.{Contains};
+ghost use Rattle.proto_numbers.specs.declared.flaw.Flaw.{Flaw as FlawOf};
+ghost use Rattle.proto_numbers.specs.Flaws.{flaw_if, marked, after_earlier, comes_before, IsLeast};
+
+use indexmap::IndexSet;
+use proto_faults::{FaultKind, NoMemory};
+use std::alloc::Global;
+use std::hash::Hash;
+
+/// A fault of a kind, at the token with an index.
+#[derive(Clone, Copy)]
+pub struct Flaw {
+    pub token: u32,
+    pub kind: FaultKind,
+}
+
+/// Adds a flaw of the kind at the token, where it holds.
+pub fn add_if(
+    found: &mut Vec<Flaw>,
+    holds: bool,
+    kind: FaultKind,
+    token: u32,
+) -> Result<(), NoMemory>
+    ensures { OnOk result (found.new.items ≡ found.old.items ++ flaw_if holds kind token) }
+{
+    if holds {
+        found.push(Flaw { token, kind })?;
+    }
+    Ok(())
+}
+
+/// Adds a flaw of the kind at each token whose flag is set, in order; each token has a flag.
+pub fn add_marked(
+    found: &mut Vec<Flaw>,
+    kind: FaultKind,
+    tokens: &[u32],
+    flags: &[bool],
+) -> Result<(), NoMemory>
+    requires { length tokens.now ≡ length flags.now }
+    ensures { OnOk result (found.new.items ≡ found.old.items ++ marked kind tokens.now flags.now) }
+{
+    for i in 0..tokens.len() {
+        add_if(found, flags[i], kind, tokens[i])?;
+    }
+    Ok(())
+}
+
+/// For each key, in order, whether one before it is equal.
+pub fn repeats<K: Eq + Hash + Drop>(alloc: Global, keys: Vec<K>) -> Result<Vec<bool>, NoMemory>
+    ensures flags { IfOk result (λ flags. flags.items ≡ after_earlier K.eq keys.items) }
+{
+    let mut seen = IndexSet::new(alloc);
+    let mut flags = Vec::new(alloc);
+    for key in keys {
+        let is_new = seen.insert(key)?;
+        flags.push(!is_new)?;
+    }
+    Ok(flags)
+}
+
+fn comes_before(a: Flaw, b: Flaw) -> bool
+    ensures { result ≡ comes_before a b }
+{
+    a.token < b.token || a.token == b.token && a.kind.number() < b.kind.number()
+}
+
+/// The least of one more flaw and those of which a flaw is the least.
+fn lower(least: Option<Flaw>, flaw: Flaw) -> Option<Flaw>
+    ensures { (others : List FlawOf) → IsLeast (Contains others) least → IsLeast (Contains (others ++ flaw ∷ [])) result }
+{
+    match least {
+        Some(other) => Some(if comes_before(flaw, other) {
+            flaw
+        } else {
+            other
+        }),
+        None => Some(flaw),
+    }
+}
+
+/// The least of some flaws, by token and number; none of none.
+pub fn least(found: &[Flaw]) -> Option<Flaw>
+    ensures { IsLeast (Contains found.now) result }
+{
+    let mut least = None;
+    for flaw in found {
+        least = lower(least, *flaw);
+    }
+    least
+}

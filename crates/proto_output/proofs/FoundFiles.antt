@@ -1,0 +1,51 @@
+-- The text of the file at a path.
+use Rattle.std.proofs.Common.{◌≡◌, ◌≢◌, ◌<◌, ◌≤◌, ℕ, zero, suc, Bool, true, false, cond, List, [], ◌∷◌, Option, Some, None, IfNone, IfSome, refl, sym, ap, ◌∙◌, subst, arith, length}
+use Rattle.std.proofs.Math.Dec.{ltb}
+use Rattle.std.proofs.lemmas.Bool.{ltb-true, ltb-false}
+use Rattle.std.specs.List.{AllPairs}
+use Rattle.std.specs.Option.{unwrap_or}
+use Rattle.std.specs.Str.{bytes_eq}
+use Rattle.std.proofs.lemmas.Slice.Eq.{bytes_eq-Decides}
+use Rattle.proto_files.specs.GivenFiles.{FileOf, file_at}
+use Rattle.proto_files.specs.WorkspacePaths.{IsBefore}
+use Rattle.proto_output.specs.FoundLines.{text_at}
+use Rattle.proto_store.specs.Stores.{bytes_at}
+use Rattle.proto_store.proofs.PathOrder.{differs_if_less, same_text}
+
+-- a file with the path is the one that is looked up, since no two have one path
+pub text_of_file : (files : List FileOf) (k : ℕ) (path : List ℕ) → AllPairs (λ f g. IsBefore f.path g.path) files → k < length files → (file_at files k).path ≡ path → text_at path files ≡ (file_at files k).bytes
+text_of_file [] k path apart inside same = absurd (omega (arith, inside))
+text_of_file (file ∷ files) zero path apart inside same = ap (λ b. unwrap_or (cond b (Some file.bytes) (bytes_at path files)) []) ((bytes_eq-Decides path file.path).1 (sym same))
+text_of_file (file ∷ files) (suc k) path apart inside same =
+    let before : IsBefore file.path (file_at files k).path = apart 0 (suc k) (record { path = []; bytes = [] }) (omega arith) inside in
+    let other : bytes_eq path file.path ≡ false = same_text path file.path ∙ differs_if_less file.path path (subst (IsBefore file.path) same before) in
+    ap (λ b. unwrap_or (cond b (Some file.bytes) (bytes_at path files)) []) other
+    ∙ text_of_file files k path (λ i j d less within. apart (suc i) (suc j) d (omega (arith, less)) (omega (arith, within))) (omega (arith, inside)) same
+
+-- where no file has the path, none is found
+pub text_of_none : (files : List FileOf) (path : List ℕ) → ((k : ℕ) → k < length files → (file_at files k).path ≢ path) → text_at path files ≡ []
+text_of_none [] path none = refl
+text_of_none (file ∷ files) path none = go (text_of_none files path (λ k inside. none (suc k) (omega (arith, inside)))) (bytes_eq path file.path) refl
+  where
+    go : text_at path files ≡ [] → (b : Bool) → bytes_eq path file.path ≡ b → text_at path (file ∷ files) ≡ []
+    go rest true e = absurd (none 0 (omega arith) (sym ((bytes_eq-Decides path file.path).0 e)))
+    go rest false e = ap (λ b. unwrap_or (cond b (Some file.bytes) (bytes_at path files)) []) e ∙ rest
+
+past_end : (files : List FileOf) (k : ℕ) → length files ≤ k → (file_at files k).bytes ≡ []
+past_end [] k past = refl
+past_end (file ∷ files) zero past = absurd (omega (arith, past))
+past_end (file ∷ files) (suc k) past = past_end files k (omega (arith, past))
+
+-- the file that was found from a number on or before it, or the count of the files
+pub text_of_named : (files : List FileOf) (path : List ℕ) (start count : ℕ) (found : Option ℕ) → count ≡ length files → AllPairs (λ f g. IsBefore f.path g.path) files
+    → IfSome found (λ k. k < length files) → IfSome found (λ k. (file_at files k).path ≡ path)
+    → IfNone found ((k : ℕ) → 0 ≤ k → k < start → (file_at files k).path ≢ path)
+    → ((k : ℕ) → start ≤ k → k < count → (file_at files k).path ≢ path)
+    → (file_at files (unwrap_or found count)).bytes ≡ text_at path files
+text_of_named files path start count (Some k) long apart inside same none behind = sym (text_of_file files k path apart inside same)
+text_of_named files path start count None long apart inside same none behind =
+    past_end files count (omega (arith, long)) ∙ sym (text_of_none files path (λ k within. go k within (ltb k start) refl))
+  where
+    go : (k : ℕ) → k < length files → (b : Bool) → ltb k start ≡ b → (file_at files k).path ≢ path
+    go k within true e = none k (omega arith) (ltb-true k start e)
+    go k within false e = behind k (ltb-false k start e) (omega (arith, within, long))

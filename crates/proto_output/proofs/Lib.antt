@@ -1,0 +1,2 @@
+mod Cursors
+mod FoundFiles

@@ -1,0 +1,14 @@
+use Rattle.std.proofs.Common.{◌≡◌, map, take}
+use Rattle.std.specs.List.{flat_map}
+use Rattle.std.specs.String.{string_bytes}
+use Rattle.proto_files.specs.GivenFiles.{file_at}
+use Rattle.proto_findings.specs.Views.{finding_of}
+use Rattle.proto_output.specs.FoundLines.{found_line}
+use Rattle.proto_output.specs.Places.{IsCursorIn}
+use Rattle.proto_output.proofs.found_lines.lines_of_findings.Given as goal
+
+abbrev pub invariant-loop-finding : goal.invariant-loop-finding
+invariant-loop-finding l = record {
+  lines : string_bytes l.text ≡ flat_map (found_line l.files) (map finding_of (take l.finding-index l.found));
+  there : IsCursorIn (file_at l.files l.spot.file).bytes l.spot.cursor;
+}

@@ -1,0 +1,33 @@
+-- The line of a fault of files: the choice of this project.
+use Rattle.std.specs.Prelude.{◌≡◌, ℕ, List, [], ◌++◌, codes, decimal, Option, Some, None}
+use Rattle.std.specs.Option.{unwrap_or}
+use Rattle.proto_files.specs.GivenFiles.{FileOf}
+use Rattle.proto_files.specs.Faults.{FaultAt}
+use Rattle.proto_faults.specs.FaultTable.{name_of, number_of}
+use Rattle.proto_text.specs.Lines.{column_at, line_at}
+use Rattle.proto_store.specs.Stores.{bytes_at}
+
+-- `path:line:column: NUMBER NAME`
+abbrev pub line_of : FaultAt → ℕ → ℕ → List ℕ
+line_of fault line column =
+    fault.path ++ (codes ":" ++ (decimal line ++ (codes ":" ++ (decimal column
+    ++ (codes ": " ++ (decimal (number_of fault.kind) ++ (codes " " ++ (name_of fault.kind ++ codes "\n"))))))))
+
+-- the line and the column of a fault of the files
+abbrev pub IsPlace : List FileOf → FaultAt → ℕ → ℕ → Type 0
+IsPlace files fault line column =
+    let bytes = unwrap_or (bytes_at fault.path files) [] in
+    (line ≡ line_at bytes fault.offset) × (column ≡ column_at bytes fault.offset)
+
+-- the line of a fault of the files
+abbrev pub IsLine : List FileOf → FaultAt → List ℕ → Type 0
+IsLine files fault text = (line : ℕ) × (column : ℕ) × IsPlace files fault line column × (text ≡ line_of fault line column)
+
+-- the same of a store, whose files may be unknown
+abbrev pub IsPlaceOver : Option (List FileOf) → FaultAt → ℕ → ℕ → Type 0
+IsPlaceOver None fault line column = Unit {0}
+IsPlaceOver (Some files) fault line column = IsPlace files fault line column
+
+abbrev pub IsLineOver : Option (List FileOf) → FaultAt → List ℕ → Type 0
+IsLineOver None fault text = Unit {0}
+IsLineOver (Some files) fault text = IsLine files fault text

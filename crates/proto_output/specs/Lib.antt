@@ -1,0 +1,4 @@
+pub mod FaultLines
+pub mod FoundLines
+pub mod Places
+pub mod Writing

@@ -1,0 +1,120 @@
+//! The lines of what rules find.
+
+ghost use Rattle.std.specs.Prelude.{◌≡◌, ◌≢◌, ℕ, ◌<◌, ◌≤◌, ◌++◌, flat_map, length, map, IfNone, IfOk, IfSome, OnOk};
+ghost use Rattle.std.specs.String.{string_bytes};
+ghost use Rattle.proto_files.specs.GivenFiles.{file_at};
+ghost use Rattle.proto_findings.specs.Views.{finding_of};
+ghost use Rattle.proto_output.specs.FoundLines.{found_line, line_of, text_at};
+ghost use Rattle.proto_output.specs.Places.{IsCursorIn};
+ghost use Rattle.proto_text.specs.Lines.{column_at, line_at};
+
+use crate::place::{Cursor, Place};
+use proto_faults::NoMemory;
+use proto_files::Files;
+use proto_lint::Finding;
+use std::alloc::Global;
+
+/// The line of each finding, ended by a line feed: `path:line:column: RULE name`. Findings in the order of their places
+/// take one walk through the files and their texts. Only want of memory is refused.
+pub fn lines_of_findings(
+    alloc: Global,
+    files: &Files,
+    found: &[Finding],
+) -> Result<String, NoMemory>
+    ensures { IfOk result (λ text. string_bytes text ≡ flat_map (found_line files.now) (map finding_of found.now)) }
+{
+    let mut text = String::new(alloc);
+    let mut spot = Spot {
+        file: 0,
+        cursor: Cursor::new(),
+    };
+    for finding in found {
+        spot = spot.moved_to(files, finding.path.as_str(), finding.offset);
+        add_line(alloc, &mut text, finding, spot.cursor.place())?;
+    }
+    Ok(text)
+}
+
+fn add_line(
+    alloc: Global,
+    text: &mut String,
+    finding: &Finding,
+    place: Place,
+) -> Result<(), NoMemory>
+    ensures { OnOk result (string_bytes text.new ≡ string_bytes text.old ++ line_of (finding_of finding.now) place.line place.column) }
+{
+    let path = finding.path.as_str();
+    let rule = finding.rule.name();
+    let name = finding.name.as_str();
+    let Place { line, column } = place;
+    let line = format!(in alloc; "{path}:{line}:{column}: {rule} {name}\n")?;
+    text.push_str(line.as_str())?;
+    Ok(())
+}
+
+// A file by its number, and a place of its text.
+#[derive(Clone, Copy)]
+struct Spot {
+    file: usize,
+    cursor: Cursor,
+}
+
+impl Spot {
+    // At an offset of the text of the file at a path. Files behind this one are looked at first.
+    fn moved_to(self, files: &Files, path: &str, offset: u32) -> Spot
+        requires { IsCursorIn (file_at files.now self.file).bytes self.cursor }
+        ensures there { IsCursorIn (file_at files.now result.file).bytes result.cursor }
+        ensures line { result.cursor.place.line ≡ line_at (text_at path.now files.now) offset }
+        ensures column { result.cursor.place.column ≡ column_at (text_at path.now files.now) offset }
+    {
+        let file = file_named(files, self.file, path);
+        let cursor = if file == self.file {
+            self.cursor
+        } else {
+            Cursor::new()
+        };
+        Spot {
+            file,
+            cursor: cursor.moved_to(text_of(files, file), offset),
+        }
+    }
+}
+
+// The text of a file; empty where there is none with the number.
+fn text_of(files: &Files, file: usize) -> &[u8]
+    ensures { result.now ≡ (file_at files.now file).bytes }
+{
+    if file < files.len() {
+        files.source(file).as_bytes()
+    } else {
+        &[]
+    }
+}
+
+// The number of the file at a path, which is looked for from a number on and then before it; the count of the files where
+// there is none.
+fn file_named(files: &Files, start: usize, path: &str) -> usize
+    ensures { (file_at files.now result).bytes ≡ text_at path.now files.now }
+{
+    let count = files.len();
+    let start = start.min(count);
+    match file_between(files, start, count, path) {
+        Some(file) => file,
+        None => file_between(files, 0, start, path).unwrap_or(count),
+    }
+}
+
+// The first file with the path among those with numbers from `start` to `end`.
+fn file_between(files: &Files, start: usize, end: usize, path: &str) -> Option<usize>
+    requires { end ≤ length files.now }
+    ensures within { IfSome result (λ file. file < length files.now) }
+    ensures path { IfSome result (λ file. (file_at files.now file).path ≡ path.now) }
+    ensures none { IfNone result ((file : ℕ) → start ≤ file → file < end → (file_at files.now file).path ≢ path.now) }
+{
+    for file in start..end {
+        if files.path(file) == path {
+            return Some(file);
+        }
+    }
+    None
+}

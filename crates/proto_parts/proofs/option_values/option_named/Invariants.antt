@@ -1,0 +1,9 @@
+use Rattle.std.proofs.Common.{◌≡◌, map, drop}
+use Rattle.std.specs.Prelude.{find}
+use Rattle.proto_parts.specs.Options.{is_named}
+use Rattle.proto_parts.specs.Scenes.{text}
+use Rattle.proto_parts.specs.Views.{option_of}
+use Rattle.proto_parts.proofs.option_values.option_named.Given as goal
+
+abbrev pub invariant-loop-option : goal.invariant-loop-option
+invariant-loop-option l = find (is_named (text l.scene) l.name) (map option_of l.options) ≡ find (is_named (text l.scene) l.name) (map option_of (drop l.option-index l.options))

@@ -1,0 +1,18 @@
+-- The names of fields in JSON.
+use Rattle.std.specs.Prelude.{ℕ, false, List, Option, Some, None, codes}
+use Rattle.proto_case.specs.Camel.{camel_from}
+use Rattle.proto_parts.specs.Options.{text_option}
+use Rattle.proto_parts.specs.Parts.{FieldOf}
+use Rattle.proto_parts.specs.Scenes.{Scene, text, value}
+
+-- the JSON name of a word: no `_`, and the character after one in upper case
+abbrev pub json_word : List ℕ → List ℕ
+json_word word = camel_from false word
+
+abbrev pub written_or : Option (List ℕ) → List ℕ → List ℕ
+written_or None word = json_word word
+written_or (Some name) word = name
+
+-- as `json_name` says, where it is a text
+abbrev pub json_name_of : Scene → FieldOf → List ℕ
+json_name_of scene f = written_or (text_option (text scene) (value scene) (codes "json_name") f.options) (text scene f.name)

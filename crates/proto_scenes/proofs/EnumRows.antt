@@ -1,0 +1,121 @@
+-- The rows of a file's enums are those that its blocks give.
+use Rattle.std.proofs.Common.{◌≡◌, ℕ, ◌==◌, Bool, true, false, cond, List, [], ◌∷◌, ◌++◌, length, Option, Some, None, option_map, refl, sym, ap, subst, ◌∙◌, inl, inr, arith}
+use Rattle.std.specs.Prelude.{nat_eq, is_some}
+use Rattle.std.specs.Option.{option_or, option_and_then}
+use Rattle.std.specs.List.{filter, find}
+use Rattle.std.proofs.lemmas.Bool.{eqb-true}
+use Rattle.std.proofs.lemmas.List.{get_or_past}
+use Rattle.std.proofs.lemmas.List.Folds.{find-append}
+use Rattle.std.proofs.lemmas.Option.{slice_get_cases}
+use Rattle.std.specs.Map.{lookup}
+use Rattle.indexmap.specs.IndexMap.{IndexMap, IsEmpty, get}
+use Rattle.proto_text.specs.Tokens.{Lexeme}
+use Rattle.proto_tree.specs.declared.piece.Header.{Header}
+use Rattle.proto_tree.specs.declared.piece.Header.TheVariants as header
+use Rattle.proto_tree.specs.declared.tree.Block.{Block as Braced}
+use Rattle.proto_tree.specs.declared.tree.EnumItem.{EnumItem}
+use Rattle.proto_tree.specs.File.{enum_item_tree, trees}
+use Rattle.proto_tree.specs.Tree.{Tree, End}
+use Rattle.proto_files.specs.GivenFiles.{FileOf}
+use Rattle.proto_meaning.specs.Grown.{at}
+use Rattle.proto_files.specs.FilesRead.{Each, ReadOf, AreRead}
+use Rattle.proto_parts.specs.Parts.{BlockOf, blocks_in}
+use Rattle.proto_parts.specs.Scenes.{EnumOf}
+use Rattle.proto_scenes.specs.Enums.{AreEnumsOf, IsEnumTable, enum_among, enum_block, enum_of_row, enums_in, is_enum, row_at}
+use Rattle.proto_scenes.specs.SceneOf.{enum_at, enum_within, is_enum_at, is_proto3_file, lexemes_of}
+use Rattle.proto_scenes.specs.declared.enum_table.EnumRow.{EnumRow}
+
+-- ---- finding among those that pass another test
+
+turn : {A : Type 0} (p q : A → Bool) (x : A) (xs : List A) → (p x ≡ true → q x ≡ true) → find p (filter q xs) ≡ find p xs → (b : Bool) → q x ≡ b → (c : Bool) → p x ≡ c → find p (cond b (x ∷ filter q xs) (filter q xs)) ≡ cond c (Some x) (find p xs)
+turn p q x xs h on true e true f = ap (λ (z : Bool). cond z (Some x) (find p (filter q xs))) f
+turn p q x xs h on true e false f = ap (λ (z : Bool). cond z (Some x) (find p (filter q xs))) f ∙ on
+turn p q x xs h on false e true f = let t : q x ≡ true = h f in absurd (cc)
+turn p q x xs h on false e false f = on
+
+find_filter : {A : Type 0} (p q : A → Bool) → ((x : A) → p x ≡ true → q x ≡ true) → (xs : List A) → find p (filter q xs) ≡ find p xs
+find_filter p q h [] = refl
+find_filter p q h (x ∷ xs) = turn p q x xs (h x) (find_filter p q h xs) (q x) refl (p x) refl
+
+is_an_enum : (token : ℕ) (h : Header) → is_enum_at token h ≡ true → is_enum h ≡ true
+is_an_enum token (header.Enum h) e = refl
+is_an_enum token (header.Message h) e = e
+is_an_enum token (header.Oneof h) e = e
+is_an_enum token (header.Service h) e = e
+is_an_enum token (header.Method s) e = e
+
+module _ (lexemes : List Lexeme) (proto3 : Bool) where
+  abbrev here : BlockOf → EnumOf
+  here b = enum_within lexemes proto3 b.within
+
+  abbrev is_it : ℕ → BlockOf → Bool
+  is_it token b = is_enum_at token b.header
+
+  pub rows_of_blocks : {S : Type 0} → (tree : Tree) (rows : IndexMap ℕ EnumRow S) → AreEnumsOf lexemes proto3 (enums_in tree) rows → AreEnumsOf lexemes proto3 (blocks_in tree) rows
+  rows_of_blocks tree rows h token = h token ∙ ap (option_map here) (find_filter (is_it token) (λ b. is_enum b.header) (λ b. is_an_enum token b.header) (blocks_in tree))
+
+  pub no_rows : {S : Type 0} → (rows : IndexMap ℕ EnumRow S) → IsEmpty rows → AreEnumsOf lexemes proto3 [] rows
+  no_rows rows e token = ap (λ (es : List (ℕ × EnumRow)). option_map enum_of_row (lookup (nat_eq token) es)) e
+
+  -- ---- one enum more
+
+  past : (b : Braced EnumItem) (token : ℕ) (o : Option BlockOf) → option_map here o ≡ None → (c : Bool) → (b.name == token) ≡ c
+      → option_map here (option_or o (cond c (Some (enum_block b)) None)) ≡ cond c (Some (enum_within lexemes proto3 (trees enum_item_tree b.members.items))) None
+  past b token None h true e = refl
+  past b token None h false e = refl
+  past b token (Some x) h c e = absurd (cc)
+
+  one_more : (blocks : List BlockOf) (b : Braced EnumItem) (token : ℕ) → enum_among lexemes proto3 (blocks ++ enum_block b ∷ []) token ≡ option_map here (option_or (find (is_it token) blocks) (cond (b.name == token) (Some (enum_block b)) None))
+  one_more blocks b token = ap (option_map here) (find-append (is_it token) blocks (enum_block b ∷ []))
+
+  -- where its token has a row
+  pub row_kept : {S : Type 0} → (blocks : List BlockOf) (b : Braced EnumItem) (rows : IndexMap ℕ EnumRow S) → is_some (get nat_eq rows b.name) ≡ true → AreEnumsOf lexemes proto3 blocks rows → AreEnumsOf lexemes proto3 (blocks ++ enum_block b ∷ []) rows
+  row_kept {S} blocks b rows has h token = h token ∙ go (find (is_it token) blocks) refl (b.name == token) refl ∙ sym (one_more blocks b token)
+    where
+      some_row : (o : Option EnumRow) → is_some o ≡ true → option_map enum_of_row o ≡ None → None ≡ Some (enum_block b)
+      some_row None t n = absurd (cc)
+      some_row (Some r) t n = absurd (cc)
+
+      go : (o : Option BlockOf) → find (is_it token) blocks ≡ o → (c : Bool) → (b.name == token) ≡ c → option_map here o ≡ option_map here (option_or o (cond c (Some (enum_block b)) None))
+      go (Some x) e c f = refl
+      go None e false f = refl
+      go None e true f =
+          let same : b.name ≡ token = eqb-true b.name token f in
+          let none : option_map enum_of_row (get nat_eq rows b.name) ≡ None = h b.name ∙ ap (λ (t : ℕ). option_map here (find (is_it t) blocks)) same ∙ ap (option_map here) e in
+          ap (option_map here) (some_row (get nat_eq rows b.name) has none)
+
+  -- where it has none
+  pub row_added : {S : Type 0} → (blocks : List BlockOf) (b : Braced EnumItem) (rows more : IndexMap ℕ EnumRow S) (r : EnumRow) → is_some (get nat_eq rows b.name) ≡ false → ((q : ℕ) → get nat_eq more q ≡ cond (nat_eq b.name q) (Some r) (get nat_eq rows q))
+      → enum_of_row r ≡ enum_within lexemes proto3 (trees enum_item_tree b.members.items) → AreEnumsOf lexemes proto3 blocks rows → AreEnumsOf lexemes proto3 (blocks ++ enum_block b ∷ []) more
+  row_added {S} blocks b rows more r lacks put is h token = ap (option_map enum_of_row) (put token) ∙ go (nat_eq b.name token) refl ∙ sym (one_more blocks b token)
+    where
+      no_row : (o : Option EnumRow) → is_some o ≡ false → option_map enum_of_row o ≡ None
+      no_row None t = refl
+      no_row (Some r) t = absurd (cc)
+
+      or_none : (o : Option BlockOf) → option_map here o ≡ option_map here (option_or o None)
+      or_none None = refl
+      or_none (Some x) = refl
+
+      first : (o : Option BlockOf) → option_map here o ≡ None → Some (enum_of_row r) ≡ option_map here (option_or o (Some (enum_block b)))
+      first None n = ap Some is
+      first (Some x) n = absurd (cc)
+
+      go : (c : Bool) → nat_eq b.name token ≡ c → option_map enum_of_row (cond c (Some r) (get nat_eq rows token)) ≡ option_map here (option_or (find (is_it token) blocks) (cond c (Some (enum_block b)) None))
+      go true f =
+          let same : b.name ≡ token = eqb-true b.name token f in
+          let none : option_map here (find (is_it token) blocks) ≡ None = sym (h token) ∙ ap (λ (t : ℕ). option_map enum_of_row (get nat_eq rows t)) (sym same) ∙ no_row (get nat_eq rows b.name) lacks in
+          first (find (is_it token) blocks) none
+      go false f = h token ∙ or_none (find (is_it token) blocks)
+
+-- ---- the table of all files
+
+pub is_enum_table : {S : Type 0} (files : List FileOf) (table : List (IndexMap ℕ EnumRow S)) → length table ≡ length files
+    → ((reads : List ReadOf) → AreRead files reads → Each (λ k rows. (token : ℕ) → row_at rows token ≡ enum_at files reads (at k token)) table) → IsEnumTable files table
+is_enum_table files table n each reads are a = elim (slice_get_cases table a.file).1 [
+  | inl s ↦ ap (option_and_then (λ rows. row_at rows a.token)) s.2 ∙ subst (λ rows. row_at rows a.token ≡ enum_at files reads a) s.3 (each reads are a.file s.0 s.1 a.token)
+  | inr s ↦
+      ap (option_and_then (λ rows. row_at rows a.token)) s.1
+      ∙ ap (λ (r : ReadOf). option_map (λ b. enum_within (lexemes_of files reads a.file) (is_proto3_file files reads a.file) b.within) (find (λ b. is_enum_at a.token b.header) (blocks_in r.tree)))
+      (sym (get_or_past reads a.file (record { tokens = []; tree = End }) (omega (arith, s.0, n, are.same))))
+]

@@ -1,0 +1,4 @@
+pub mod EnumRows
+pub mod EnumTrees
+pub mod MeantEnums
+pub mod ReadScenes

@@ -1,0 +1,21 @@
+use Rattle.std.proofs.Common.{List, [], ◌∷◌, ◌++◌, map, sym, ap, ◌∙◌}
+use Rattle.std.proofs.lemmas.List.{append-nil, map-append}
+use Rattle.proto_tree.specs.declared.tree.Member.{Member}
+use Rattle.proto_tree.specs.File.{member_tree}
+use Rattle.proto_tree.proofs.Nodes.{member_tree-Enum, member_tree-Oneof}
+use Rattle.proto_parts.specs.Parts.{BlockOf}
+use Rattle.proto_scenes.specs.Enums.{enum_block, enums_in}
+use Rattle.proto_scenes.proofs.EnumTrees.{enum_alone, oneof_enums}
+use Rattle.proto_scenes.proofs.enum_blocks.+enums.Goals as goal
+
+pub push_member-returns-in_ok-push-in-Enum : goal.push_member-returns-in_ok-push-in-Enum
+push_member-returns-in_ok-push-in-Enum t c =
+    ap (map (λ e. enum_block e.now)) c.in_ok-push-in-Enum.ensures.items
+    ∙ map-append (λ e. enum_block e.now) c.args.found.now.items (_ ∷ [])
+    ∙ ap (λ (bs : List BlockOf). map (λ e. enum_block e.now) c.args.found.now.items ++ bs)
+    (sym (ap (λ (m : Member). enums_in (member_tree m)) c.in-Enum.is ∙ ap enums_in (member_tree-Enum c.in-Enum.enumeration) ∙ enum_alone c.in-Enum.enumeration))
+
+pub push_member-returns-in-Oneof : goal.push_member-returns-in-Oneof
+push_member-returns-in-Oneof t c =
+    let found : List BlockOf = map (λ e. enum_block e.now) c.args.found.now.items in
+    sym (ap (λ (bs : List BlockOf). found ++ bs) (ap (λ (m : Member). enums_in (member_tree m)) c.in-Oneof.is ∙ ap enums_in (member_tree-Oneof c.in-Oneof.field-0) ∙ oneof_enums c.in-Oneof.field-0) ∙ append-nil found)

@@ -1,0 +1,58 @@
+-- The enums of files, found by the tokens of their names.
+use Rattle.std.specs.Prelude.{◌≡◌, ℕ, Bool, true, false, nat_eq, List, map, filter, find, slice_get, Option, option_map}
+use Rattle.std.specs.Option.{option_and_then}
+use Rattle.indexmap.specs.IndexMap.{IndexMap, get}
+use Rattle.proto_text.specs.Tokens.{Lexeme}
+use Rattle.proto_tree.specs.declared.piece.Header.{Header}
+use Rattle.proto_tree.specs.declared.piece.Header.TheVariants as header
+use Rattle.proto_tree.specs.declared.tree.Block.{Block as Braced}
+use Rattle.proto_tree.specs.declared.tree.EnumItem.{EnumItem}
+use Rattle.proto_tree.specs.File.{enum_item_tree, trees}
+use Rattle.proto_tree.specs.Tree.{Tree}
+use Rattle.proto_files.specs.GivenFiles.{FileOf}
+use Rattle.proto_meaning.specs.Grown.{At}
+use Rattle.proto_files.specs.FilesRead.{ReadOf, AreRead}
+use Rattle.proto_parts.specs.Parts.{BlockOf, blocks_in}
+use Rattle.proto_parts.specs.Scenes.{EnumOf}
+use Rattle.proto_scenes.specs.SceneOf.{enum_at, enum_within, is_enum_at}
+use Rattle.proto_scenes.specs.declared.enum_table.EnumRow.{EnumRow}
+
+-- ---- the enums of a tree
+
+-- an enum as a block
+abbrev pub enum_block : Braced EnumItem → BlockOf
+enum_block e = record { header = header.Enum (record { keyword = e.keyword; name = e.name }); within = trees enum_item_tree e.members.items }
+
+abbrev pub is_enum : Header → Bool
+is_enum (header.Enum h) = true
+is_enum (header.Message h) = false
+is_enum (header.Oneof h) = false
+is_enum (header.Service h) = false
+is_enum (header.Method s) = false
+
+-- the blocks that are enums, in order
+abbrev pub enums_in : Tree → List BlockOf
+enums_in tree = filter (λ b. is_enum b.header) (blocks_in tree)
+
+-- the enum among these blocks whose name is the token
+abbrev pub enum_among : List Lexeme → Bool → List BlockOf → ℕ → Option EnumOf
+enum_among lexemes proto3 blocks token = option_map (λ b. enum_within lexemes proto3 b.within) (find (λ b. is_enum_at token b.header) blocks)
+
+-- ---- tables
+
+abbrev pub enum_of_row : EnumRow → EnumOf
+enum_of_row r = record { is_proto3 = r.is_proto3; starts_past_zero = r.starts_past_zero; values = map (λ v. v.now) r.values.items }
+
+abbrev pub row_at : {S : Type 0} → IndexMap ℕ EnumRow S → ℕ → Option EnumOf
+row_at rows token = option_map enum_of_row (get nat_eq rows token)
+
+-- the rows are those of the enums among these blocks
+abbrev pub AreEnumsOf : {S : Type 0} → List Lexeme → Bool → List BlockOf → IndexMap ℕ EnumRow S → Type 0
+AreEnumsOf lexemes proto3 blocks rows = (token : ℕ) → row_at rows token ≡ enum_among lexemes proto3 blocks token
+
+abbrev pub enum_in : {S : Type 0} → List (IndexMap ℕ EnumRow S) → At → Option EnumOf
+enum_in table a = option_and_then (λ rows. row_at rows a.token) (slice_get table a.file)
+
+-- a table of the enums of all files
+abbrev pub IsEnumTable : {S : Type 0} → List FileOf → List (IndexMap ℕ EnumRow S) → Type 0
+IsEnumTable files table = (reads : List ReadOf) → AreRead files reads → (a : At) → enum_in table a ≡ enum_at files reads a

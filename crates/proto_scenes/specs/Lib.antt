@@ -1,0 +1,4 @@
+pub mod Enums
+pub mod Meanings
+pub mod SceneOf
+pub mod Scenes

@@ -1,0 +1,143 @@
+//! The enums of files, by the tokens of their names.
+
+ghost use Rattle.std.specs.Prelude.{◌≡◌, ◌++◌, ◌∷◌, [], List, map, option_map, IfOk, OnOk};
+ghost use Rattle.proto_text.specs.Texts.{word_at};
+ghost use Rattle.proto_tree.specs.File.{enum_item_tree, tree_of_file, trees};
+ghost use Rattle.proto_meaning.specs.Grown.{at};
+ghost use Rattle.proto_parts.specs.Parts.{BlockOf, blocks_in};
+ghost use Rattle.proto_parts.specs.Views.{enum_of};
+ghost use Rattle.proto_scenes.specs.Enums.{AreEnumsOf, IsEnumTable, enum_block, enum_in, enum_of_row};
+ghost use Rattle.proto_scenes.specs.SceneOf.{enum_within, starts_past_zero};
+
+use crate::enum_blocks::enums_of;
+use indexmap::IndexMap;
+use proto_faults::NoMemory;
+use proto_files::{Files, Words};
+use proto_parts::{EnumAt, is_proto3, number_of, values};
+use proto_tree::{Enum, EnumItem, File, Value};
+use std::alloc::Global;
+
+/// What is read of an enum: whether its file is proto3, whether it has a first value that is not 0, and the names of
+/// its values.
+#[derive(Drop)]
+pub struct EnumRow<'a> {
+    pub is_proto3: bool,
+    pub starts_past_zero: bool,
+    pub values: Vec<&'a str>,
+}
+
+fn is_past_zero(words: &Words, value: &Value) -> bool
+    ensures { result ≡ starts_past_zero (word_at words.now) (value.now ∷ []) }
+{
+    let number = words.get(value.number.number);
+    number_of(number) != 0
+}
+
+fn starts_past_zero(words: &Words, values: &[&Value]) -> bool
+    ensures { result ≡ starts_past_zero (word_at words.now) (map (λ v. v.now) values.now) }
+{
+    match values.first() {
+        Some(value) => is_past_zero(words, value),
+        None => false,
+    }
+}
+
+fn names<'a>(alloc: Global, words: &Words<'a>, values: &[&Value]) -> Result<Vec<&'a str>, NoMemory>
+    ensures { IfOk result (λ names. map (λ n. n.now) names.items ≡ map (λ v. word_at words.now v.name) (map (λ v. v.now) values.now)) }
+{
+    let mut names = Vec::new(alloc);
+    for value in values {
+        names.push(words.get(value.name))?;
+    }
+    Ok(names)
+}
+
+fn row<'a>(
+    alloc: Global,
+    words: &Words<'a>,
+    is_proto3: bool,
+    items: &[EnumItem],
+) -> Result<EnumRow<'a>, NoMemory>
+    ensures { IfOk result (λ r. enum_of_row r ≡ enum_within words.now is_proto3 (trees enum_item_tree items.now)) }
+{
+    let values = values(alloc, items)?;
+    let starts_past_zero = starts_past_zero(words, &values);
+    let values = names(alloc, words, &values)?;
+    Ok(EnumRow {
+        is_proto3,
+        starts_past_zero,
+        values,
+    })
+}
+
+/// Adds an enum, where none has its token.
+#[tactic(auto, using(crate::proofs::EnumRows::row_kept, crate::proofs::EnumRows::row_added))]
+fn add<'a>(
+    alloc: Global,
+    rows: &mut IndexMap<u32, EnumRow<'a>>,
+    words: &Words<'a>,
+    is_proto3: bool,
+    enumeration: &Enum,
+) -> Result<(), NoMemory>
+    ensures { OnOk result ((blocks : List BlockOf) → AreEnumsOf words.now is_proto3 blocks rows.old → AreEnumsOf words.now is_proto3 (blocks ++ enum_block enumeration.now ∷ []) rows.new) }
+{
+    if !rows.contains_key(&enumeration.name) {
+        let row = row(alloc, words, is_proto3, &enumeration.members)?;
+        rows.insert(enumeration.name, row)?;
+    }
+    Ok(())
+}
+
+/// The enums of a file.
+#[tactic(auto, using(crate::proofs::EnumRows::rows_of_blocks, crate::proofs::EnumRows::no_rows))]
+fn file_enums<'a>(
+    alloc: Global,
+    words: &Words<'a>,
+    is_proto3: bool,
+    file: &File,
+) -> Result<IndexMap<u32, EnumRow<'a>>, NoMemory>
+    ensures { IfOk result (λ rows. AreEnumsOf words.now is_proto3 (blocks_in (tree_of_file file.now)) rows) }
+{
+    let enums = enums_of(alloc, file)?;
+    let mut rows = IndexMap::new(alloc);
+    for enumeration in &enums {
+        add(alloc, &mut rows, words, is_proto3, enumeration)?;
+    }
+    Ok(rows)
+}
+
+/// The enums of all files: for each file, in the order of their paths, what is read of each of its enums, by the token
+/// of its name.
+pub fn enum_table<'a>(
+    alloc: Global,
+    files: &'a Files,
+) -> Result<Vec<IndexMap<u32, EnumRow<'a>>>, NoMemory>
+    ensures { IfOk result (λ table. IsEnumTable files.now table.items) }
+{
+    let mut table = Vec::new(alloc);
+    for file in 0..files.len() {
+        let source = files.source(file);
+        let tokens = files.tokens(file);
+        let tree = files.tree(file);
+        let is_proto3 = is_proto3(source, tokens, tree);
+        let words = Words::new(files, file);
+        table.push(file_enums(alloc, &words, is_proto3, tree)?)?;
+    }
+    Ok(table)
+}
+
+/// The enum whose name is this token of the file, if it is an enum's.
+pub(crate) fn enum_at<'a>(
+    table: &'a [IndexMap<u32, EnumRow<'a>>],
+    file: u32,
+    token: u32,
+) -> Option<EnumAt<'a>>
+    ensures { option_map enum_of result ≡ enum_in table.now (at file token) }
+{
+    let row = table.get(file as usize)?.get(&token)?;
+    Some(EnumAt {
+        is_proto3: row.is_proto3,
+        starts_past_zero: row.starts_past_zero,
+        values: row.values.as_slice(),
+    })
+}

@@ -1,0 +1,6 @@
+//! Files of a link as checks and descriptors read them: their tokens, their version, and what each reference means.
+#![tactic(auto)]
+
+mod enum_blocks;
+pub mod enum_table;
+pub mod scenes;

@@ -1,0 +1,100 @@
+//! Files as checks and descriptors read them.
+
+ghost use Rattle.std.specs.Prelude.{◌≡◌, ◌<◌, [], length, get_or, map, option_map, IfOk};
+ghost use Rattle.std.specs.List.{AllPairs};
+ghost use Rattle.proto_names.specs.LinkOfFiles.{IsLinkOf};
+ghost use Rattle.proto_parts.specs.Views.{enum_of, meant_of};
+ghost use Rattle.proto_scenes.specs.Scenes.{AreScenes, IsSceneOf};
+ghost use Rattle.proto_scenes.specs.Enums.{IsEnumTable, enum_in};
+ghost use Rattle.proto_scenes.specs.Meanings.{enum_of_name, meant_in_table};
+
+use crate::enum_table::{EnumRow, enum_at};
+use indexmap::IndexMap;
+use proto_faults::NoMemory;
+use proto_files::Files;
+use proto_names::{Link, Meant, SymbolId};
+use proto_parts::{EnumAt, MeantAt, Scene, is_proto3};
+use std::alloc::Global;
+
+/// The enum of a name of the link; none for another name.
+fn enum_named<'a>(
+    link: &Link,
+    table: &'a [IndexMap<u32, EnumRow<'a>>],
+    name: SymbolId,
+) -> Option<EnumAt<'a>>
+    ensures { option_map enum_of result ≡ enum_of_name link.now (enum_in table.now) name.row }
+{
+    let file = link.file_of(name)?;
+    let token = link.token_of(name)?;
+    enum_at(table, file, token)
+}
+
+fn meant<'a>(link: &'a Link, table: &'a [IndexMap<u32, EnumRow<'a>>], meant: Meant) -> MeantAt<'a>
+    ensures token { result.token ≡ meant.token }
+    ensures meant { meant_of result ≡ meant_in_table link.now (enum_in table.now) meant }
+{
+    let name = meant.symbol();
+    MeantAt {
+        token: meant.token(),
+        name: link.name_of(name).unwrap_or(""),
+        enumeration: enum_named(link, table, name),
+    }
+}
+
+/// What the references of a file mean, in the order of their first tokens.
+#[tactic(auto, using(crate::proofs::MeantEnums::means_rise))]
+fn means<'a>(
+    alloc: Global,
+    link: &'a Link,
+    table: &'a [IndexMap<u32, EnumRow<'a>>],
+    file: u32,
+) -> Result<Vec<MeantAt<'a>>, NoMemory>
+    ensures rising { IfOk result (λ means. AllPairs (λ m n. m.token < n.token) means.items) }
+    ensures means { IfOk result (λ means. map meant_of means.items ≡ map (meant_in_table link.now (enum_in table.now)) (get_or link.now.meant file [])) }
+{
+    let mut means = Vec::new(alloc);
+    for reference in link.meant_in(file) {
+        means.push(meant(link, table, *reference))?;
+    }
+    Ok(means)
+}
+
+/// One file.
+fn scene<'a>(
+    alloc: Global,
+    files: &'a Files,
+    link: &'a Link,
+    table: &'a [IndexMap<u32, EnumRow<'a>>],
+    file: u32,
+) -> Result<Scene<'a>, NoMemory>
+    requires file { file < length files.now }
+    requires link { IsLinkOf files.now link.now }
+    requires table { IsEnumTable files.now table.now }
+    ensures { IfOk result (IsSceneOf files.now file) }
+{
+    let place = file as usize;
+    let source = files.source(place);
+    let tokens = files.tokens(place);
+    let is_proto3 = is_proto3(source, tokens, files.tree(place));
+    let means = means(alloc, link, table, file)?;
+    Ok(Scene::new(source, tokens, is_proto3, means))
+}
+
+/// Each file as checks and descriptors read it, in the order of their paths. The link is that of the files, and the
+/// table is of their enums.
+pub fn scenes<'a>(
+    alloc: Global,
+    files: &'a Files,
+    link: &'a Link,
+    table: &'a [IndexMap<u32, EnumRow<'a>>],
+) -> Result<Vec<Scene<'a>>, NoMemory>
+    requires link { IsLinkOf files.now link.now }
+    requires table { IsEnumTable files.now table.now }
+    ensures { IfOk result (λ scenes. AreScenes files.now scenes.items) }
+{
+    let mut scenes = Vec::new(alloc);
+    for file in 0..files.len() {
+        scenes.push(scene(alloc, files, link, table, file as u32)?)?;
+    }
+    Ok(scenes)
+}

@@ -1,0 +1,69 @@
+-- The entries of a map from paths to bytes, as files.
+use Rattle.std.proofs.Common.{◌≡◌, ℕ, Bool, true, false, cond, List, [], ◌∷◌, ◌++◌, map, Some, refl, sym, ap, ◌∙◌, reverse}
+use Rattle.std.specs.Prelude.{String, option_map}
+use Rattle.std.specs.Global.{Vec, Global}
+use Rattle.std.specs.String.{string_bytes, string_cmp}
+use Rattle.std.specs.List.{AllByRecursion}
+use Rattle.std.specs.List.Sorted.{IsStrictlySortedBy}
+use Rattle.std.specs.Cmp.Lexicographic.{slice_cmp}
+use Rattle.std.specs.Ordering.{nat_cmp}
+use Rattle.std.specs.Str.{bytes_eq}
+use Rattle.std.specs.Map.{lookup}
+use Rattle.std.specs.BTreeMap.{BTreeMap, UpdatesBy, get_by_text, is_at}
+use Rattle.std.specs.declared.cmp.Ordering.TheVariants.{Less}
+use Rattle.std.proofs.lemmas.Map.Text.{btree_map_updates_text, is_eq-slice_cmp}
+use Rattle.std.proofs.lemmas.List.{map-append, reverse-append}
+use Rattle.proto_files.specs.GivenFiles.{file_of, files_of, paths_of}
+use Rattle.proto_store.specs.Stores.{AreInPathOrder, bytes_at}
+use Rattle.proto_store.specs.Memory.{files_in}
+use Rattle.proto_store.proofs.PathOrder.{same_text}
+
+above_each : (key : String Global) (entries : List (String Global × Vec ℕ))
+    → AllByRecursion (λ k. string_cmp key k ≡ Less) (map (λ e. e.0) entries)
+    → AllByRecursion (λ p. slice_cmp nat_cmp (string_bytes key) p ≡ Less) (paths_of (files_of entries))
+above_each key [] h = tt
+above_each key (e ∷ entries) h = (h.0, above_each key entries h.1)
+
+-- entries in the order of their keys are files in path order
+pub entries_in_order : (entries : List (String Global × Vec ℕ)) → IsStrictlySortedBy string_cmp (map (λ e. e.0) entries) → AreInPathOrder (files_of entries)
+unfolding IsStrictlySortedBy
+entries_in_order [] h = tt
+entries_in_order (e ∷ entries) h = (above_each e.0 entries h.0, entries_in_order entries h.1)
+
+pub paths_of_keys : (entries : List (String Global × Vec ℕ)) → paths_of (files_of entries) ≡ map string_bytes (map (λ e. e.0) entries)
+paths_of_keys [] = refl
+paths_of_keys (e ∷ entries) = ap (λ l. string_bytes e.0 ∷ l) (paths_of_keys entries)
+
+-- a look-up by the bytes of a key finds what stands at that path
+pub bytes_of_lookup : (path : List ℕ) (entries : List (String Global × Vec ℕ))
+    → bytes_at path (files_of entries) ≡ option_map (λ v. v.items) (lookup (is_at (λ k. slice_cmp nat_cmp path (string_bytes k))) entries)
+bytes_of_lookup path [] = refl
+bytes_of_lookup path (e ∷ entries) =
+    ap (λ b. cond b (Some e.1.items) (bytes_at path (files_of entries))) (sym (is_eq-slice_cmp path (string_bytes e.0)))
+    ∙ go (bytes_of_lookup path entries) (is_at (λ k. slice_cmp nat_cmp path (string_bytes k)) e.0)
+  where
+    go : bytes_at path (files_of entries) ≡ option_map (λ v. v.items) (lookup (is_at (λ k. slice_cmp nat_cmp path (string_bytes k))) entries)
+        → (b : Bool) → cond b (Some e.1.items) (bytes_at path (files_of entries)) ≡ option_map (λ v. v.items) (cond b (Some e.1) (lookup (is_at (λ k. slice_cmp nat_cmp path (string_bytes k))) entries))
+    go others true = refl
+    go others false = others
+
+-- after an insertion the path has the new bytes, and each other path what it had
+pub bytes_after_insert : (path : List ℕ) (key : String Global) (value : Vec ℕ) (old new : BTreeMap (String Global) (Vec ℕ))
+    → UpdatesBy string_cmp (string_cmp key) old new (Some value)
+    → bytes_at path (files_in new) ≡ cond (bytes_eq path (string_bytes key)) (Some value.items) (bytes_at path (files_in old))
+bytes_after_insert path key value old new updates =
+    bytes_of_lookup path new.entries
+    ∙ ap (option_map (λ v. v.items)) (btree_map_updates_text (string_bytes key) old new (Some value) updates path)
+    ∙ ap (λ b. option_map (λ v. v.items) (cond b (Some value) (get_by_text old path))) (same_text (string_bytes key) path)
+    ∙ go (bytes_eq path (string_bytes key))
+  where
+    go : (b : Bool) → option_map (λ v. v.items) (cond b (Some value) (get_by_text old path)) ≡ cond b (Some value.items) (bytes_at path (files_in old))
+    go true = refl
+    go false = sym (bytes_of_lookup path old.entries)
+
+-- the latest file of a list comes first in its reverse
+pub latest : (path : List ℕ) (entries : List (String Global × Vec ℕ)) (entry : String Global × Vec ℕ)
+    → bytes_at path (reverse (files_of (entries ++ entry ∷ []))) ≡ cond (bytes_eq path (string_bytes entry.0)) (Some entry.1.items) (bytes_at path (reverse (files_of entries)))
+latest path entries entry =
+    ap (λ l. bytes_at path (reverse l)) (map-append file_of entries (entry ∷ []))
+    ∙ ap (bytes_at path) (reverse-append (files_of entries) (file_of entry ∷ []))

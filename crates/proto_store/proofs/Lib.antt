@@ -1,0 +1,3 @@
+mod Entries
+pub mod Loading
+pub mod PathOrder

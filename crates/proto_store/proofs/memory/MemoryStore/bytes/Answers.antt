@@ -1,0 +1,14 @@
+use Rattle.std.proofs.Common.{◌≡◌, Some, sym, ap, ◌∙◌, rules}
+use Rattle.std.specs.Prelude.{option_map}
+use Rattle.std.specs.BTreeMap.{get_by_text}
+use Rattle.std.proofs.lemmas.List.Elements.{same_from_all_zip}
+use Rattle.proto_store.specs.Memory.{MemoryOf}
+use Rattle.proto_store.specs.Stores.{bytes_at}
+use Rattle.proto_store.proofs.Entries.{bytes_of_lookup}
+use Rattle.proto_store.proofs.memory.MemoryStore.bytes.Goals as goal
+
+pub returns-in-Ok : goal.returns-in-Ok
+returns-in-Ok c =
+    let found : get_by_text c.self.inside.files c.args.path.now ≡ Some c.in_ok-bytes.bytes.now = search rules in
+    let same : c.in-Ok.copy.items ≡ c.in_ok-bytes.bytes.now.items = same_from_all_zip _ _ _ c.in-Ok.ensures.cases.0 (λ x y r. r) in
+    ap (λ (s : MemoryOf). bytes_at c.args.path.now s.files) (sym c.self.view_is) ∙ bytes_of_lookup c.args.path.now c.self.inside.files.entries ∙ ap (option_map (λ v. v.items)) found ∙ ap Some (sym same)

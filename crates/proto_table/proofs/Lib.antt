@@ -1,0 +1,14 @@
+mod Clashing
+mod Filled
+mod Gathered
+pub mod Held
+mod Indexed
+mod Kept
+pub mod NameFaults
+pub mod Naming
+mod Passes
+pub mod Resolved
+pub mod Search
+pub mod SpelledNames
+mod Tables
+pub mod UseFaults

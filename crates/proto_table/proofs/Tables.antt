@@ -1,0 +1,105 @@
+-- The table after a row more.
+use Rattle.std.proofs.Common.{◌≡◌, ◌≢◌, ℕ, zero, suc, ◌+◌, ◌-◌, ◌<◌, ◌≤◌, Bool, true, false, ◌||◌, drop, List, [], ◌∷◌, ◌++◌, length, get_or, map, Option, Some, None, refl, sym, ◌∙◌, ap, subst, inl, inr, ◌⊎◌, arith, slice_get, slice_set, string_bytes, length-append, if◌then◌else◌, Bor, MatchOption, Result, Ok, Err, OnErr}
+use Rattle.std.specs.Prelude.{◌==◌}
+use Rattle.std.specs.List.{list_any}
+use Rattle.std.specs.Str.{bytes_eq}
+use Rattle.std.proofs.lemmas.Bool.{cases_Bool, cond-true, cond-false, false_from_ne_true, eqb-true}
+use Rattle.std.proofs.lemmas.List.{get_or-map, length-map}
+use Rattle.std.proofs.lemmas.Option.{same_Some}
+use Rattle.proto_table.specs.declared.table.Row.{Row}
+use Rattle.proto_table.specs.declared.table.Table.{Table}
+use Rattle.proto_meaning.specs.Joined.{IsPlain}
+use Rattle.proto_meaning.specs.Forest.{under, front, IsForest}
+use Rattle.proto_table.specs.Tables.{found, names_of, aboves_of, look, IsTable}
+use Rattle.proto_text.proofs.Lists.{word_from_same, same_from_word}
+use Rattle.proto_meaning.proofs.Edited.{map_append}
+use Rattle.proto_meaning.proofs.Forest.{forest_more}
+
+pub get_set_same : {X : Type 0} (xs : List X) (i : ℕ) (y : X) → i < length xs → slice_get (slice_set xs i y) i ≡ Some y
+get_set_same [] i y l = absurd (omega (arith, l))
+get_set_same (x ∷ xs) zero y l = refl
+get_set_same (x ∷ xs) (suc i) y l = get_set_same xs i y (omega (arith, l))
+
+pub get_set_other : {X : Type 0} (xs : List X) (i q : ℕ) (y : X) → q ≢ i → slice_get (slice_set xs i y) q ≡ slice_get xs q
+get_set_other [] i q y ne = refl
+get_set_other (x ∷ xs) zero zero y ne = absurd (ne refl)
+get_set_other (x ∷ xs) zero (suc q) y ne = refl
+get_set_other (x ∷ xs) (suc i) zero y ne = refl
+get_set_other (x ∷ xs) (suc i) (suc q) y ne = get_set_other xs i q y (λ e. ne (ap suc e))
+
+-- a place that is set to what is seen alike
+pub map_set_same : {X Y : Type 0} (f : X → Y) (xs : List X) (i : ℕ) (x y : X) → slice_get xs i ≡ Some x → f y ≡ f x → map f (slice_set xs i y) ≡ map f xs
+map_set_same f [] i x y at same = refl
+map_set_same f (z ∷ xs) zero x y at same = ap (λ q. q ∷ map f xs) (same ∙ ap f (sym (same_Some z x at)))
+map_set_same f (z ∷ xs) (suc i) x y at same = ap (λ q. f z ∷ q) (map_set_same f xs i x y at same)
+
+-- what holds whatever the result, holds of a refusal
+pub at_refusal : {T E : Type 0} (r : Result T E) (P : Type 0) → P → OnErr r P
+at_refusal (Ok x) P p = tt
+at_refusal (Err e) P p = p
+
+-- the text of a number past 0
+pub front_at : (t : Table) (number : ℕ) (r : Row) → number ≢ 0 → number ≤ length t.rows.items → r ≡ get_or t.rows.items (number - 1) r → string_bytes r.name ≡ front (names_of t) number
+front_at t zero r ne l e = absurd (ne refl)
+front_at t (suc k) r ne l e =
+    let p : suc k - 1 ≡ k = omega arith in
+    ap (λ z. string_bytes z.name) (e ∙ ap (λ z. get_or t.rows.items z r) p) ∙ sym (get_or-map (λ z. string_bytes z.name) t.rows.items k r [] (omega (arith, l)))
+
+same_word : (v w : List ℕ) → (v ≡ w) ⊎ (v ≢ w)
+same_word v w = elim (cases_Bool (bytes_eq v w)) [
+  | inl h ↦ inl (word_from_same v w h)
+  | inr h ↦ inr (λ e. differ (sym h ∙ same_from_word v w e))
+]
+  where
+    differ : false ≡ true → ⊥
+    differ e = cc
+
+pub table_added : (t t' : Table) (p : ℕ) (word : List ℕ) (r : Row) → IsTable t → p ≤ length t.rows.items → IsPlain word → look t p word ≡ None
+    → t'.rows.items ≡ t.rows.items ++ r ∷ [] → string_bytes r.name ≡ under (front (names_of t) p) word → r.above ≡ p
+    → length t'.below.items ≡ length t.below.items + 1
+    → ((v : List ℕ) → look t' p v ≡ (if bytes_eq word v then Some (length t.rows.items) else look t p v))
+    → ((q : ℕ) → q ≢ p → q < length t.below.items → slice_get t'.below.items q ≡ slice_get t.below.items q)
+    → ((v : List ℕ) → look t' (length t.below.items) v ≡ None) → IsTable t'
+table_added t t' p word r ok lp plain none rows name above len here other fresh =
+    let names : names_of t' ≡ names_of t ++ under (front (names_of t) p) word ∷ [] =
+    ap (map (λ z. string_bytes z.name)) rows ∙ map_append (λ z. string_bytes z.name) t.rows.items (r ∷ []) ∙ ap (λ z. names_of t ++ z ∷ []) name in
+    let aboves : aboves_of t' ≡ aboves_of t ++ p ∷ [] =
+    ap (map (λ z. z.above)) rows ∙ map_append (λ z. z.above) t.rows.items (r ∷ []) ∙ ap (λ z. aboves_of t ++ z ∷ []) above in
+    let ln : length (names_of t) ≡ length t.rows.items = length-map t.rows.items (λ z. string_bytes z.name) in
+    let la : length (aboves_of t) ≡ length t.rows.items = length-map t.rows.items (λ z. z.above) in
+    let lr = length-append t.rows.items (r ∷ []) in
+    let size = ok.sized in
+    let next : length t.below.items ≡ suc (length (names_of t)) = omega (arith, ln, size) in
+    let at : look t' p word ≡ Some (length (names_of t)) = here word ∙ cond-true (bytes_eq word word) (Some (length t.rows.items)) (look t p word) (same_from_word word word refl) ∙ ap Some (sym ln) in
+    let forest = forest_more (names_of t) (aboves_of t) (look t) ok.forest p word (omega (arith, lp, ln)) plain none (look t') at
+    (λ v ne. here v ∙ cond-false (bytes_eq word v) (Some (length t.rows.items)) (look t p v) (differs word v ne))
+    (λ q v ne lq. ap (λ z. found z v) (other q ne (omega (arith, lq, next))))
+    (λ v. ap (λ z. look t' z v) (sym next) ∙ fresh v)
+    same_word (la ∙ sym ln) in
+    record {
+      forest = subst (λ z. IsForest z (aboves_of t') (look t')) (sym names) (subst (λ z. IsForest (names_of t ++ under (front (names_of t) p) word ∷ []) z (look t')) (sym aboves) forest);
+      sized = omega (arith, len, size, lr, ap length rows);
+    }
+  where
+    differs : (w v : List ℕ) → v ≢ w → bytes_eq w v ≡ false
+    differs w v ne = elim (cases_Bool (bytes_eq w v)) [ inl h ↦ absurd (ne (sym (word_from_same w v h))) | inr h ↦ h ]
+
+-- no element passes, place by place
+pub none_passes : (xs : List ℕ) → ((i : ℕ) → i < length xs → get_or xs i 0 ≢ 46) → list_any (λ b. b == 46) xs ≡ false
+none_passes [] h = refl
+none_passes (x ∷ xs) h =
+    let here : (x == 46) ≡ false = false_from_ne_true (x == 46) (λ q. h 0 (omega arith) (eqb-true x 46 q)) in
+    ap (λ z. z || list_any (λ b. b == 46) xs) here ∙ none_passes xs (λ i l. h (suc i) (omega (arith, l)))
+
+pub cut_is : (bs : List ℕ) (r : Option (Bor (List ℕ) × Bor (List ℕ))) → MatchOption r ((i : ℕ) → i < length bs → get_or bs i 0 ≢ 46) (λ x. (bs ≡ x.0.now ++ (46 ∷ x.1.now)) × ((i : ℕ) → i < length x.0.now → get_or x.0.now i 0 ≢ 46))
+    → MatchOption r (list_any (λ b. b == 46) bs ≡ false) (λ x. (bs ≡ x.0.now ++ 46 ∷ x.1.now) × (list_any (λ b. b == 46) x.0.now ≡ false))
+cut_is bs None h = none_passes bs h
+cut_is bs (Some x) h = (h.0, none_passes x.0.now h.1)
+
+-- whether some element from a place on passes
+pub any_from_here : {X : Type 0} (p : X → Bool) (xs : List X) (i : ℕ) (d : X) → i < length xs → list_any p (drop i xs) ≡ (p (get_or xs i d) || list_any p (drop (i + 1) xs))
+any_from_here p [] i d l = absurd (omega (arith, l))
+any_from_here p (x ∷ xs) zero d l = refl
+any_from_here p (x ∷ xs) (suc i) d l =
+    let e : suc i + 1 ≡ suc (i + 1) = omega arith in
+    any_from_here p xs i d (omega (arith, l)) ∙ ap (λ k. p (get_or xs i d) || list_any p (drop k (x ∷ xs))) (sym e)

@@ -1,0 +1,50 @@
+use Rattle.std.proofs.Common.{[], ◌∷◌, ◌++◌, ◌+◌, length, get_or, map, take, drop, sym, ◌∙◌, ap, subst}
+use Rattle.std.proofs.lemmas.List.{map-append}
+use Rattle.std.proofs.lemmas.Result.{err_from_is_err_and}
+use Rattle.proto_table.specs.Spelled.{all_named, named_in, AreSpelled}
+use Rattle.proto_table.specs.Filling.{AreInFront, ArePackageRows, AreRowsOf, Holds, packages_in}
+use Rattle.proto_table.proofs.Passes.{item_at, package_rows_more, packages_next, packages_pass, spelled_at, within_map}
+use Rattle.proto_table.proofs.filling.declare_packages.Goals as goal
+
+pub package_count-requires : goal.package_count-requires
+package_count-requires c =
+    let e = c.deref-in-loop-file.ensures.value ∙ item_at (λ v. v.items) c.args.files.now c.loop-file.file c.index-files-file.result c.loop-file-test.true c.index-files-file.is in
+    let l = within_map (λ v. v.items) c.args.files.now c.loop-file.file c.loop-file-test.true in
+    subst AreSpelled (sym e) (spelled_at (λ v. v.items) c.args.files.now c.requires.spelled c.loop-file.file l)
+
+pub fill-requires-clause-spelled : goal.fill-requires-clause-spelled
+fill-requires-clause-spelled c =
+    let e = c.deref.ensures.value ∙ item_at (λ v. v.items) c.args.files.now c.loop-file.file c.index-files-file.result c.loop-file-test.true c.index-files-file.is in
+    let l = within_map (λ v. v.items) c.args.files.now c.loop-file.file c.loop-file-test.true in
+    subst AreSpelled (sym e) (spelled_at (λ v. v.items) c.args.files.now c.requires.spelled c.loop-file.file l)
+
+pub returns-in_err-filled-clause-fault : goal.returns-in_err-filled-clause-fault
+returns-in_err-filled-clause-fault c =
+    let p = err_from_is_err_and c.from_residual.result c.from_residual.ensures.1 in
+    let e = c.deref.ensures.value ∙ item_at (λ v. v.items) c.args.files.now c.loop-file.file c.index-files-file.result c.loop-file-test.true c.index-files-file.is in
+    let d = c.deref-in-loop-file.ensures.value ∙ sym c.deref.ensures.value in
+    let l = within_map (λ v. v.items) c.args.files.now c.loop-file.file c.loop-file-test.true in
+    let ok = subst AreSpelled (sym e) (spelled_at (λ v. v.items) c.args.files.now c.requires.spelled c.loop-file.file l) in
+    let front = subst (AreInFront c.package_count.result) d c.package_count.ensures in
+    rw (p.1, p.2)
+    (packages_pass (all_named 0 (take c.loop-file.file (map (λ v. v.items) c.args.files.now))) c.loop-file.file c.package_count.result (length c.new-own.result.items) c.deref.result.now c.in_err-filled.field-0.0 ok front
+    (c.in_err-filled.ensures.fault (packages_in (all_named 0 (take c.loop-file.file (map (λ v. v.items) c.args.files.now)))) c.loop-file.invariant.held))
+
+pub loop-file-preserved : goal.loop-file-preserved
+loop-file-preserved c =
+    let e = c.deref.ensures.value ∙ item_at (λ v. v.items) c.args.files.now c.loop-file.file c.index-files-file.result c.loop-file-test.true c.index-files-file.is in
+    let d = c.deref-in-loop-file.ensures.value ∙ sym c.deref.ensures.value ∙ e in
+    let l = within_map (λ v. v.items) c.args.files.now c.loop-file.file c.loop-file-test.true in
+    let ok = spelled_at (λ v. v.items) c.args.files.now c.requires.spelled c.loop-file.file l in
+    let front = subst (AreInFront c.package_count.result) d c.package_count.ensures in
+    record {
+      table = c.in_ok-filled.ensures.table;
+      held = subst (Holds c.in_ok-filled.filled.0) (packages_next (map (λ v. v.items) c.args.files.now) c.loop-file.file c.package_count.result (length c.new-own.result.items) l ok front (ap length c.new-own.ensures.items))
+          (subst (λ z. Holds c.in_ok-filled.filled.0 (packages_in (all_named 0 (take c.loop-file.file (map (λ v. v.items) c.args.files.now))) ++ drop (length c.new-own.result.items) (take c.package_count.result (named_in c.loop-file.file z)))) e
+          (c.in_ok-filled.ensures.held (packages_in (all_named 0 (take c.loop-file.file (map (λ v. v.items) c.args.files.now)))) c.loop-file.invariant.held));
+      rows = subst (ArePackageRows c.in_ok-filled.filled.0 (take (c.loop-file.file + 1) (map (λ v. v.items) c.args.files.now)))
+          (sym (ap (map (λ v. v.items)) c.in_ok-push.ensures.items ∙ map-append (λ v. v.items) c.loop-file.rows.items (c.in_ok-filled.filled.1 ∷ [])))
+          (package_rows_more c.loop-file.names c.in_ok-filled.filled.0 (map (λ v. v.items) c.args.files.now) (map (λ v. v.items) c.loop-file.rows.items) c.loop-file.file c.in_ok-filled.filled.1.items l c.in_ok-filled.ensures.kept c.loop-file.invariant.rows
+          (subst (λ z. AreInFront z (get_or (map (λ v. v.items) c.args.files.now) c.loop-file.file [])) (sym c.in_ok-filled.ensures.count) front)
+          (subst (λ z. AreRowsOf c.in_ok-filled.filled.0 (named_in c.loop-file.file z) c.in_ok-filled.filled.1.items) e c.in_ok-filled.ensures.rows));
+    }

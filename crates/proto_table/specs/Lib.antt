@@ -1,0 +1,7 @@
+pub mod Filling
+pub mod LastWords
+pub mod Naming
+pub mod Resolved
+pub mod Search
+pub mod Spelled
+pub mod Tables

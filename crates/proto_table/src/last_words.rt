@@ -1,0 +1,48 @@
+//! The declarations of a file with their last words.
+
+ghost use Rattle.std.specs.Prelude.{◌≡◌, ◌<◌, ◌≤◌, ℕ, length, get_or, map, Some, IfOk};
+ghost use Rattle.std.specs.String.{string_bytes};
+ghost use Rattle.proto_text.specs.Texts.{word_at};
+ghost use Rattle.proto_table.specs.LastWords.{AreListed, IsKept, last_word, named_as};
+ghost use Rattle.proto_listing.specs.Listing.{last_token, needs, read, whole};
+ghost use Rattle.proto_table.specs.Spelled.{AreSpelled, named_in};
+
+use crate::spelled::Spelled;
+use proto_case::entry_name;
+use proto_faults::NoMemory;
+use proto_files::Words;
+use proto_listing::listing::{LastWord, Listed};
+use std::alloc::Global;
+
+/// The last word of a declaration's name.
+fn last_word(alloc: Global, words: &Words, entry: &Listed) -> Result<String, NoMemory>
+    ensures { IfOk result (λ word. string_bytes word ≡ last_word (word_at words.now) entry.now) }
+{
+    match entry.word {
+        LastWord::Text => Ok(String::from_str(alloc, words.get(entry.token))?),
+        LastWord::EntryName => entry_name(alloc, words.get(entry.token)),
+        LastWord::Key => Ok(String::from_str(alloc, "key")?),
+        LastWord::Value => Ok(String::from_str(alloc, "value")?),
+    }
+}
+
+/// The declarations of a file with their last words.
+pub fn spelled(alloc: Global, words: &Words, declared: &[Listed]) -> Result<Vec<Spelled>, NoMemory>
+    requires ordered { (k : ℕ) (d : Listed) → k < length declared.now → needs (get_or declared.now k d).above ≤ k }
+    requires tokens { map (λ e. Some e.token) declared.now ≡ map (λ p. last_token (whole p)) (read declared.now) }
+    ensures names { IfOk result (λ ss. (file : ℕ) → named_in file ss.items ≡ map (named_as file (word_at words.now)) (read declared.now)) }
+    ensures kept { IfOk result (λ ss. IsKept declared.now ss.items) }
+    ensures spelled { IfOk result (λ ss. AreListed (word_at words.now) declared.now → AreSpelled ss.items) }
+{
+    let mut spelled = Vec::new(alloc);
+    for entry in declared {
+        let word = last_word(alloc, words, entry)?;
+        spelled.push(Spelled {
+            above: entry.above,
+            word,
+            kind: entry.kind,
+            token: entry.token,
+        })?;
+    }
+    Ok(spelled)
+}

@@ -1,0 +1,7 @@
+//! The names of a workspace in a table.
+#![tactic(auto)]
+
+pub mod filling;
+pub mod last_words;
+pub mod spelled;
+pub mod table;

@@ -1,0 +1,14 @@
+//! A declaration with the word that its name ends with.
+
+use proto_listing::listing::Above;
+use proto_meaning::Kind;
+
+/// A declaration of a file: what it stands right below, by its index among those of the file, and its last word.
+#[derive(Drop)]
+pub struct Spelled {
+    pub above: Above,
+    pub word: String,
+    pub kind: Kind,
+    /// The token that it stands at.
+    pub token: u32,
+}

@@ -1,0 +1,11 @@
+-- The words of a reference, by the tokens that hold them.
+use Rattle.std.specs.Prelude.{ℕ, List, ◌∷◌, map, Option, Some, None}
+use Rattle.proto_tree.specs.declared.tree.Separated.{Separated}
+
+-- the tokens of words joined by dots
+abbrev pub dotted : Separated ℕ → List ℕ
+dotted d = d.first ∷ map (λ b. b.item) d.rest
+
+abbrev pub first_of : Option ℕ → Separated ℕ → ℕ
+first_of None words = words.first
+first_of (Some dot) words = dot

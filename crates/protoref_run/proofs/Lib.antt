@@ -1,0 +1,2 @@
+mod Faulted
+pub mod Printing

@@ -1,0 +1,2 @@
+pub mod Linted
+pub mod Printed

@@ -1,0 +1,8 @@
+//! The command line: which command the words ask for.
+#![tactic(auto)]
+
+mod command_line;
+mod request;
+
+pub use command_line::read_words;
+pub use request::{Request, WordsFault};

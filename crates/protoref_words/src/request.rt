@@ -1,0 +1,58 @@
+//! What is asked for.
+
+ghost use Rattle.std.specs.Prelude.{◌≡◌};
+
+use proto_faults::NoMemory;
+use proto_lint::RuleSet;
+use std::alloc::{AllocError, AllocFailed};
+use thiserror::Error;
+
+/// What the words ask for.
+#[derive(Debug, Drop)]
+pub enum Request {
+    /// This text.
+    Help(String),
+    /// The descriptors of the schemas in a folder.
+    Compile { root: String },
+    /// What these rules find in the schemas in a folder.
+    Lint { root: String, rules: RuleSet },
+}
+
+/// Why the words ask for nothing. Want of memory is never told as a bad command line.
+#[derive(Clone, Copy, Debug, PartialEq, Eq, Error)]
+pub enum WordsFault {
+    #[error("bad command line")]
+    BadCommandLine,
+    #[error("no memory")]
+    NoMemory,
+}
+
+impl From<NoMemory> for WordsFault {
+    ghost use Rattle.protoref_words.specs.declared.request.WordsFault.TheVariants as fault;
+
+    ghost from_gives = { λ _ e. e ≡ fault.NoMemory };
+
+    fn from(_error: NoMemory) -> WordsFault {
+        WordsFault::NoMemory
+    }
+}
+
+impl From<AllocError> for WordsFault {
+    ghost use Rattle.protoref_words.specs.declared.request.WordsFault.TheVariants as fault;
+
+    ghost from_gives = { λ _ e. e ≡ fault.NoMemory };
+
+    fn from(_error: AllocError) -> WordsFault {
+        WordsFault::NoMemory
+    }
+}
+
+impl<T: Drop> From<AllocFailed<T>> for WordsFault {
+    ghost use Rattle.protoref_words.specs.declared.request.WordsFault.TheVariants as fault;
+
+    ghost from_gives = { λ _ e. e ≡ fault.NoMemory };
+
+    fn from(_error: AllocFailed<T>) -> WordsFault {
+        WordsFault::NoMemory
+    }
+}
