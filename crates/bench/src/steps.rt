@@ -64,12 +64,17 @@ fn parsed(alloc: Global, files: Vec<(String, Vec<u8>)>) -> Result<String, NoMemo
 
 // How many files link, or how many findings they have.
 fn counted_in(alloc: Global, files: &Files, is_linted: bool) -> Option<usize> {
-    let link = Link::new(alloc, files).ok()?;
+    let link = match Link::new(alloc, files) {
+        Ok(link) => link,
+        Err(_) => return None,
+    };
     if !is_linted {
         return Some(files.len());
     }
-    let found = lint(alloc, files, &link, &RuleSet::all()).ok()?;
-    Some(found.len())
+    match lint(alloc, files, &link, &RuleSet::all()) {
+        Ok(found) => Some(found.len()),
+        Err(_) => None,
+    }
 }
 
 // The same of given files, if they can be read and link.
