@@ -1,9 +1,6 @@
 //! The folder store, over folders that a test makes up and one that is there.
 
-use crate::calls::{Pipe, run_into};
-use proto_lint::RuleSet;
 use proto_store::{FolderStore, Store, StoreFault};
-use protoref_run::{Command, RunFault, fault_line};
 use std::alloc::{Allocator, Global};
 use std::fs::{File, Metadata, OpenOptions};
 use std::process::Abort;
@@ -180,14 +177,6 @@ fn takes_an_empty_root_for_missing(rt: HostRuntime) -> Result<(), Fail> {
     };
     assert!(rt; listed(&rt, &tree, ".")?.is_some());
     assert!(rt; listed(&rt, &tree, "")?.is_none());
-    for command in [Command::Compile, Command::Lint(RuleSet::all())] {
-        let mut store = FolderStore::new(&tree, "");
-        let mut writer = Pipe::new(rt.alloc(), 4096, 4096);
-        let status = run_into(&rt, command, &mut store, &mut writer);
-        assert_eq!(rt; status, Err(RunFault::Store));
-        assert_eq!(rt; fault_line(&RunFault::Store), "protoref: store failed");
-        assert_eq!(rt; (writer.taken.len(), store.failures()), (0, 1));
-    }
     Ok(())
 }
 
