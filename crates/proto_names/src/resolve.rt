@@ -31,14 +31,17 @@ pub(crate) fn row_in_scope(
 {
     let first = words.get(reference.words.first);
     let rest = reference.words.rest.as_slice();
-    let start = match reference.dot {
-        Some(_) => table.find(0, first)?,
+    match reference.dot {
+        Some(_) => {
+            let top = table.find(0, first)?;
+            visible_type(table, top, words, rest, seen)
+        }
         None => {
             let number = scope_number(table, scope);
-            table.search(number, first, rest.is_empty(), seen)?
+            let start = table.search(number, first, rest.is_empty(), seen)?;
+            visible_type(table, start, words, rest, seen)
         }
-    };
-    visible_type(table, start, words, rest, seen)
+    }
 }
 
 /// The row of words one below another, below a row, if it is a type that is seen.

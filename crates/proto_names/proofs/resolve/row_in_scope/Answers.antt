@@ -9,17 +9,27 @@ use Rattle.proto_names.proofs.InScope.{empty_behind, words_by, scoped_is, scoped
 use Rattle.proto_names.proofs.Referring.{same_words}
 use Rattle.proto_table.proofs.Resolved.{absolute_is, absolute_none}
 use Rattle.proto_names.proofs.resolve.row_in_scope.Goals as goal
-use Rattle.proto_names.proofs.resolve.row_in_scope.Goals.{in-Some+in_ok-start-in-Some, in-None+in_ok-start-in-None}
 
-pub returns-in_err-start-in-Some-clause-meant : goal.returns-in_err-start-in-Some-clause-meant
-returns-in_err-start-in-Some-clause-meant c = λ w r index marks plain scope words abs. (
+pub returns-in_err-top-in-Some-clause-meant : goal.returns-in_err-top-in-Some-clause-meant
+returns-in_err-top-in-Some-clause-meant c = λ w r index marks plain scope words abs. (
     let rest = map-map (word_at c.args.words.now) (λ b. b.item) c.args.reference.now.words.rest ∙ ap (words_by c.args.words.now) (sym c.as_slice-rest.ensures) in
     let first = c.get-first.result.now in
     let ws = words_by c.args.words.now c.as_slice-rest.result.now in
     let pw : ArePlain (c.get-first.result.now ∷ words_by c.args.words.now c.as_slice-rest.result.now) = (subst IsPlain (sym c.get-first.ensures) c.requires.plain.0, subst ArePlain rest c.requires.plain.1) in
     ap (option_map (λ k. get_or (names_of c.args.table.now) k [])) c.from_residual.ensures
     ∙ absolute_is c.args.table.now c.requires.table c.args.seen.now w r index marks first ws pw (same_words words (sym c.get-first.ensures) rest) (abs ∙ ap is_some c.in-Some.is) None
-    (absolute_none c.args.table.now c.requires.table first ws pw (sym c.find.ensures ∙ c.in_err-start-in-Some.was) c.args.seen.now))
+    (absolute_none c.args.table.now c.requires.table first ws pw (sym c.find.ensures ∙ c.in_err-top-in-Some.was) c.args.seen.now))
+
+pub visible_type-requires-clause-within : goal.visible_type-requires-clause-within
+visible_type-requires-clause-within c =
+    let n = length-map c.args.table.now.rows.items (λ r. string_bytes r.name) in
+    let s = c.requires.table.forest.sound 0 c.get-first.result.now c.in_ok-top-in-Some.top (omega arith) (sym c.find.ensures ∙ c.in_ok-top-in-Some.was) in
+    omega (arith, s.0, n)
+
+pub visible_type-requires-clause-plain : goal.visible_type-requires-clause-plain
+visible_type-requires-clause-plain c =
+    let rest = map-map (word_at c.args.words.now) (λ b. b.item) c.args.reference.now.words.rest ∙ ap (words_by c.args.words.now) (sym c.as_slice-rest.ensures) in
+    subst ArePlain rest c.requires.plain.1
 
 pub returns-in_err-start-in-None-clause-meant : goal.returns-in_err-start-in-None-clause-meant
 returns-in_err-start-in-None-clause-meant c = λ w r index marks plain scope words abs. (
@@ -31,33 +41,26 @@ returns-in_err-start-in-None-clause-meant c = λ w r index marks plain scope wor
     ∙ scoped_none c.args.table.now c.requires.table c.args.seen.now w r index marks first ws pw (same_words words (sym c.get-first.ensures) rest) plain c.scope_number-number.result (c.scope_number-number.ensures.front r.scope plain scope) (abs ∙ ap is_some c.in-None.is)
     c.is_empty.result (c.is_empty.ensures ∙ empty_behind c.args.words.now c.as_slice-rest.result.now) c.in_err-start-in-None.ensures.none)
 
-pub visible_type-requires-clause-plain : goal.visible_type-requires-clause-plain
-visible_type-requires-clause-plain c =
+pub visible_type-requires-in-None-clause-plain : goal.visible_type-requires-in-None-clause-plain
+visible_type-requires-in-None-clause-plain c =
     let rest = map-map (word_at c.args.words.now) (λ b. b.item) c.args.reference.now.words.rest ∙ ap (words_by c.args.words.now) (sym c.as_slice-rest.ensures) in
     subst ArePlain rest c.requires.plain.1
 
-pub visible_type-requires-clause-within : goal.visible_type-requires-clause-within
-visible_type-requires-clause-within c = elim c.match-reference.branch [
-  | in-Some+in_ok-start-in-Some w ↦
-      let n = length-map c.args.table.now.rows.items (λ r. string_bytes r.name) in
-      let s = c.requires.table.forest.sound 0 c.get-first.result.now w.in_ok-start-in-Some.start (omega arith) (sym w.find.ensures ∙ w.in_ok-start-in-Some.was) in
-      omega (arith, s.0, n, w.start-is)
-  | in-None+in_ok-start-in-None w ↦ omega (arith, w.in_ok-start-in-None.ensures.row, w.start-is)
-]
-
-pub returns-clause-meant : goal.returns-clause-meant
-returns-clause-meant c = λ w r index marks plain scope words abs. (
+pub returns-in_ok-top-in-Some-clause-meant : goal.returns-in_ok-top-in-Some-clause-meant
+returns-in_ok-top-in-Some-clause-meant c = λ w r index marks plain scope words abs. (
     let rest = map-map (word_at c.args.words.now) (λ b. b.item) c.args.reference.now.words.rest ∙ ap (words_by c.args.words.now) (sym c.as_slice-rest.ensures) in
     let first = c.get-first.result.now in
     let ws = words_by c.args.words.now c.as_slice-rest.result.now in
     let pw : ArePlain (c.get-first.result.now ∷ words_by c.args.words.now c.as_slice-rest.result.now) = (subst IsPlain (sym c.get-first.ensures) c.requires.plain.0, subst ArePlain rest c.requires.plain.1) in
-    elim c.match-reference.branch [
-      | in-Some+in_ok-start-in-Some v ↦
-          let s = c.requires.table.forest.sound 0 c.get-first.result.now v.in_ok-start-in-Some.start (omega arith) (sym v.find.ensures ∙ v.in_ok-start-in-Some.was) in
-          absolute_is c.args.table.now c.requires.table c.args.seen.now w r index marks first ws pw (same_words words (sym c.get-first.ensures) rest) (abs ∙ ap is_some v.in-Some.is) c.visible_type.result
-          (subst (λ z. IsTypeAt c.args.table.now c.args.seen.now (under_all z ws) c.visible_type.result) (ap (λ i. get_or (names_of c.args.table.now) i []) v.start-is ∙ s.1) c.visible_type.ensures)
-      | in-None+in_ok-start-in-None v ↦
-          scoped_is c.args.table.now c.requires.table c.args.seen.now w r index marks first ws pw (same_words words (sym c.get-first.ensures) rest) plain v.scope_number-number.result (v.scope_number-number.ensures.front r.scope plain scope) (abs ∙ ap is_some v.in-None.is)
-          v.is_empty.result (v.is_empty.ensures ∙ empty_behind c.args.words.now c.as_slice-rest.result.now) v.in_ok-start-in-None.start v.in_ok-start-in-None.ensures.hit c.visible_type.result
-          (subst (λ i. IsTypeAt c.args.table.now c.args.seen.now (under_all (get_or (names_of c.args.table.now) i []) ws) c.visible_type.result) v.start-is c.visible_type.ensures)
-    ])
+    let s = c.requires.table.forest.sound 0 c.get-first.result.now c.in_ok-top-in-Some.top (omega arith) (sym c.find.ensures ∙ c.in_ok-top-in-Some.was) in
+    absolute_is c.args.table.now c.requires.table c.args.seen.now w r index marks first ws pw (same_words words (sym c.get-first.ensures) rest) (abs ∙ ap is_some c.in-Some.is) c.visible_type.result
+    (subst (λ z. IsTypeAt c.args.table.now c.args.seen.now (under_all z ws) c.visible_type.result) s.1 c.visible_type.ensures))
+
+pub returns-in_ok-start-in-None-clause-meant : goal.returns-in_ok-start-in-None-clause-meant
+returns-in_ok-start-in-None-clause-meant c = λ w r index marks plain scope words abs. (
+    let rest = map-map (word_at c.args.words.now) (λ b. b.item) c.args.reference.now.words.rest ∙ ap (words_by c.args.words.now) (sym c.as_slice-rest.ensures) in
+    let first = c.get-first.result.now in
+    let ws = words_by c.args.words.now c.as_slice-rest.result.now in
+    let pw : ArePlain (c.get-first.result.now ∷ words_by c.args.words.now c.as_slice-rest.result.now) = (subst IsPlain (sym c.get-first.ensures) c.requires.plain.0, subst ArePlain rest c.requires.plain.1) in
+    scoped_is c.args.table.now c.requires.table c.args.seen.now w r index marks first ws pw (same_words words (sym c.get-first.ensures) rest) plain c.scope_number-number.result (c.scope_number-number.ensures.front r.scope plain scope) (abs ∙ ap is_some c.in-None.is)
+    c.is_empty.result (c.is_empty.ensures ∙ empty_behind c.args.words.now c.as_slice-rest.result.now) c.in_ok-start-in-None.start c.in_ok-start-in-None.ensures.hit c.visible_type-in-None.result c.visible_type-in-None.ensures)
