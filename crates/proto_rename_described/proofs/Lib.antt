@@ -1,0 +1,15 @@
+pub mod Allowed
+pub mod DefaultWords
+pub mod DefaultsFit
+mod DefaultsKept
+pub mod EnumDefaults
+mod Examples
+mod FileStays
+pub mod FilesTurn
+pub mod Mapped
+pub mod MappedSteps
+pub mod NamedFlaws
+pub mod NamesKept
+pub mod OtherTokens
+pub mod ScenesTurn
+mod TreeTurns

@@ -1,0 +1,132 @@
+-- The names of a renamed scene are turned, and its references mean what they meant under the name map (for the crates above).
+use Rattle.std.proofs.Common.{◌≡◌, ◌≢◌, ℕ, suc, ◌+◌, ◌<◌, ◌==◌, Bool, List, [], ◌∷◌, ◌++◌, length, map, slice_index_or, Option, Some, None, option_map, refl, sym, ap, subst, ◌∙◌, inl, inr, arith}
+use Rattle.std.specs.List.{Contains, find}
+use Rattle.std.proofs.lemmas.List.Elements.{Contains-append_cases}
+use Rattle.proto_case.specs.Camel.{entry_name}
+use Rattle.proto_case.proofs.EntryNames.{entry_differs}
+use Rattle.proto_text.proofs.OneEdit.{length_map}
+use Rattle.proto_text.proofs.Lists.{contains_map, from_map}
+use Rattle.proto_tree.specs.declared.tree.Reference.{Reference}
+use Rattle.proto_tree.specs.Tree.{End}
+use Rattle.proto_tree.specs.References.{first_of}
+use Rattle.proto_files.specs.GivenFiles.{FileOf}
+use Rattle.proto_files.specs.FilesRead.{ReadOf, read_at}
+use Rattle.proto_meaning.specs.Edits.{Renaming, ren}
+use Rattle.proto_meaning.specs.Grown.{At, at, FileNames, all_declared, declared_of, file_declared}
+use Rattle.proto_meaning.specs.Joined.{ArePlain}
+use Rattle.proto_meaning.specs.Names.{Symbol}
+use Rattle.proto_meaning.specs.Skeleton.{Source, Declared, Used, spell, name_of, symbol_of, reference_of, renaming_of, shifted_declared, shifted_source}
+use Rattle.proto_meaning.specs.Tree.{Placed, file_placed}
+use Rattle.proto_meaning.proofs.Edited.{map_append, name_after}
+use Rattle.proto_meaning.proofs.Ren.{last_parts}
+use Rattle.proto_meaning.proofs.Renamed.{has_meaning, meant}
+use Rattle.proto_listing.specs.FromTree.{items_in}
+use Rattle.proto_imports.specs.Links.{names_in, names_of_files, text_of, link_skeleton}
+use Rattle.proto_table.specs.Naming.{used_named}
+use Rattle.proto_names.specs.FileReferences.{uses_of}
+use Rattle.proto_parts.specs.Scenes.{MeantOf, meant_by}
+use Rattle.proto_scenes.specs.SceneOf.{meaning_of, meant_as, scene_of}
+use Rattle.proto_rename_laws.proofs.PlainNames.{name_in, names_are_plain}
+use Rattle.proto_rename_laws.specs.Scenes.{IsRename}
+use Rattle.proto_rename_laws.proofs.Declarations.{declared_there}
+use Rattle.proto_rename_laws.proofs.Scenes.{find_agree, find_there, index_map, meaning_after, used_here, uses_stay}
+use Rattle.proto_rename_laws.specs.Rewording.{NewWords}
+use Rattle.proto_rename_described.specs.Mapped.{word_under}
+use Rattle.proto_rename_described.specs.ScenesTurn.{NamesTurn, MeaningsTurn}
+use Rattle.proto_rename_described.specs.Turns.{IsUnder}
+use Rattle.proto_rename_described.proofs.EnumDefaults.{find_map, meant_token}
+use Rattle.proto_rename_described.proofs.Mapped.{ren_more}
+
+last_there : {A B : Type 0} (f : A → B) (xs : List A) (x : A) → map f (xs ++ x ∷ []) ≢ []
+last_there f [] x e = cc
+last_there f (y ∷ xs) x e = cc
+
+-- no declaration is without a name
+pub some_path : (n : ℕ) (fs : List FileNames) (d : Declared At) → Contains (all_declared n fs) d → d.path ≢ []
+some_path n [] d c = absurd (omega (arith, c.1))
+some_path n (x ∷ fs) d c = elim (Contains-append_cases (file_declared n x) (all_declared (suc n) fs) d c) [
+  | inl h ↦ (let p = from_map (λ q. shifted_declared (at n) (declared_of n q)) (file_placed x.items) d h in λ z. last_there (shifted_source (at n)) p.0.above p.0.last (ap (λ (y : Declared At). y.path) p.2 ∙ z))
+  | inr h ↦ some_path (suc n) fs d h
+]
+
+pub named_some : (text : At → List ℕ) (path : List (Source At)) → path ≢ [] → name_of text entry_name path ≢ []
+named_some text [] h z = absurd (h refl)
+named_some text (x ∷ path) h z = cc
+
+module _ (files : List FileOf) (reads : List ReadOf) (c : NewWords) (after : List FileOf) (seen : List ReadOf) (token : At) (above : List (Source At)) (aim : Declared At) (is_map : Bool) (to : List ℕ)
+    (r : IsRename files reads c after seen token above aim is_map to) where
+  abbrev e : Renaming
+  e = renaming_of (text_of files reads) entry_name token above is_map to
+
+  module _ (file : ℕ) (l : file < length files) where
+    own : ℕ → List ℕ
+    own i = text_of files reads (at file i)
+
+    new : ℕ → List ℕ
+    new i = text_of after seen (at file i)
+
+    -- what the file declares is declared
+    pub there : (p : Placed) → Contains (file_placed (items_in (read_at reads file).tree)) p → Contains (link_skeleton files reads).declared (shifted_declared (at file) (declared_of file p))
+    there p cp =
+        let lr : file < length reads = omega (arith, l, r.read.same) in
+        let n = names_in (read_at reads file) in
+        let at_f : slice_index_or (map names_in reads) file n ≡ n = index_map names_in reads (record { tokens = []; tree = End }) n file lr in
+        let e0 : 0 + file ≡ file = omega arith in
+        subst (λ m. Contains (link_skeleton files reads).declared (shifted_declared (at m) (declared_of m p))) e0 (declared_there 0 (map names_in reads) file n p (omega (arith, lr, length_map names_in reads)) at_f cp)
+
+    pub word_turns : (p : Placed) → Contains (file_placed (items_in (read_at reads file).tree)) p
+        → spell (λ i. text_of after seen (at file i)) entry_name p.last ≡ word_under e (name_of (λ i. text_of files reads (at file i)) entry_name p.above) (spell (λ i. text_of files reads (at file i)) entry_name p.last)
+    word_turns p cp =
+        let d = shifted_declared (at file) (declared_of file p) in
+        let whole = p.above ++ p.last ∷ [] in
+        let after_is = name_after (text_of files reads) (text_of after seen) entry_name (link_skeleton files reads) token above aim is_map to r.linked r.woven r.is r.entry r.respelled entry_differs d (there p cp) in
+        let x = name_of (λ i. text_of files reads (at file i)) entry_name p.above in
+        let y = name_of (λ i. text_of after seen (at file i)) entry_name p.above in
+        let v = spell (λ i. text_of files reads (at file i)) entry_name p.last in
+        let z = spell (λ i. text_of after seen (at file i)) entry_name p.last in
+        let old : name_of (text_of files reads) entry_name d.path ≡ x ++ v ∷ [] = name_in (text_of files reads) file whole ∙ map_append (spell (λ i. text_of files reads (at file i)) entry_name) p.above (p.last ∷ []) in
+        let now : name_of (text_of after seen) entry_name d.path ≡ y ++ z ∷ [] = name_in (text_of after seen) file whole ∙ map_append (spell (λ i. text_of after seen (at file i)) entry_name) p.above (p.last ∷ []) in
+        (last_parts y (ren e x) z (word_under e x v) (sym now ∙ after_is ∙ ap (ren e) old ∙ ren_more e x v)).1
+
+    -- what a use means
+    use_under : (u : Used ℕ) → Contains (uses_of reads file) u → IsUnder e (Some (meant_as files reads u.first (meaning_of files reads file u))) (Some (meant_as after seen u.first (meaning_of after seen file u)))
+    use_under u cu =
+        let used = contains_map (reference_of (text_of files reads) entry_name) (link_skeleton files reads).used _ (used_here files reads c after seen token above aim is_map to r file l u cu) in
+        let m = has_meaning (meaning_of files reads file u) (r.linked.resolved (used_named (text_of files reads) file u) used) in
+        let s = meant (names_of_files files reads) (used_named (text_of files reads) file u) m.0 m.1 in
+        let d = from_map (symbol_of (text_of files reads) entry_name) (link_skeleton files reads).declared s.0 s.1 in
+        let named : name_of (text_of files reads) entry_name d.0.path ≡ m.0 = ap (λ (z : Symbol). z.name) d.2 ∙ s.2 in
+        let some : m.0 ≢ [] = λ z. named_some (text_of files reads) d.0.path (some_path 0 (map names_in reads) d.0 d.1) (named ∙ z) in
+        let later = meaning_after files reads c after seen token above aim is_map to r file l u cu m.0 m.1 in (
+          m.0,
+          subst ArePlain s.2 (names_are_plain files reads r.read s.0 s.1),
+          some,
+          ap (λ o. (meant_as files reads u.first o).name) m.1,
+          ap (λ o. (meant_as after seen u.first o).name) later,
+        )
+
+    all_under : (us : List (Used ℕ)) → ((u : Used ℕ) → Contains us u → Contains (uses_of reads file) u) → (o : Option (Used ℕ)) → ((u : Used ℕ) → o ≡ Some u → Contains (uses_of reads file) u)
+        → IsUnder e (option_map (λ u. meant_as files reads u.first (meaning_of files reads file u)) o) (option_map (λ u. meant_as after seen u.first (meaning_of after seen file u)) o)
+    all_under us inside None h = tt
+    all_under us inside (Some u) h = use_under u (h u refl)
+
+    means_turn : (x : Reference) → IsUnder e (meant_by (scene_of None files reads file) x) (meant_by (scene_of None after seen file) x)
+    means_turn x =
+        let first = first_of x.dot x.words in
+        let us = uses_of reads file in
+        let f : Used ℕ → MeantOf = λ u. meant_as files reads u.first (meaning_of files reads file u) in
+        let g : Used ℕ → MeantOf = λ u. meant_as after seen u.first (meaning_of after seen file u) in
+        let o = find (λ (u : Used ℕ). u.first == first) us in
+        let old : meant_by (scene_of None files reads file) x ≡ option_map f o =
+        find_map (λ (m : MeantOf). m.token == first) f us ∙ ap (option_map f) (find_agree (λ u. (f u).token == first) (λ (u : Used ℕ). u.first == first) us (λ u c. ap (λ n. n == first) (meant_token files reads u.first (meaning_of files reads file u)))) in
+        let new_is : meant_by (scene_of None after seen file) x ≡ option_map g o =
+        ap (λ vs. find (λ (m : MeantOf). m.token == first) (map g vs)) (uses_stay files reads c after seen token above aim is_map to r file)
+        ∙ find_map (λ (m : MeantOf). m.token == first) g us ∙ ap (option_map g) (find_agree (λ u. (g u).token == first) (λ (u : Used ℕ). u.first == first) us (λ u c. ap (λ n. n == first) (meant_token after seen u.first (meaning_of after seen file u)))) in
+        subst (λ z. IsUnder e z (meant_by (scene_of None after seen file) x)) (sym old) (subst (λ z. IsUnder e (option_map f o) z) (sym new_is)
+        (all_under us (λ u c. c) o (λ u q. (find_there (λ (u : Used ℕ). u.first == first) us u q).0)))
+
+pub names_are_turned : NamesTurn
+names_are_turned files reads c after seen token above aim is_map to r file l p cp = word_turns files reads c after seen token above aim is_map to r file l p cp
+
+pub meanings_are_turned : MeaningsTurn
+meanings_are_turned files reads c after seen token above aim is_map to r file l x = means_turn files reads c after seen token above aim is_map to r file l x

@@ -1,0 +1,5 @@
+use Rattle.proto_rename_described.proofs.DefaultsFit.{all_defaults_fit}
+use Rattle.proto_rename_described.proofs.laws.all_defaults_fit.Goals as goal
+
+pub returns : goal.returns
+returns c = all_defaults_fit

@@ -1,0 +1,150 @@
+-- A workspace under edits: when an edit is refused, what it changes, what it leaves, and runs of edits. What is particular to an edit is said by cases on the
+-- edit, over the files and what is read of them; all else speaks of changes, and of no edit.
+use Rattle.std.specs.Prelude.{◌≡◌, ◌≢◌, ℕ, ◌<◌, Bool, false, List, [], ◌∷◌, Result, Ok, Err, codes, is_some, string_bytes}
+use Rattle.proto_files.specs.Faults.{HasNoFault}
+use Rattle.proto_files.specs.FilesRead.{ReadOf, AreRead}
+use Rattle.proto_files.specs.GivenFiles.{FileOf, AreWorkspaceFiles}
+use Rattle.proto_parts.specs.Options.{text_option}
+use Rattle.proto_parts.specs.Parts.{BlockOf, FieldOf}
+use Rattle.proto_parts.specs.Scenes.{text, value}
+use Rattle.proto_json.specs.Descriptors.{FileDesc}
+use Rattle.proto_desc.specs.Checked.{AreDescribed}
+use Rattle.proto_schema.specs.Whole.{FileFaults}
+use Rattle.proto_entries.specs.declared.refusal.Refusal.{Refusal}
+use Rattle.proto_entries.specs.Entries.{ChangeOf, inverted}
+use Rattle.proto_entries.specs.Putting.{IsPut}
+use Rattle.proto_entries.specs.RefusalTable.{number_of}
+use Rattle.proto_entries.specs.declared.refusal.Refusal.TheVariants as refusal
+use Rattle.proto_rename_laws.specs.Cases.{Captures, IsFieldIn, IsFirstPlace, IsUnknown, RenameCase, scene_at}
+use Rattle.proto_rename_laws.specs.Changes.{changes_of_words}
+use Rattle.proto_rename_laws.specs.Targets.{Target, IsNamed, name_map, renamed_words}
+use Rattle.proto_rename_described.specs.Mapped.{mapped}
+
+-- files of a workspace, in the order of their paths, without a fault of the whole language
+pub record AreCompiled (files : List FileOf) : Type 0 where
+  pub workspace : AreWorkspaceFiles files
+  pub clean : HasNoFault (FileFaults files)
+
+-- the edits that may be asked: of names, or of a file's imports
+pub data Asked : Type 0 where
+  rename : (name to : List ℕ) → Asked
+  delete_field : (name : List ℕ) → Asked
+  add_import : (file path : List ℕ) → Asked
+  drop_import : (file path : List ℕ) → Asked
+
+-- ---- the cases that refuse an edit
+
+-- (Until fields are deleted: a name that nothing has is unknown, and no other is allowed.)
+pub data DeletionCase (files : List FileOf) (reads : List ReadOf) (name : List ℕ) : ℕ → Type 0 where
+  unknown_target : IsUnknown files reads name → DeletionCase files reads name 1
+  kind_not_allowed : DeletionCase files reads name 2
+
+-- (Until imports are added and dropped, neither is allowed.)
+abbrev pub CaseOf : List FileOf → List ReadOf → Asked → ℕ → Type 0
+CaseOf files reads (rename name to) n = RenameCase files reads name to n
+CaseOf files reads (delete_field name) n = DeletionCase files reads name n
+CaseOf files reads (add_import file path) n = n ≡ 2
+CaseOf files reads (drop_import file path) n = n ≡ 2
+
+-- case n holds
+abbrev pub IsCase : List FileOf → Asked → ℕ → Type 0
+IsCase w e n = (reads : List ReadOf) × AreRead w reads × CaseOf w reads e n
+
+-- case n holds, and none before it
+pub record IsLeastCase (w : List FileOf) (e : Asked) (n : ℕ) : Type 0 where
+  pub is : IsCase w e n
+  pub least : (k : ℕ) → k < n → IsCase w e k → ⊥
+
+-- no case holds
+abbrev pub IsAdmissible : List FileOf → Asked → Type 0
+IsAdmissible w e = (n : ℕ) → IsCase w e n → ⊥
+
+-- the path and offset that are answered with the case: of a rename, the least captured reference
+abbrev pub PlaceOf : List FileOf → List ReadOf → Asked → List ℕ → ℕ → Type 0
+PlaceOf files reads (rename name to) path offset = (t : Target) × IsNamed files reads name t × IsFirstPlace files reads (Captures files reads t to) path offset
+PlaceOf files reads (delete_field name) path offset = ⊥
+PlaceOf files reads (add_import file imported) path offset = ⊥
+PlaceOf files reads (drop_import file imported) path offset = ⊥
+
+-- this path and offset are answered with the case
+abbrev pub IsPlaceOf : List FileOf → Asked → List ℕ → ℕ → Type 0
+IsPlaceOf w e path offset = (reads : List ReadOf) × AreRead w reads × PlaceOf w reads e path offset
+
+-- The least case, with its place where one is answered; memory may come in the place of any.
+abbrev pub IsRefusal : List FileOf → Asked → Refusal → Type 0
+IsRefusal w e refusal.NoMemory = Unit {0}
+IsRefusal w e (refusal.Captured path offset) = IsLeastCase w e 7 × IsPlaceOf w e (string_bytes path) offset
+IsRefusal w e (refusal.Needed path offset) = IsLeastCase w e 15 × IsPlaceOf w e (string_bytes path) offset
+IsRefusal w e r = IsLeastCase w e (number_of r)
+
+-- ---- what an edit changes
+
+-- the changes of an edit: of a rename, those of its new words
+abbrev pub ChangesOf : List FileOf → List ReadOf → Asked → List ChangeOf → Type 0
+ChangesOf files reads (rename name to) cs = (t : Target) × IsNamed files reads name t × (cs ≡ changes_of_words (renamed_words files reads t to) files reads)
+ChangesOf files reads (delete_field name) cs = ⊥
+ChangesOf files reads (add_import file path) cs = ⊥
+ChangesOf files reads (drop_import file path) cs = ⊥
+
+-- these are the changes of the edit
+abbrev pub AreChanges : List FileOf → Asked → List ChangeOf → Type 0
+AreChanges w e cs = (reads : List ReadOf) × AreRead w reads × ChangesOf w reads e cs
+
+-- ---- what an edit leaves
+
+-- whether the renamed field has a written JSON name (false for another kind)
+pub data WritesJson (files : List FileOf) (reads : List ReadOf) (t : Target) : Bool → Type 0 where
+  of_field : (b : BlockOf) (f : FieldOf) → IsFieldIn files reads t.token b f
+      → WritesJson files reads t (is_some (text_option (text (scene_at files reads t.token)) (value (scene_at files reads t.token)) (codes "json_name") f.options))
+  of_another : ((b : BlockOf) (f : FieldOf) → IsFieldIn files reads t.token b f → ⊥) → WritesJson files reads t false
+
+-- the descriptors under the edit's map: of a rename, its name map
+abbrev pub Maps : List FileOf → List ReadOf → Asked → List FileDesc → List FileDesc → Type 0
+Maps files reads (rename name to) ds new = (t : Target) × IsNamed files reads name t × ((written : Bool) × WritesJson files reads t written × (new ≡ mapped (name_map files reads t to) (record { written = written; enum = t.enum }) ds))
+Maps files reads (delete_field name) ds new = ⊥
+Maps files reads (add_import file path) ds new = ⊥
+Maps files reads (drop_import file path) ds new = ⊥
+
+-- the second descriptors are the first under the edit's map
+abbrev pub AreMapped : List FileOf → Asked → List FileDesc → List FileDesc → Type 0
+AreMapped w e ds new = (reads : List ReadOf) × AreRead w reads × Maps w reads e ds new
+
+-- ---- one edit
+
+-- an edit that no case refuses, its changes, and the files with these
+pub record IsStep (w : List FileOf) (e : Asked) (cs : List ChangeOf) (after : List FileOf) : Type 0 where
+  pub admissible : IsAdmissible w e
+  pub changes : AreChanges w e cs
+  pub put : IsPut w cs after
+
+-- an accepted edit, which leaves what compiles, and to the old descriptors under its map
+pub record IsMappedStep (w : List FileOf) (e : Asked) (cs : List ChangeOf) (after : List FileOf) : Type 0 where
+  pub step : IsStep w e cs after
+  pub compiled : AreCompiled after
+  pub described : (ds new : List FileDesc) → AreDescribed w ds → AreDescribed after new → AreMapped w e ds new
+
+-- ---- runs
+
+-- a run: what is answered to each edit, and the files at the end
+abbrev pub Run : List FileOf → List Asked → List (Result (List ChangeOf) Refusal) → List FileOf → Type 0
+Run w [] [] to = w ≡ to
+Run w [] (a ∷ more) to = ⊥
+Run w (e ∷ es) [] to = ⊥
+Run w (e ∷ es) (Err r ∷ more) to = IsRefusal w e r × (r ≢ refusal.NoMemory) × Run w es more to
+Run w (e ∷ es) (Ok cs ∷ more) to = (middle : List FileOf) × IsMappedStep w e cs middle × Run middle es more to
+
+-- the entries of the accepted edits, in order
+abbrev pub accepted : List (Result (List ChangeOf) Refusal) → List (List ChangeOf)
+accepted [] = []
+accepted (Err r ∷ more) = accepted more
+accepted (Ok cs ∷ more) = cs ∷ accepted more
+
+-- the files before an entry, which compile
+pub record IsUndo (w : List FileOf) (cs : List ChangeOf) (before : List FileOf) : Type 0 where
+  pub put : IsPut w (inverted cs) before
+  pub compiled : AreCompiled before
+
+-- undoing entries, in the order given
+abbrev pub Undone : List FileOf → List (List ChangeOf) → List FileOf → Type 0
+Undone w [] to = w ≡ to
+Undone w (s ∷ ss) to = (middle : List FileOf) × IsUndo w s middle × Undone middle ss to

@@ -1,0 +1,124 @@
+-- What files declare and use stands at tokens of theirs (for the crates above).
+use Rattle.std.proofs.Common.{◌≡◌, ℕ, zero, suc, ◌+◌, ◌<◌, ◌≤◌, List, [], ◌∷◌, ◌++◌, length, map, Some, refl, sym, ap, subst, ◌∙◌, inl, inr, arith}
+use Rattle.std.specs.List.{Contains}
+use Rattle.std.proofs.lemmas.Bool.{cases_lt}
+use Rattle.std.proofs.lemmas.List.Elements.{Contains-append_cases}
+use Rattle.proto_text.specs.declared.lexer.Token.{Token as TextToken}
+use Rattle.proto_text.specs.Texts.{word_at, words}
+use Rattle.proto_text.specs.Tokens.{Lexeme, lexeme_at}
+use Rattle.proto_text.proofs.Lists.{contains_cases, from_map}
+use Rattle.proto_text.proofs.OneEdit.{length_map}
+use Rattle.proto_files.specs.FilesRead.{ReadOf, AreRead, read_at}
+use Rattle.proto_files.specs.GivenFiles.{FileOf, file_at}
+use Rattle.proto_meaning.specs.Grown.{At, at, all_used, file_used, used_in}
+use Rattle.proto_meaning.specs.Joined.{IsPlain, ArePlain}
+use Rattle.proto_meaning.specs.Skeleton.{Source, Token, EntryOf, Given, Declared, Used, shifted_source}
+use Rattle.proto_meaning.proofs.Grown.{snoc_parts}
+use Rattle.proto_listing.specs.FromTree.{file_names}
+use Rattle.proto_listing.specs.Listing.{whole, last_token}
+use Rattle.proto_listing.proofs.Growing.{token_last, entry_last}
+use Rattle.proto_listing.proofs.ReadTrees.{placed_plain, uses_plain}
+use Rattle.proto_imports.specs.Links.{names_in}
+use Rattle.proto_rename_laws.specs.Inside.{IsInside, TokensAreInside}
+use Rattle.proto_rename_laws.proofs.Declarations.{IsDeclaredBy, declared_by, path_of}
+
+-- ---- a token with a word is there
+
+word_past : (ls : List Lexeme) (i : ℕ) → length ls ≤ i → word_at ls i ≡ []
+word_past [] i l = refl
+word_past (x ∷ ls) zero l = absurd (omega (arith, l))
+word_past (x ∷ ls) (suc i) l = word_past ls i (omega (arith, l))
+
+pub plain_inside : (text : List ℕ) (tokens : List TextToken) (i : ℕ) → IsPlain (words text tokens i) → i < length tokens
+plain_inside text tokens i p = elim (cases_lt i (length tokens)) [
+  | inl l ↦ l
+  | inr past ↦ (let n = length_map (lexeme_at text) tokens in absurd (p.1 (word_past (map (lexeme_at text) tokens) i (omega (arith, past, n)))))
+]
+
+each_plain : (text : ℕ → List ℕ) (ts : List ℕ) → ArePlain (map text ts) → (t : ℕ) → Contains ts t → IsPlain (text t)
+each_plain text [] h t c = absurd (omega (arith, c.1))
+each_plain text (x ∷ ts) h t c = elim (contains_cases x t ts c) [ inl e ↦ subst (λ z. IsPlain (text z)) e h.0 | inr d ↦ each_plain text ts h.1 t d ]
+
+-- ---- references by their files
+
+record IsUsedBy (n : ℕ) (rs : List ReadOf) (u : Used At) : Type 0 where
+  k : ℕ
+  inside : k < length rs
+  v : Used ℕ
+  within : Contains (file_names (read_at rs k).tree).used v
+  is : used_in (n + k) v ≡ u
+
+used_by : (n : ℕ) (rs : List ReadOf) (u : Used At) → Contains (all_used n (map names_in rs)) u → IsUsedBy n rs u
+used_by n [] u c = absurd (omega (arith, c.1))
+used_by n (r ∷ rs) u c = elim (Contains-append_cases (file_used n (names_in r)) (all_used (suc n) (map names_in rs)) u c) [
+  | inl a ↦
+      let v = from_map (used_in n) (file_names r.tree).used u a in
+      let e : n ≡ n + 0 = omega arith in
+      record { k = 0; inside = omega arith; v = v.0; within = v.1; is = subst (λ m. used_in m v.0 ≡ u) e v.2 }
+  | inr b ↦
+      let o = used_by (suc n) rs u b in
+      let l = o.inside in
+      let e : suc n + o.k ≡ n + suc o.k = omega arith in
+      record { k = suc o.k; inside = omega (arith, l); v = o.v; within = o.within; is = subst (λ m. used_in m o.v ≡ u) e o.is }
+]
+
+-- ---- both
+
+same_token : (i j : At) → ◌≡◌ {A = Source At} (Token i) (Token j) → i ≡ j
+same_token i j e = cc
+
+same_entry : (i j : At) → ◌≡◌ {A = Source At} (EntryOf i) (EntryOf j) → i ≡ j
+same_entry i j e = cc
+
+no_token : (i j : At) → ◌≡◌ {A = Source At} (EntryOf i) (Token j) → ⊥
+no_token i j e = cc
+
+no_entry : (i j : At) → ◌≡◌ {A = Source At} (Token i) (EntryOf j) → ⊥
+no_entry i j e = cc
+
+not_given : (w : List ℕ) (i : At) → ◌≡◌ {A = Source At} (Given w) (Token i) → ⊥
+not_given w i e = cc
+
+given_no_entry : (w : List ℕ) (i : At) → ◌≡◌ {A = Source At} (Given w) (EntryOf i) → ⊥
+given_no_entry w i e = cc
+
+module _ (files : List FileOf) (reads : List ReadOf) (r : AreRead files reads) where
+  here : (k t : ℕ) → k < length reads → IsPlain (words (file_at files k).bytes (read_at reads k).tokens t) → IsInside files reads (at (0 + k) t)
+  here k t l p =
+      let same = r.same in
+      let e : k ≡ 0 + k = omega arith in
+      subst (λ m. IsInside files reads (at m t)) e (omega (arith, l, same), plain_inside (file_at files k).bytes (read_at reads k).tokens t p)
+
+  named_here : (d : Declared At) (o : IsDeclaredBy 0 reads d) (t : ℕ) → last_token (whole o.p) ≡ Some t → IsInside files reads (at (0 + o.k) t)
+  named_here d o t e =
+      let l = o.inside in
+      let same = r.same in
+      here o.k t l (placed_plain (file_at files o.k).bytes (read_at reads o.k).tokens (read_at reads o.k).tree (r.trees o.k (omega (arith, l, same))) o.p o.within t e)
+
+  by_token : (d : Declared At) (o : IsDeclaredBy 0 reads d) (i : At) (s : Source ℕ) → o.p.last ≡ s → shifted_source (at (0 + o.k)) s ≡ Token i → IsInside files reads i
+  by_token d o i (Token t) q e = subst (IsInside files reads) (same_token (at (0 + o.k) t) i e) (named_here d o t (ap (λ z. last_token (o.p.above ++ z ∷ [])) q ∙ token_last o.p.above t))
+  by_token d o i (EntryOf t) q e = absurd (no_token (at (0 + o.k) t) i e)
+  by_token d o i (Given w) q e = absurd (not_given w i e)
+
+  by_entry : (d : Declared At) (o : IsDeclaredBy 0 reads d) (i : At) (s : Source ℕ) → o.p.last ≡ s → shifted_source (at (0 + o.k)) s ≡ EntryOf i → IsInside files reads i
+  by_entry d o i (Token t) q e = absurd (no_entry (at (0 + o.k) t) i e)
+  by_entry d o i (EntryOf t) q e = subst (IsInside files reads) (same_entry (at (0 + o.k) t) i e) (named_here d o t (ap (λ z. last_token (o.p.above ++ z ∷ [])) q ∙ entry_last o.p.above t))
+  by_entry d o i (Given w) q e = absurd (given_no_entry w i e)
+
+  last_of : (d : Declared At) (o : IsDeclaredBy 0 reads d) (above : List (Source At)) (x : Source At) → d.path ≡ above ++ x ∷ [] → shifted_source (at (0 + o.k)) o.p.last ≡ x
+  last_of d o above x path = (snoc_parts (map (shifted_source (at (0 + o.k))) o.p.above) above (shifted_source (at (0 + o.k)) o.p.last) x (sym (path_of 0 reads d o) ∙ path)).1
+
+pub tokens_are_inside : TokensAreInside
+tokens_are_inside files reads r i (inl (d, cd, (above, inl path))) =
+    let o = declared_by 0 reads d cd in
+    by_token files reads r d o i o.p.last refl (last_of files reads r d o above (Token i) path)
+tokens_are_inside files reads r i (inl (d, cd, (above, inr path))) =
+    let o = declared_by 0 reads d cd in
+    by_entry files reads r d o i o.p.last refl (last_of files reads r d o above (EntryOf i) path)
+tokens_are_inside files reads r i (inr (u, cu, ci)) =
+    let o = used_by 0 reads u cu in
+    let l = o.inside in
+    let same = r.same in
+    let t = from_map (at (0 + o.k)) o.v.tokens i (subst (λ (z : Used At). Contains z.tokens i) (sym o.is) ci) in
+    let plain = uses_plain (file_at files o.k).bytes (read_at reads o.k).tokens (read_at reads o.k).tree (r.trees o.k (omega (arith, l, same))) o.v o.within in
+    subst (IsInside files reads) t.2 (here files reads r o.k t.0 l (each_plain (words (file_at files o.k).bytes (read_at reads o.k).tokens) o.v.tokens plain.0 t.0 t.1))

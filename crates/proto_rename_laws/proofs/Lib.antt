@@ -1,0 +1,19 @@
+mod Blocks
+pub mod Captures
+pub mod ChangesEntry
+pub mod ChangesPut
+pub mod Declarations
+mod EnumsOfValues
+pub mod Inside
+pub mod NoLinkFault
+pub mod OldTexts
+pub mod OneField
+pub mod OneTarget
+pub mod Places
+pub mod PlacesSuit
+pub mod PlainNames
+pub mod Rewording
+pub mod Scenes
+mod Scopes
+pub mod ShortPuts
+pub mod TargetThere

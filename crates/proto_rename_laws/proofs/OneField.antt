@@ -1,0 +1,170 @@
+-- A token names one field: fields of a file with one name token have the same options (for the crates above).
+use Rattle.std.proofs.Common.{◌≡◌, ℕ, suc, ◌+◌, List, [], ◌∷◌, ◌++◌, length, flat_map, Option, Some, None, sym, ap, subst, ◌∙◌, arith, inl, inr}
+use Rattle.std.specs.List.{Contains}
+use Rattle.std.proofs.lemmas.List.Elements.{Contains-append_cases, Contains-append_left, Contains-append_right}
+use Rattle.proto_text.proofs.Lists.{contains_cases, contains_head, contains_later}
+use Rattle.proto_tree.specs.declared.piece.Statement.{Statement}
+use Rattle.proto_tree.specs.declared.tree.Field.{Field}
+use Rattle.proto_tree.specs.declared.tree.MapField.{MapField}
+use Rattle.proto_tree.specs.Flat.{Mark, mark, one, only, word, flat_field, flat_header, flat_map_field, flat_option, flat_settings, flat_statement, flat_type}
+use Rattle.proto_tree.specs.Laws.{Numbered}
+use Rattle.proto_tree.specs.Tree.{Tree, End, Leaf, Block, flat}
+use Rattle.proto_tree.proofs.MarkLaws.{numbered_append, numbered_at}
+use Rattle.proto_tree.specs.declared.class.Class.TheVariants as class
+use Rattle.proto_tree.specs.declared.class.Want.TheVariants as want
+use Rattle.proto_tree.specs.declared.piece.Header.TheVariants as header
+use Rattle.proto_tree.specs.declared.piece.Statement.TheVariants as statement
+use Rattle.proto_parts.specs.Parts.{BlockOf, FieldOf, blocks_in, fields_from, fields_in, map_field, plain_field, statement_fields, statements}
+use Rattle.proto_rename_laws.proofs.Places.{from_flat_map}
+
+-- the statements of a tree, with those in its blocks
+abbrev all_in : Tree → List Statement
+all_in End = []
+all_in (Leaf s rest) = s ∷ all_in rest
+all_in (Block h opens within closes rest) = all_in within ++ all_in rest
+
+-- ---- two places are two tokens
+
+apart : (n : ℕ) (xs ys : List Mark) → Numbered n (xs ++ ys) → (m k : Mark) → Contains xs m → Contains ys k → m.at ≡ k.at → ⊥
+apart n xs ys h m k cm ck e =
+    let p = numbered_append n xs ys h in
+    let i = numbered_at n xs m p.0 cm in
+    let j = numbered_at (n + length xs) ys k p.1 ck in
+    absurd (omega (arith, i, j, e, cm.1))
+
+marks_in : (t : Tree) (s : Statement) → Contains (all_in t) s → (m : Mark) → Contains (flat_statement s) m → Contains (flat t) m
+marks_in End s c m cm = absurd (omega (arith, c.1))
+marks_in (Leaf x rest) s c m cm = elim (contains_cases x s (all_in rest) c) [
+  | inl q ↦ Contains-append_left (flat_statement x) (flat rest) m (subst (λ z. Contains (flat_statement z) m) (sym q) cm)
+  | inr d ↦ Contains-append_right (flat_statement x) (flat rest) m (marks_in rest s d m cm)
+]
+marks_in (Block h i within j rest) s c m cm = elim (Contains-append_cases (all_in within) (all_in rest) s c) [
+  | inl d ↦
+      Contains-append_right (flat_header h ++ one class.Open i) (flat within ++ (one class.Close j ++ flat rest)) m
+      (Contains-append_left (flat within) (one class.Close j ++ flat rest) m (marks_in within s d m cm))
+  | inr d ↦
+      Contains-append_right (flat_header h ++ one class.Open i) (flat within ++ (one class.Close j ++ flat rest)) m
+      (Contains-append_right (flat within) (one class.Close j ++ flat rest) m (Contains-append_right (one class.Close j) (flat rest) m (marks_in rest s d m cm)))
+]
+
+one_statement : (n : ℕ) (t : Tree) → Numbered n (flat t) → (s u : Statement) → Contains (all_in t) s → Contains (all_in t) u → (m k : Mark) → Contains (flat_statement s) m → Contains (flat_statement u) k → m.at ≡ k.at → s ≡ u
+one_statement n End h s u cs cu m k cm ck e = absurd (omega (arith, cs.1))
+one_statement n (Leaf x rest) h s u cs cu m k cm ck e = elim (contains_cases x s (all_in rest) cs) [
+  | inl q ↦ elim (contains_cases x u (all_in rest) cu) [
+    | inl r ↦ sym q ∙ r
+    | inr d ↦ absurd (apart n (flat_statement x) (flat rest) h m k (subst (λ z. Contains (flat_statement z) m) (sym q) cm) (marks_in rest u d k ck) e)
+  ]
+  | inr f ↦ elim (contains_cases x u (all_in rest) cu) [
+    | inl r ↦ absurd (apart n (flat_statement x) (flat rest) h k m (subst (λ z. Contains (flat_statement z) k) (sym r) ck) (marks_in rest s f m cm) (sym e))
+    | inr d ↦ one_statement (n + length (flat_statement x)) rest (numbered_append n (flat_statement x) (flat rest) h).1 s u f d m k cm ck e
+  ]
+]
+one_statement n (Block hd i within j rest) h s u cs cu m k cm ck e =
+    let front = flat_header hd ++ one class.Open i in
+    let inner = numbered_append n front (flat within ++ (one class.Close j ++ flat rest)) h in
+    let parts = numbered_append (n + length front) (flat within) (one class.Close j ++ flat rest) inner.1 in
+    let behind = numbered_append (n + length front + length (flat within)) (one class.Close j) (flat rest) parts.1 in
+    elim (Contains-append_cases (all_in within) (all_in rest) s cs) [
+      | inl f ↦ elim (Contains-append_cases (all_in within) (all_in rest) u cu) [
+        | inl d ↦ one_statement (n + length front) within parts.0 s u f d m k cm ck e
+        | inr d ↦ absurd (apart (n + length front) (flat within) (one class.Close j ++ flat rest) inner.1 m k (marks_in within s f m cm) (Contains-append_right (one class.Close j) (flat rest) k (marks_in rest u d k ck)) e)
+      ]
+      | inr f ↦ elim (Contains-append_cases (all_in within) (all_in rest) u cu) [
+        | inl d ↦ absurd (apart (n + length front) (flat within) (one class.Close j ++ flat rest) inner.1 k m (marks_in within u d k ck) (Contains-append_right (one class.Close j) (flat rest) m (marks_in rest s f m cm)) (sym e))
+        | inr d ↦ one_statement (n + length front + length (flat within) + length (one class.Close j)) rest behind.1 s u f d m k cm ck e
+      ]
+    ]
+
+-- ---- the statement of a field
+
+statements_in : (t : Tree) (s : Statement) → Contains (statements t) s → Contains (all_in t) s
+statements_in End s c = absurd (omega (arith, c.1))
+statements_in (Leaf x rest) s c = elim (contains_cases x s (statements rest) c) [
+  | inl q ↦ subst (λ z. Contains (x ∷ all_in rest) z) q (contains_head x (all_in rest))
+  | inr d ↦ contains_later x s (all_in rest) (statements_in rest s d)
+]
+statements_in (Block h opens within closes rest) s c = Contains-append_right (all_in within) (all_in rest) s (statements_in rest s c)
+
+blocks_within : (t : Tree) (b : BlockOf) → Contains (blocks_in t) b → (s : Statement) → Contains (all_in b.within) s → Contains (all_in t) s
+blocks_within End b c s cs = absurd (omega (arith, c.1))
+blocks_within (Leaf x rest) b c s cs = contains_later x s (all_in rest) (blocks_within rest b c s cs)
+blocks_within (Block h opens within closes rest) b c s cs = elim (contains_cases (let x : BlockOf = record { header = h; within = within } in x) b (blocks_in within ++ blocks_in rest) c) [
+  | inl q ↦ Contains-append_left (all_in within) (all_in rest) s (subst (λ (z : BlockOf). Contains (all_in z.within) s) (sym q) cs)
+  | inr d ↦ elim (Contains-append_cases (blocks_in within) (blocks_in rest) b d) [
+    | inl f ↦ Contains-append_left (all_in within) (all_in rest) s (blocks_within within b f s cs)
+    | inr f ↦ Contains-append_right (all_in within) (all_in rest) s (blocks_within rest b f s cs)
+  ]
+]
+
+record IsFieldOf (t : Tree) (f : FieldOf) : Type 0 where
+  s : Statement
+  there : Contains (all_in t) s
+  oneof : Option ℕ
+  field : Contains (statement_fields oneof s) f
+
+behind_block : (within rest : Tree) (f : FieldOf) → IsFieldOf rest f → (s : Statement) × Contains (all_in within ++ all_in rest) s × ((o : Option ℕ) × Contains (statement_fields o s) f)
+behind_block within rest f r = (r.s, Contains-append_right (all_in within) (all_in rest) r.s r.there, (r.oneof, r.field))
+
+field_statement : (n : ℕ) (t : Tree) (f : FieldOf) → Contains (fields_from n t) f → IsFieldOf t f
+field_statement n End f c = absurd (omega (arith, c.1))
+field_statement n (Leaf x rest) f c = elim (Contains-append_cases (statement_fields None x) (fields_from n rest) f c) [
+  | inl d ↦ record { s = x; there = contains_head x (all_in rest); oneof = None; field = d }
+  | inr d ↦ let r = field_statement n rest f d in record { s = r.s; there = contains_later x r.s (all_in rest) r.there; oneof = r.oneof; field = r.field }
+]
+field_statement n (Block (header.Oneof h) opens within closes rest) f c = elim (Contains-append_cases (flat_map (statement_fields (Some n)) (statements within)) (fields_from (suc n) rest) f c) [
+  | inl d ↦
+      let r = from_flat_map (statement_fields (Some n)) (statements within) f d in
+      record { s = r.0; there = Contains-append_left (all_in within) (all_in rest) r.0 (statements_in within r.0 r.1); oneof = Some n; field = r.2 }
+  | inr d ↦ let r = behind_block within rest f (field_statement (suc n) rest f d) in record { s = r.0; there = r.1; oneof = r.2.0; field = r.2.1 }
+]
+field_statement n (Block (header.Message h) opens within closes rest) f c = let r = behind_block within rest f (field_statement n rest f c) in record { s = r.0; there = r.1; oneof = r.2.0; field = r.2.1 }
+field_statement n (Block (header.Enum h) opens within closes rest) f c = let r = behind_block within rest f (field_statement n rest f c) in record { s = r.0; there = r.1; oneof = r.2.0; field = r.2.1 }
+field_statement n (Block (header.Service h) opens within closes rest) f c = let r = behind_block within rest f (field_statement n rest f c) in record { s = r.0; there = r.1; oneof = r.2.0; field = r.2.1 }
+field_statement n (Block (header.Method h) opens within closes rest) f c = let r = behind_block within rest f (field_statement n rest f c) in record { s = r.0; there = r.1; oneof = r.2.0; field = r.2.1 }
+
+-- ---- its name and options
+
+abbrev field_tail : Field → List Mark
+field_tail f = one class.Equals f.equals ++ (one class.Number f.number ++ (flat_option flat_settings f.settings ++ one class.Semicolon f.semicolon))
+
+field_mark : (f : Field) → Contains (flat_field f) (mark want.Word f.name)
+field_mark f =
+    Contains-append_right (flat_option (only want.Label) f.label) (flat_type f.kind ++ (word f.name ++ field_tail f)) (mark want.Word f.name)
+    (Contains-append_right (flat_type f.kind) (word f.name ++ field_tail f) (mark want.Word f.name) (contains_head (mark want.Word f.name) (field_tail f)))
+
+abbrev map_tail : MapField → List Mark
+map_tail f = one class.Equals f.equals ++ (one class.Number f.number ++ (flat_option flat_settings f.settings ++ one class.Semicolon f.semicolon))
+
+abbrev map_front : MapField → List Mark
+map_front f = mark (want.One class.Map) f.keyword ∷ mark (want.One class.Less) f.open ∷ mark (want.One class.Scalar) f.key ∷ mark (want.One class.Comma) f.comma ∷ []
+
+map_mark : (f : MapField) → Contains (flat_map_field f) (mark want.Word f.name)
+map_mark f =
+    Contains-append_right (map_front f) (flat_type f.value ++ (one class.Greater f.close ++ (word f.name ++ map_tail f))) (mark want.Word f.name)
+    (Contains-append_right (flat_type f.value) (one class.Greater f.close ++ (word f.name ++ map_tail f)) (mark want.Word f.name)
+    (Contains-append_right (one class.Greater f.close) (word f.name ++ map_tail f) (mark want.Word f.name) (contains_head (mark want.Word f.name) (map_tail f))))
+
+name_mark : (o : Option ℕ) (s : Statement) (f : FieldOf) → Contains (statement_fields o s) f → (m : Mark) × Contains (flat_statement s) m × (m.at ≡ f.name)
+name_mark o (statement.Field x) f c = elim (contains_cases (plain_field o x) f [] c) [ inl q ↦ (mark want.Word x.name, field_mark x, ap (λ (z : FieldOf). z.name) q) | inr d ↦ absurd (omega (arith, d.1)) ]
+name_mark o (statement.MapField x) f c = elim (contains_cases (map_field x) f [] c) [ inl q ↦ (mark want.Word x.name, map_mark x, ap (λ (z : FieldOf). z.name) q) | inr d ↦ absurd (omega (arith, d.1)) ]
+name_mark o _ f c = absurd (omega (arith, c.1))
+
+options_same : (o p : Option ℕ) (s : Statement) (f g : FieldOf) → Contains (statement_fields o s) f → Contains (statement_fields p s) g → f.options ≡ g.options
+options_same o p (statement.Field x) f g c d = elim (contains_cases (plain_field o x) f [] c) [
+  | inl q ↦ elim (contains_cases (plain_field p x) g [] d) [ inl r ↦ sym (ap (λ (z : FieldOf). z.options) q) ∙ ap (λ (z : FieldOf). z.options) r | inr n ↦ absurd (omega (arith, n.1)) ]
+  | inr n ↦ absurd (omega (arith, n.1))
+]
+options_same o p (statement.MapField x) f g c d = elim (contains_cases (map_field x) f [] c) [
+  | inl q ↦ elim (contains_cases (map_field x) g [] d) [ inl r ↦ sym (ap (λ (z : FieldOf). z.options) q) ∙ ap (λ (z : FieldOf). z.options) r | inr n ↦ absurd (omega (arith, n.1)) ]
+  | inr n ↦ absurd (omega (arith, n.1))
+]
+options_same o p _ f g c d = absurd (omega (arith, c.1))
+
+pub one_field : (t : Tree) → Numbered 0 (flat t) → (b d : BlockOf) (f g : FieldOf) → Contains (blocks_in t) b → Contains (blocks_in t) d → Contains (fields_in b.within) f → Contains (fields_in d.within) g → f.name ≡ g.name → f.options ≡ g.options
+one_field t h b d f g cb cd cf cg e =
+    let r = field_statement 0 b.within f cf in
+    let u = field_statement 0 d.within g cg in
+    let m = name_mark r.oneof r.s f r.field in
+    let k = name_mark u.oneof u.s g u.field in
+    let same = one_statement 0 t h r.s u.s (blocks_within t b cb r.s r.there) (blocks_within t d cd u.s u.there) m.0 k.0 m.1 k.1 (m.2 ∙ e ∙ sym k.2) in
+    options_same r.oneof u.oneof r.s f g r.field (subst (λ z. Contains (statement_fields u.oneof z) g) (sym same) u.field)

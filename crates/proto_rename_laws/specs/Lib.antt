@@ -1,0 +1,17 @@
+pub mod Captures
+pub mod Cases
+pub mod Changes
+pub mod ChangesEntry
+pub mod ChangesPut
+pub mod Defaults
+pub mod Inside
+pub mod NoLinkFault
+pub mod OneTarget
+pub mod Places
+pub mod PlacesSuit
+pub mod Respelling
+pub mod Rewording
+pub mod Roles
+pub mod Scenes
+pub mod ShortPuts
+pub mod Targets
