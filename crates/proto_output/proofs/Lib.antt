@@ -1,2 +1,5 @@
+mod Beginnings
+mod ChangeLines
 mod Cursors
 mod FoundFiles
+mod LogSteps

@@ -5,7 +5,7 @@ use Rattle.proto_files.specs.GivenFiles.{FileOf}
 use Rattle.proto_files.specs.Faults.{FaultAt}
 use Rattle.proto_faults.specs.FaultTable.{name_of, number_of}
 use Rattle.proto_text.specs.Lines.{column_at, line_at}
-use Rattle.proto_store.specs.Stores.{bytes_at}
+use Rattle.proto_store.specs.Stores.{Held, bytes_at}
 
 -- `path:line:column: NUMBER NAME`
 abbrev pub line_of : FaultAt → ℕ → ℕ → List ℕ
@@ -23,11 +23,11 @@ IsPlace files fault line column =
 abbrev pub IsLine : List FileOf → FaultAt → List ℕ → Type 0
 IsLine files fault text = (line : ℕ) × (column : ℕ) × IsPlace files fault line column × (text ≡ line_of fault line column)
 
--- the same of a store, whose files may be unknown
-abbrev pub IsPlaceOver : Option (List FileOf) → FaultAt → ℕ → ℕ → Type 0
+-- the same of a store; of unknown holdings nothing is said
+abbrev pub IsPlaceOver : Option Held → FaultAt → ℕ → ℕ → Type 0
 IsPlaceOver None fault line column = Unit {0}
-IsPlaceOver (Some files) fault line column = IsPlace files fault line column
+IsPlaceOver (Some held) fault line column = IsPlace held.files fault line column
 
-abbrev pub IsLineOver : Option (List FileOf) → FaultAt → List ℕ → Type 0
+abbrev pub IsLineOver : Option Held → FaultAt → List ℕ → Type 0
 IsLineOver None fault text = Unit {0}
-IsLineOver (Some files) fault text = IsLine files fault text
+IsLineOver (Some held) fault text = IsLine held.files fault text

@@ -91,6 +91,13 @@ fn text_of(files: &Files, file: usize) -> &[u8]
     }
 }
 
+// The text of the file at a path; empty where there is none.
+pub(crate) fn text_named<'a>(files: &'a Files, path: &str) -> &'a [u8]
+    ensures { result.now ≡ text_at path.now files.now }
+{
+    text_of(files, file_named(files, 0, path))
+}
+
 // The number of the file at a path, which is looked for from a number on and then before it; the count of the files where
 // there is none.
 fn file_named(files: &Files, start: usize, path: &str) -> usize

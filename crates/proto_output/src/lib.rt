@@ -1,12 +1,24 @@
-//! What the program prints: lines of faults and findings with their places, and writing a text whole.
+//! What the program prints, and how a command ends: lines with their places, answers, and writing them whole.
 #![tactic(auto)]
 
-mod fault_line;
+mod answer;
+mod edit_lines;
 mod found_lines;
+mod log_lines;
 mod place;
+mod reporting;
+mod run_fault;
+mod schema_lines;
+mod status;
 mod writing;
 
-pub use fault_line::schema_line;
+pub use answer::{Answer, write_answer};
+pub use edit_lines::{journal_line, refusal_line, write_changed};
 pub use found_lines::lines_of_findings;
+pub use log_lines::lines_of_records;
 pub use place::{Cursor, Place, place_at};
+pub use reporting::reported;
+pub use run_fault::{RunFault, fault_line};
+pub use schema_lines::schema_line;
+pub use status::Status;
 pub use writing::{OutputFault, write_text};

@@ -1,5 +1,5 @@
 -- The entries of a map from paths to bytes, as files.
-use Rattle.std.proofs.Common.{◌≡◌, ℕ, Bool, true, false, cond, List, [], ◌∷◌, ◌++◌, map, Some, refl, sym, ap, ◌∙◌, reverse}
+use Rattle.std.proofs.Common.{◌≡◌, ℕ, Bool, true, false, cond, List, [], ◌∷◌, ◌++◌, map, None, Some, refl, sym, ap, ◌∙◌, reverse}
 use Rattle.std.specs.Prelude.{String, option_map}
 use Rattle.std.specs.Global.{Vec, Global}
 use Rattle.std.specs.String.{string_bytes, string_cmp}
@@ -8,15 +8,16 @@ use Rattle.std.specs.List.Sorted.{IsStrictlySortedBy}
 use Rattle.std.specs.Cmp.Lexicographic.{slice_cmp}
 use Rattle.std.specs.Ordering.{nat_cmp}
 use Rattle.std.specs.Str.{bytes_eq}
-use Rattle.std.specs.Map.{lookup}
+use Rattle.std.specs.Map.{lookup, set_value}
 use Rattle.std.specs.BTreeMap.{BTreeMap, UpdatesBy, get_by_text, is_at}
 use Rattle.std.specs.declared.cmp.Ordering.TheVariants.{Less}
 use Rattle.std.proofs.lemmas.Map.Text.{btree_map_updates_text, is_eq-slice_cmp}
 use Rattle.std.proofs.lemmas.List.{map-append, reverse-append}
 use Rattle.proto_files.specs.GivenFiles.{file_of, files_of, paths_of}
-use Rattle.proto_store.specs.Stores.{AreInPathOrder, bytes_at}
+use Rattle.proto_store.specs.Stores.{AreInPathOrder, bytes_at, with_bytes}
 use Rattle.proto_store.specs.Memory.{files_in}
 use Rattle.proto_store.proofs.PathOrder.{same_text}
+use Rattle.proto_store.proofs.Replaced.{with_bytes-absent}
 
 above_each : (key : String Global) (entries : List (String Global × Vec ℕ))
     → AllByRecursion (λ k. string_cmp key k ≡ Less) (map (λ e. e.0) entries)
@@ -67,3 +68,23 @@ pub latest : (path : List ℕ) (entries : List (String Global × Vec ℕ)) (entr
 latest path entries entry =
     ap (λ l. bytes_at path (reverse l)) (map-append file_of entries (entry ∷ []))
     ∙ ap (bytes_at path) (reverse-append (files_of entries) (file_of entry ∷ []))
+
+-- what is set by the bytes of a key is what is put at that path
+pub files_after_set : (path : List ℕ) (value : Vec ℕ) (entries : List (String Global × Vec ℕ))
+    → files_of (set_value (is_at (λ k. slice_cmp nat_cmp path (string_bytes k))) entries value) ≡ with_bytes path value.items (files_of entries)
+files_after_set path value [] = refl
+files_after_set path value (e ∷ entries) =
+    go (files_after_set path value entries) (is_at (λ k. slice_cmp nat_cmp path (string_bytes k)) e.0)
+    ∙ ap (λ b. cond b (record { path = string_bytes e.0; bytes = value.items } ∷ files_of entries) (file_of e ∷ with_bytes path value.items (files_of entries)))
+    (is_eq-slice_cmp path (string_bytes e.0))
+  where
+    go : files_of (set_value (is_at (λ k. slice_cmp nat_cmp path (string_bytes k))) entries value) ≡ with_bytes path value.items (files_of entries)
+        → (b : Bool) → files_of (cond b ((e.0, value) ∷ entries) (e ∷ set_value (is_at (λ k. slice_cmp nat_cmp path (string_bytes k))) entries value))
+        ≡ cond b (record { path = string_bytes e.0; bytes = value.items } ∷ files_of entries) (file_of e ∷ with_bytes path value.items (files_of entries))
+    go others true = refl
+    go others false = ap (λ l. file_of e ∷ l) others
+
+-- a key that is not found changes no file
+pub files_without : (path bytes : List ℕ) (entries : List (String Global × Vec ℕ)) → lookup (is_at (λ k. slice_cmp nat_cmp path (string_bytes k))) entries ≡ None
+    → files_of entries ≡ with_bytes path bytes (files_of entries)
+files_without path bytes entries none = sym (with_bytes-absent path bytes (files_of entries) (bytes_of_lookup path entries ∙ ap (option_map (λ v. v.items)) none))

@@ -1,3 +1,4 @@
 mod Entries
 pub mod Loading
 pub mod PathOrder
+pub mod Replaced

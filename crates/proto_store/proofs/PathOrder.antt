@@ -1,9 +1,9 @@
 -- Public for the crates above. Paths in order: a sorted list of the paths of a store is the list of its files' paths.
-use Rattle.std.proofs.Common.{◌≡◌, ℕ, ◌+◌, Bool, true, false, cond, List, [], ◌∷◌, ◌++◌, map, Some, Ordering, refl, sym, ap, ◌∙◌, subst, arith, suc, get_or, zero-add}
-use Rattle.std.specs.Prelude.{String, sum_by, if◌then◌else◌}
+use Rattle.std.proofs.Common.{◌≡◌, ℕ, ◌+◌, Bool, true, false, cond, List, [], ◌∷◌, ◌++◌, map, Option, None, Some, Ordering, refl, sym, ap, ◌∙◌, subst, arith, zero, suc, get_or, length, ◌<◌, zero-add}
+use Rattle.std.specs.Prelude.{IsSome, String, is_some, sum_by, if◌then◌else◌}
 use Rattle.std.specs.Global.{Global}
 use Rattle.std.specs.String.{string_bytes, string_cmp}
-use Rattle.std.specs.List.{AllByRecursion, All}
+use Rattle.std.specs.List.{AllByRecursion, All, Contains}
 use Rattle.std.specs.List.Sorted.{IsStrictlySortedBy, IsSortedBy, IsSorted, IsPermutation}
 use Rattle.std.specs.Cmp.Lexicographic.{slice_cmp, nat_list_cmp_total}
 use Rattle.std.specs.Ordering.{nat_cmp, is_lt, is_eq, ordering_reverse}
@@ -14,9 +14,9 @@ use Rattle.std.proofs.lemmas.Bool.Decides.{same_from_decides}
 use Rattle.std.proofs.lemmas.Slice.Eq.{bytes_eq-Decides}
 use Rattle.std.proofs.lemmas.List.Sums.{sum_by-cons}
 use Rattle.std.proofs.lemmas.List.Elements.{recursion_from_All}
-use Rattle.std.proofs.lemmas.List.Sorted.{sorted_far, ranks_by, sum_by-IsPermutation, IsPermutation-map, IsPermutation-trans, IsPermutation-sym}
+use Rattle.std.proofs.lemmas.List.Sorted.{Contains-permutation, sorted_far, ranks_by, sum_by-IsPermutation, IsPermutation-map, IsPermutation-trans, IsPermutation-sym}
 use Rattle.proto_files.specs.GivenFiles.{FileOf, paths_of}
-use Rattle.proto_store.specs.Stores.{AreInPathOrder, bytes_at}
+use Rattle.proto_store.specs.Stores.{AreInPathOrder, Held, IsListed, ListsPaths, bytes_at}
 
 abbrev text_cmp : List ℕ → List ℕ → Ordering
 text_cmp = slice_cmp nat_cmp
@@ -145,3 +145,29 @@ bytes_at_place (d ∷ done) file rest h =
     let less : text_cmp d.path file.path ≡ Less = at_place (λ p. text_cmp d.path p ≡ Less) done file rest h.0 in
     ap (λ b. cond b (Some d.bytes) (bytes_at file.path (done ++ file ∷ rest))) (same_text file.path d.path ∙ differs_if_less d.path file.path less)
     ∙ bytes_at_place done file rest h.1
+
+listed_among : (files : List FileOf) (path : List ℕ) (k : ℕ) → k < length (paths_of files) → get_or (paths_of files) k path ≡ path → IsSome (bytes_at path files)
+listed_among [] path k inside is = absurd (omega (arith, inside))
+listed_among (file ∷ files) path zero inside is =
+    ap (λ b. is_some (cond b (Some file.bytes) (bytes_at path files))) (ap (bytes_eq path) is ∙ equal_itself path)
+listed_among (file ∷ files) path (suc k) inside is = go (listed_among files path k (omega (arith, inside)) is) (bytes_eq path file.path)
+  where
+    go : IsSome (bytes_at path files) → (b : Bool) → IsSome (cond b (Some file.bytes) (bytes_at path files))
+    go rest true = refl
+    go rest false = rest
+
+-- each path that a store lists is that of a file
+pub listed_path : (held : Option Held) (paths : List (List ℕ)) (path : List ℕ) → ListsPaths held paths → Contains paths path → IsListed held path
+listed_path None paths path lists among = tt
+listed_path (Some held) paths path lists among =
+    let found = Contains-permutation paths (paths_of held.files) path lists.1 among in
+    listed_among held.files path found.0 found.1 found.2
+
+string_among : (paths : List (String Global)) (k : ℕ) (d : String Global) → k < length paths → Contains (map string_bytes paths) (string_bytes (get_or paths k d))
+string_among [] k d inside = absurd (omega (arith, inside))
+string_among (path ∷ paths) zero d inside = (0, omega arith, refl)
+string_among (path ∷ paths) (suc k) d inside = let rest = string_among paths k d (omega (arith, inside)) in (suc rest.0, omega (arith, rest.1), rest.2)
+
+-- the same of the strings that it answers
+pub listed_string : (held : Option Held) (paths : List (String Global)) (k : ℕ) (d : String Global) → ListsPaths held (map string_bytes paths) → k < length paths → IsListed held (string_bytes (get_or paths k d))
+listed_string held paths k d lists inside = listed_path held (map string_bytes paths) (string_bytes (get_or paths k d)) lists (string_among paths k d inside)

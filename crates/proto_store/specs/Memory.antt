@@ -1,38 +1,58 @@
--- A store in memory: what it keeps, and the call at which it fails.
-use Rattle.std.specs.Prelude.{◌≡◌, ℕ, ◌+◌, ◌-◌, ◌≤◌, nat_le, List, reverse, String, Option, None, Some, Result, is_err, if◌then◌else◌}
+-- A store in memory: what it holds, and the call at which it fails.
+use Rattle.std.specs.Prelude.{◌≡◌, ◌⊎◌, ℕ, ◌+◌, ◌-◌, ◌≤◌, nat_le, List, reverse, String, Option, None, Some, Result, MatchResult, IsTrue, is_err, if◌then◌else◌}
 use Rattle.std.specs.Global.{Vec, Global}
 use Rattle.std.specs.BTreeMap.{BTreeMap}
 use Rattle.proto_files.specs.GivenFiles.{FileOf, files_of}
-use Rattle.proto_store.specs.Stores.{bytes_at}
+use Rattle.proto_store.specs.Stores.{Held, bytes_at}
+use Rattle.proto_store.specs.declared.memory.PlannedFailure.{PlannedFailure}
+use Rattle.proto_store.specs.declared.memory.Turn.{Turn}
+use Rattle.proto_store.specs.declared.memory.Turn.TheVariants.{Works, Fails, Lands}
 
 abbrev pub files_in : BTreeMap (String Global) (Vec ℕ) → List FileOf
 files_in files = files_of files.entries
 
--- the files and the journal that it keeps, how many calls have failed, and how many there are up to the next that is to fail
+-- what it holds, how many calls have failed, and the failure that is to come
 pub record MemoryOf : Type 0 where
-  pub files : List FileOf
-  pub journal : List ℕ
+  pub held : Held
   pub failures : ℕ
-  pub calls_to_failure : Option ℕ
+  pub planned : Option PlannedFailure
 
 -- each path has the bytes that were given last for it
-abbrev pub KeepsLatest : Option (List FileOf) → List FileOf → Type 0
+abbrev pub KeepsLatest : Option Held → List FileOf → Type 0
 KeepsLatest None given = Unit {0}
-KeepsLatest (Some held) given = (path : List ℕ) → bytes_at path held ≡ bytes_at path (reverse given)
+KeepsLatest (Some held) given = (path : List ℕ) → bytes_at path held.files ≡ bytes_at path (reverse given)
 
 -- the next call is to fail
-abbrev pub IsDue : Option ℕ → Type 0
+abbrev pub IsDue : Option PlannedFailure → Type 0
 IsDue None = ⊥
-IsDue (Some calls) = calls ≤ 1
+IsDue (Some failure) = failure.calls ≤ 1
 
--- how many calls are left up to the one that is to fail
-abbrev pub one_call_later : Option ℕ → Option ℕ
+-- the next call is to fail, and if it is a replace, with the new bytes in place
+abbrev pub IsDueToLand : Option PlannedFailure → Type 0
+IsDueToLand None = ⊥
+IsDueToLand (Some failure) = (failure.calls ≤ 1) × IsTrue failure.lands
+
+-- what the next call does
+abbrev pub IsTurn : Option PlannedFailure → Turn → Type 0
+IsTurn planned Works = IsDue planned → ⊥
+IsTurn planned Fails = IsDue planned × (IsDueToLand planned → ⊥)
+IsTurn planned Lands = IsDueToLand planned
+
+-- a failure is one call nearer after each call, and over with the one that fails
+abbrev pub one_call_later : Option PlannedFailure → Option PlannedFailure
 one_call_later None = None
-one_call_later (Some calls) = if nat_le calls 1 then None else Some (calls - 1)
+one_call_later (Some failure) = if nat_le failure.calls 1 then None else Some (record failure { calls = failure.calls - 1 })
 
--- a call that changes no file leaves the store with what it kept, and one call fewer up to the one that is to fail; a failure is counted
-abbrev pub after_call : {T E : Type 0} → MemoryOf → Result T E → MemoryOf
-after_call s result = record s {
+-- a call leaves the store with this; if it failed it is counted
+abbrev pub after_call : {T E : Type 0} → Held → MemoryOf → Result T E → MemoryOf
+after_call held s result = record {
+  held = held;
   failures = if is_err result then s.failures + 1 else s.failures;
-  calls_to_failure = one_call_later s.calls_to_failure;
+  planned = one_call_later s.planned;
 }
+
+-- a replace leaves the store with the new bytes; where it fails, with the old ones, or with the new if it was to fail so
+abbrev pub Replaces : {T E : Type 0} → Held → MemoryOf → MemoryOf → Result T E → Type 0
+Replaces replaced old new result = MatchResult result
+    (λ _. new ≡ after_call replaced old result)
+    (λ _. (new ≡ after_call old.held old result) ⊎ (IsDueToLand old.planned × (new ≡ after_call replaced old result)))

@@ -1,18 +1,26 @@
 //! Files in a folder.
 
-ghost use Rattle.std.specs.Prelude.{◌≡◌, ◌+◌, ◌-◌, ◌^◌, ◌<◌, [], IfOk, IsErr, None, map};
+ghost use Rattle.std.specs.Prelude.{◌≡◌, ◌⊎◌, ◌+◌, ◌-◌, ◌^◌, ◌<◌, [], IfOk, IsErr, OnErr, OnOk, map, option_map};
 ghost use Rattle.std.specs.String.{string_bytes};
-ghost use Rattle.proto_store.specs.Stores.{Counts, HoldsBytes, ListsPaths};
+ghost use Rattle.proto_store.specs.Stores.{Counts, HoldsBytes, HoldsJournal, ListsPaths, unknown, with_file, with_journal};
 
+use crate::replacing::{put_file, regular_file};
 use crate::store::{Store, StoreFault};
 use std::alloc::Global;
 use std::io::Read;
 use std::rt::Files;
 use std::{fs, io};
 
-/// The `.proto` files below a folder, as they lie there. Names that begin with a dot are passed over, and so is all
-/// that is neither a folder nor a regular file whose name ends in `.proto`. A root that is the empty word names no
-/// folder, so each call fails. No contract can say what a folder holds.
+// Names that begin with a dot are passed over, so the journal is never listed.
+const JOURNAL: &str = ".protoref-journal";
+
+// A journal is at most this long. One byte more is read, which tells that it is longer.
+const JOURNAL_BYTES: usize = 16_777_216;
+
+/// The `.proto` files below a folder, as they lie there, and the file `.protoref-journal` in it. Names that begin with a
+/// dot are passed over, and so is all that is neither a folder nor a regular file whose name ends in `.proto`. A root
+/// that is the empty word names no folder, so each call fails. No symbolic link below the root is followed. No contract
+/// can say what a folder holds.
 #[derive(Drop)]
 pub struct FolderStore<'a, R: Files + AllocGlobal> {
     rt: &'a R,
@@ -127,6 +135,101 @@ impl<'a, R: Files + AllocGlobal> FolderStore<'a, R> {
         }
         Ok(())
     }
+
+    // The path of the root, which is a folder or a symbolic link to one.
+    fn root_path(&self) -> io::Result<String>
+        ensures { self.now.root.now ≡ [] → IsErr result }
+    {
+        let root = self.full_path("")?;
+        if !fs::metadata(self.rt, root.as_str())?.is_dir() {
+            return Err(io::Error::from(io::ErrorKind::NotADirectory));
+        }
+        Ok(root)
+    }
+
+    // The full path of a file, where each part before the last is a folder that the walk goes through. That the last is
+    // a regular file is for the caller to see.
+    fn walked_path(&self, path: &str) -> io::Result<String>
+        ensures { self.now.root.now ≡ [] → IsErr result }
+    {
+        let mut full_path = self.root_path()?;
+        let mut is_root = true;
+        for part in path.split('/') {
+            if part.is_empty() || part.starts_with('.') {
+                return Err(io::Error::from(io::ErrorKind::InvalidFilename));
+            }
+            if !is_root && !fs::symlink_metadata(self.rt, full_path.as_str())?.is_dir() {
+                return Err(io::Error::from(io::ErrorKind::NotADirectory));
+            }
+            is_root = false;
+            full_path.push('/')?;
+            full_path.push_str(part)?;
+        }
+        Ok(full_path)
+    }
+
+    fn file_bytes(&self, path: &str) -> io::Result<Vec<u8>>
+        ensures { self.now.root.now ≡ [] → IsErr result }
+    {
+        let full_path = self.walked_path(path)?;
+        match regular_file(self.rt, full_path.as_str())? {
+            Some(_) => fs::read(self.rt, full_path.as_str()),
+            None => Err(io::Error::from(io::ErrorKind::NotFound)),
+        }
+    }
+
+    // A file that is not there is none of the list, and is not made.
+    fn put_bytes(&self, path: &str, bytes: &[u8]) -> io::Result<()>
+        ensures { self.now.root.now ≡ [] → IsErr result }
+    {
+        let full_path = self.walked_path(path)?;
+        match regular_file(self.rt, full_path.as_str())? {
+            Some(file) => put_file(self.rt, full_path.as_str(), Some(file.permissions()), bytes),
+            None => Err(io::Error::from(io::ErrorKind::NotFound)),
+        }
+    }
+
+    fn journal_path(&self) -> io::Result<String>
+        ensures { self.now.root.now ≡ [] → IsErr result }
+    {
+        let root = self.root_path()?;
+        joined(self.rt.alloc(), root.as_str(), JOURNAL)
+    }
+
+    // The bytes of the journal, up to the first that is too many.
+    fn journal_bytes(&self) -> io::Result<Vec<u8>>
+        ensures { self.now.root.now ≡ [] → IsErr result }
+    {
+        let path = self.journal_path()?;
+        let mut bytes = Vec::new(self.rt.alloc());
+        if regular_file(self.rt, path.as_str())?.is_none() {
+            return Ok(bytes);
+        }
+        let mut reader = fs::File::open(self.rt, path.as_str())?;
+        let mut buffer = [0u8; 65536];
+        for _ in 0..u64::MAX {
+            let room = (JOURNAL_BYTES + 1)
+                .saturating_sub(bytes.len())
+                .min(buffer.len());
+            let count = reader.read(&mut buffer[..room])?;
+            if count == 0 {
+                break;
+            }
+            bytes.extend_from_slice(&buffer[..count])?;
+        }
+        Ok(bytes)
+    }
+
+    fn put_journal(&self, bytes: &[u8]) -> io::Result<()>
+        ensures { self.now.root.now ≡ [] → IsErr result }
+    {
+        let path = self.journal_path()?;
+        let permissions = match regular_file(self.rt, path.as_str())? {
+            Some(file) => Some(file.permissions()),
+            None => None,
+        };
+        put_file(self.rt, path.as_str(), permissions, bytes)
+    }
 }
 
 // A path below a folder, where either may be empty.
@@ -140,13 +243,13 @@ fn joined(alloc: Global, folder: &str, path: &str) -> io::Result<String> {
 }
 
 impl<R: Files + AllocGlobal> Store for FolderStore<'_, R> {
-    ghost files = { λ _. None };
+    ghost holds = { λ _. unknown };
 
     ghost failure_count = { λ s. s.failures };
 
     fn list(&mut self) -> Result<Vec<String>, StoreFault>
         requires { self.old.failures < 2 ^ 64 - 1 }
-        ensures paths { IfOk result (λ paths. ListsPaths None (map string_bytes paths.items)) }
+        ensures paths { IfOk result (λ paths. ListsPaths unknown (map string_bytes paths.items)) }
         ensures nowhere { self.old.root.now ≡ [] → IsErr result }
         ensures root { self.new.root.now ≡ self.old.root.now }
         ensures count { Counts self.old.failures self.new.failures result }
@@ -159,17 +262,59 @@ impl<R: Files + AllocGlobal> Store for FolderStore<'_, R> {
 
     fn read(&mut self, path: &str) -> Result<Vec<u8>, StoreFault>
         requires { self.old.failures < 2 ^ 64 - 1 }
-        ensures bytes { IfOk result (λ bytes. HoldsBytes None path.now bytes.items) }
+        ensures bytes { IfOk result (λ bytes. HoldsBytes unknown path.now bytes.items) }
         ensures nowhere { self.old.root.now ≡ [] → IsErr result }
         ensures root { self.new.root.now ≡ self.old.root.now }
         ensures count { Counts self.old.failures self.new.failures result }
     {
-        if let Ok(full_path) = self.full_path(path)
-            && let Ok(bytes) = fs::read(self.rt, full_path.as_str())
-        {
-            return Ok(bytes);
+        match self.file_bytes(path) {
+            Ok(bytes) => Ok(bytes),
+            Err(_) => Err(self.fault()),
         }
-        Err(self.fault())
+    }
+
+    /// Writes a second file, brings it to the disk, gives it the mode of the first and its name.
+    fn replace(&mut self, path: &str, bytes: &[u8]) -> Result<(), StoreFault>
+        requires { self.old.failures < 2 ^ 64 - 1 }
+        ensures ok { OnOk result (unknown ≡ option_map (with_file path.now bytes.now) unknown) }
+        ensures err { OnErr result ((unknown ≡ unknown) ⊎ (unknown ≡ option_map (with_file path.now bytes.now) unknown)) }
+        ensures nowhere { self.old.root.now ≡ [] → IsErr result }
+        ensures root { self.new.root.now ≡ self.old.root.now }
+        ensures count { Counts self.old.failures self.new.failures result }
+    {
+        match self.put_bytes(path, bytes) {
+            Ok(()) => Ok(()),
+            Err(_) => Err(self.fault()),
+        }
+    }
+
+    /// The bytes of `.protoref-journal`. Of one that is longer than 16,777,216 bytes one byte more than these.
+    fn read_journal(&mut self) -> Result<Vec<u8>, StoreFault>
+        requires { self.old.failures < 2 ^ 64 - 1 }
+        ensures bytes { IfOk result (λ bytes. HoldsJournal unknown bytes.items) }
+        ensures nowhere { self.old.root.now ≡ [] → IsErr result }
+        ensures root { self.new.root.now ≡ self.old.root.now }
+        ensures count { Counts self.old.failures self.new.failures result }
+    {
+        match self.journal_bytes() {
+            Ok(bytes) => Ok(bytes),
+            Err(_) => Err(self.fault()),
+        }
+    }
+
+    /// As `replace`. A journal that was not there is of mode 0644 but for the umask.
+    fn replace_journal(&mut self, bytes: &[u8]) -> Result<(), StoreFault>
+        requires { self.old.failures < 2 ^ 64 - 1 }
+        ensures ok { OnOk result (unknown ≡ option_map (with_journal bytes.now) unknown) }
+        ensures err { OnErr result ((unknown ≡ unknown) ⊎ (unknown ≡ option_map (with_journal bytes.now) unknown)) }
+        ensures nowhere { self.old.root.now ≡ [] → IsErr result }
+        ensures root { self.new.root.now ≡ self.old.root.now }
+        ensures count { Counts self.old.failures self.new.failures result }
+    {
+        match self.put_journal(bytes) {
+            Ok(()) => Ok(()),
+            Err(_) => Err(self.fault()),
+        }
     }
 
     fn failures(&self) -> u64

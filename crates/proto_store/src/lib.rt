@@ -1,8 +1,9 @@
-//! Where files are kept by their paths: the trait, a store in memory and a store in a folder.
+//! Where files and a journal are kept: the trait, a store in memory and a store in a folder.
 #![tactic(auto)]
 
 mod folder;
 mod memory;
+mod replacing;
 mod store;
 
 pub use folder::FolderStore;

@@ -1,10 +1,9 @@
-//! Where schema files are kept.
+//! Where schema files are kept, with the journal of their edits.
 
-ghost use Rattle.std.specs.Prelude.{◌≡◌, ℕ, ◌-◌, ◌^◌, ◌<◌, List, IfOk, codes, map};
+ghost use Rattle.std.specs.Prelude.{◌≡◌, ◌⊎◌, ℕ, ◌-◌, ◌^◌, ◌<◌, List, IfOk, OnOk, OnErr, codes, map, option_map};
 ghost use Rattle.std.specs.declared.option.Option.{Option};
 ghost use Rattle.std.specs.String.{string_bytes};
-ghost use Rattle.proto_files.specs.GivenFiles.{FileOf};
-ghost use Rattle.proto_store.specs.Stores.{Counts, HoldsBytes, IsListed, ListsPaths};
+ghost use Rattle.proto_store.specs.Stores.{Counts, Held, HoldsBytes, HoldsJournal, IsListed, ListsPaths, with_file, with_journal};
 
 use thiserror::Error;
 
@@ -33,10 +32,11 @@ impl StoreFault {
     }
 }
 
-/// A place that keeps files by their paths.
+/// A place that keeps files by their paths, and a journal. A call that fails is counted. It leaves all as it was, but
+/// that a replace which fails may leave the new bytes.
 pub trait Store {
-    /// Its files in the order of their paths, each path once, where they are known.
-    ghost files: { Self → Option (List FileOf) };
+    /// What it holds, where that is known.
+    ghost holds: { Self → Option Held };
 
     /// How many calls have failed.
     ghost failure_count: { Self → ℕ };
@@ -44,16 +44,42 @@ pub trait Store {
     /// The paths of all files, each once, in any order.
     fn list(&mut self) -> Result<Vec<String>, StoreFault>
         requires { failure_count self.old < 2 ^ 64 - 1 }
-        ensures paths { IfOk result (λ paths. ListsPaths (files self.old) (map string_bytes paths.items)) }
-        ensures same { files self.new ≡ files self.old }
+        ensures paths { IfOk result (λ paths. ListsPaths (holds self.old) (map string_bytes paths.items)) }
+        ensures same { holds self.new ≡ holds self.old }
         ensures count { Counts (failure_count self.old) (failure_count self.new) result };
 
     /// The bytes of the file at a path that `list` answers.
     fn read(&mut self, path: &str) -> Result<Vec<u8>, StoreFault>
         requires room { failure_count self.old < 2 ^ 64 - 1 }
-        requires listed { IsListed (files self.old) path.now }
-        ensures bytes { IfOk result (λ bytes. HoldsBytes (files self.old) path.now bytes.items) }
-        ensures same { files self.new ≡ files self.old }
+        requires listed { IsListed (holds self.old) path.now }
+        ensures bytes { IfOk result (λ bytes. HoldsBytes (holds self.old) path.now bytes.items) }
+        ensures same { holds self.new ≡ holds self.old }
+        ensures count { Counts (failure_count self.old) (failure_count self.new) result };
+
+    /// Puts the bytes in the place of those of the file at a path that `list` answers. Other files and the journal
+    /// stay. Where it fails, the file has its old bytes or the new ones.
+    fn replace(&mut self, path: &str, bytes: &[u8]) -> Result<(), StoreFault>
+        requires room { failure_count self.old < 2 ^ 64 - 1 }
+        requires listed { IsListed (holds self.old) path.now }
+        ensures ok { OnOk result (holds self.new ≡ option_map (with_file path.now bytes.now) (holds self.old)) }
+        ensures err { OnErr result ((holds self.new ≡ holds self.old)
+            ⊎ (holds self.new ≡ option_map (with_file path.now bytes.now) (holds self.old))) }
+        ensures count { Counts (failure_count self.old) (failure_count self.new) result };
+
+    /// The bytes of the journal. One that is not there is empty.
+    fn read_journal(&mut self) -> Result<Vec<u8>, StoreFault>
+        requires { failure_count self.old < 2 ^ 64 - 1 }
+        ensures bytes { IfOk result (λ bytes. HoldsJournal (holds self.old) bytes.items) }
+        ensures same { holds self.new ≡ holds self.old }
+        ensures count { Counts (failure_count self.old) (failure_count self.new) result };
+
+    /// Puts the bytes in the place of those of the journal. The files stay. Where it fails, the journal has its old
+    /// bytes or the new ones.
+    fn replace_journal(&mut self, bytes: &[u8]) -> Result<(), StoreFault>
+        requires { failure_count self.old < 2 ^ 64 - 1 }
+        ensures ok { OnOk result (holds self.new ≡ option_map (with_journal bytes.now) (holds self.old)) }
+        ensures err { OnErr result ((holds self.new ≡ holds self.old)
+            ⊎ (holds self.new ≡ option_map (with_journal bytes.now) (holds self.old))) }
         ensures count { Counts (failure_count self.old) (failure_count self.new) result };
 
     /// How many calls have failed.

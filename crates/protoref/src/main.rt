@@ -1,6 +1,7 @@
-//! `protoref`: a compiler and a linter of Protocol Buffers schemas.
+//! `protoref`: a compiler, a linter and an editor of Protocol Buffers schemas.
 #![tactic(auto)]
 
+use proto_edit::Edit;
 use proto_output::write_text;
 use proto_store::FolderStore;
 use protoref_run::{Command, RunFault, fault_line, run};
@@ -28,15 +29,51 @@ fn answer<R: Files + Env + Print + AllocGlobal>(rt: &R) -> Result<u8, &'static s
         Err(fault) => Err(fault),
     };
     match request {
-        Ok(Request::Help(text)) => match write_text(&mut io::writer(rt), text.as_str().as_bytes()) {
-            Ok(()) => Ok(0),
-            Err(_) => Err(fault_line(&RunFault::Output)),
-        },
-        Ok(Request::Compile { root }) => run_over(rt, Command::Compile, root.as_str()),
-        Ok(Request::Lint { root, rules }) => run_over(rt, Command::Lint(rules), root.as_str()),
+        Ok(request) => carry_out(rt, request),
         Err(WordsFault::BadCommandLine) => Err(BAD_COMMAND_LINE),
         Err(WordsFault::NoMemory) => Err(fault_line(&RunFault::NoMemory)),
     }
+}
+
+fn carry_out<R: Files + Print + AllocGlobal>(rt: &R, request: Request) -> Result<u8, &'static str> {
+    match request {
+        Request::Help(text) => match write_text(&mut io::writer(rt), text.as_str().as_bytes()) {
+            Ok(()) => Ok(0),
+            Err(_) => Err(fault_line(&RunFault::Output)),
+        },
+        Request::Compile { root } => run_over(rt, Command::Compile, root.as_str()),
+        Request::Lint { root, rules } => run_over(rt, Command::Lint(rules), root.as_str()),
+        Request::Rename { root, name, to } => edit_over(
+            rt,
+            Edit::Rename { name, to },
+            root.as_str(),
+        ),
+        Request::DeleteField { root, name } => edit_over(
+            rt,
+            Edit::DeleteField { name },
+            root.as_str(),
+        ),
+        Request::AddImport { root, file, path } => edit_over(
+            rt,
+            Edit::AddImport { file, path },
+            root.as_str(),
+        ),
+        Request::DropImport { root, file, path } => edit_over(
+            rt,
+            Edit::DropImport { file, path },
+            root.as_str(),
+        ),
+        Request::Undo { root } => run_over(rt, Command::Undo, root.as_str()),
+        Request::Log { root } => run_over(rt, Command::Log, root.as_str()),
+    }
+}
+
+fn edit_over<R: Files + Print + AllocGlobal>(
+    rt: &R,
+    edit: Edit,
+    root: &str,
+) -> Result<u8, &'static str> {
+    run_over(rt, Command::Edit(edit), root)
 }
 
 // The words of the command line, where they are texts.

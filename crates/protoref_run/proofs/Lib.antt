@@ -1,2 +1,1 @@
-mod Faulted
-pub mod Printing
+mod Printing

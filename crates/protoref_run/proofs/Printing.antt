@@ -1,54 +1,98 @@
 -- What is printed over files that compile, and over others.
-use Rattle.std.proofs.Common.{◌≡◌, List, ◌++◌, IfOk, codes, sym, ap, subst, ◌∙◌}
-use Rattle.std.specs.Prelude.{Option, Some, None, Result, Ok, Err, string_bytes}
+use Rattle.std.specs.Io.KnownBytes.{Keeps}
+use Rattle.std.proofs.Common.{◌≡◌, ℕ, List, ◌++◌, IfErr, IfOk, codes, refl, sym, ap, subst, ◌∙◌}
+use Rattle.std.specs.Prelude.{Option, Some, None, Result, Ok, Err}
 use Rattle.proto_json.specs.Descriptors.{FileDesc}
 use Rattle.proto_json.specs.DescriptorText.{json_text}
-use Rattle.proto_desc.specs.Checked.{AreDescribed, described}
+use Rattle.proto_desc.specs.Checked.{AreDescribed}
 use Rattle.proto_files.specs.Faults.{FaultAt, HasNoFault, IsLeastFault}
 use Rattle.proto_files.specs.FilesRead.{ReadOf, AreRead}
-use Rattle.proto_schema.specs.Whole.{IsSortedOf, WorkspaceFaults}
 use Rattle.proto_files.specs.GivenFiles.{FileOf}
-use Rattle.protoref_run.specs.declared.answer.Answer.{Answer}
+use Rattle.proto_findings.specs.declared.rule_set.RuleSet.{RuleSet}
+use Rattle.proto_output.specs.Answers.{status_of, text_of}
+use Rattle.proto_output.specs.FaultLines.{IsLineOver}
+use Rattle.proto_output.specs.declared.answer.Answer.{Answer}
+use Rattle.proto_output.specs.declared.run_fault.RunFault.{RunFault}
+use Rattle.proto_output.specs.declared.run_fault.RunFault.TheVariants as ends
+use Rattle.proto_output.specs.declared.status.Status.{Status}
+use Rattle.proto_output.specs.declared.status.Status.TheVariants.{Done, Problem}
+use Rattle.proto_schema.specs.Whole.{IsSortedOf, WorkspaceFaults}
+use Rattle.proto_store.specs.Stores.{Held, HoldsFiles}
+use Rattle.protoref_run.specs.Commands.{Answers, Ran}
+use Rattle.protoref_run.specs.Linted.{IsLintOf, of_findings, of_fault}
+use Rattle.protoref_run.specs.Printed.{Opens, PrintsCompiled}
 use Rattle.protoref_run.specs.declared.command.Command.{Command}
-use Rattle.protoref_run.specs.declared.command.Command.TheVariants.{Compile, Lint}
-use Rattle.protoref_run.specs.declared.fault.RunFault.{RunFault}
-use Rattle.protoref_run.specs.declared.command.Status.{Status}
-use Rattle.protoref_run.specs.declared.command.Status.TheVariants.{Done, Problem}
-use Rattle.proto_output.specs.FaultLines.{IsLine, IsLineOver}
-use Rattle.protoref_run.specs.Linted.{PrintsLinted, of_findings, of_fault}
-use Rattle.protoref_run.specs.Printed.{IsAnswerOver, PrintsOver, PrintsCompiled, IsCompiledText}
-use Rattle.proto_store.specs.Stores.{HoldsFiles}
+use Rattle.protoref_run.specs.declared.command.Command.TheVariants as asked
+use Rattle.protoref_run.specs.declared.opening.Opening.TheVariants.{Whole, Faulty}
 
--- the text of descriptors is the answer
-pub described_answers : (w : List FileOf) (ds : List FileDesc) (r : Result Answer RunFault) → AreDescribed w ds → (reads : List ReadOf) × AreRead w reads
-    → IfOk r (λ a. string_bytes a.text ≡ json_text ds ++ codes "\n") → IfOk r (λ a. a.status ≡ Done) → IfOk r (λ a. IsAnswerOver Compile w (string_bytes a.text) a.status)
-described_answers w ds (Ok a) d e t s = (e.0, e.1, t ∙ ap (λ (l : List FileDesc). json_text l ++ codes "\n") (d e.0 e.1), s)
-described_answers w ds (Err x) d e t s = tt
+-- ---- how schemas are opened
 
-over : (command : Command) (held : Option (List FileOf)) (given w : List FileOf) (text : List _) (status : Status) → HoldsFiles held given → IsSortedOf given w → HasNoFault (WorkspaceFaults given)
-    → IsAnswerOver command w text status → PrintsOver command held text status
-over command None given w text status h o n a = tt
-over Compile (Some files) given w text status h o n (reads, are, t, s) =
-    subst (λ (z : Status). PrintsCompiled files text z) (sym s)
-    (subst (λ (z : List FileOf). IsCompiledText z text) h (record { sorted = w; reads = reads; in_order = o; are_read = are; clean = n; text_is = t }))
-over (Lint rules) (Some files) given w text status h o n a = subst (λ (z : List FileOf). PrintsLinted z rules.chosen text status) h (of_findings w o n a)
+pub opens_whole : (held : Option Held) (given w : List FileOf) → HoldsFiles held given → IsSortedOf given w → HasNoFault (WorkspaceFaults given) → Opens held (Whole w)
+opens_whole None given w h sorted clean = tt
+opens_whole (Some held) given w h sorted clean =
+    (subst (λ (z : List FileOf). IsSortedOf z w) h sorted, subst (λ (z : List FileOf). HasNoFault (WorkspaceFaults z)) h clean)
 
--- an answer over files that compile is what the command prints
-pub answer_prints : (command : Command) (held : Option (List FileOf)) (given w : List FileOf) (r : Result Answer RunFault) → HoldsFiles held given → IsSortedOf given w → HasNoFault (WorkspaceFaults given)
-    → IfOk r (λ a. IsAnswerOver command w (string_bytes a.text) a.status) → IfOk r (λ a. PrintsOver command held (string_bytes a.text) a.status)
-answer_prints command held given w (Ok a) h o n p = over command held given w (string_bytes a.text) a.status h o n p
-answer_prints command held given w (Err x) h o n p = tt
+pub opens_faulty : (held : Option Held) (given : List FileOf) (fault : FaultAt) (a : Answer) → HoldsFiles held given → IsLeastFault (WorkspaceFaults given) fault
+    → IsLineOver held fault (text_of a) → status_of a ≡ Problem → Opens held (Faulty a)
+opens_faulty None given fault a h least line s = (s, tt)
+opens_faulty (Some held) given fault a h least line s = (s, (fault, subst (λ (z : List FileOf). IsLeastFault (WorkspaceFaults z) fault) h least, line))
 
-over_fault : (command : Command) (held : Option (List FileOf)) (given : List FileOf) (fault : FaultAt) (text : List _) (status : Status) → HoldsFiles held given
-    → IsLeastFault (WorkspaceFaults given) fault → IsLineOver held fault text → status ≡ Problem → PrintsOver command held text status
-over_fault command None given fault text status h least line s = tt
-over_fault Compile (Some files) given fault text status h least line s =
-    subst (λ (z : Status). PrintsCompiled files text z) (sym s) (fault, subst (λ (z : List FileOf). IsLeastFault (WorkspaceFaults z) fault) h least, line)
-over_fault (Lint rules) (Some files) given fault text status h least line s = of_fault fault (subst (λ (z : List FileOf). IsLeastFault (WorkspaceFaults z) fault) h least) line s
+-- ---- compile
 
--- so is the line of the least fault over others
-pub fault_prints : (command : Command) (held : Option (List FileOf)) (given : List FileOf) (fault : FaultAt) (r : Result Answer RunFault) → HoldsFiles held given
-    → IsLeastFault (WorkspaceFaults given) fault → IfOk r (λ a. IsLineOver held fault (string_bytes a.text)) → IfOk r (λ a. a.status ≡ Problem)
-    → IfOk r (λ a. PrintsOver command held (string_bytes a.text) a.status)
-fault_prints command held given fault (Ok a) h least line s = over_fault command held given fault (string_bytes a.text) a.status h least line s
-fault_prints command held given fault (Err x) h least line s = tt
+-- over files that compile
+pub described_prints : (before after : Option Held) (w : List FileOf) (ds : List FileDesc) (r : Result Answer RunFault) → Opens before (Whole w) → after ≡ before
+    → AreDescribed w ds → (reads : List ReadOf) × AreRead w reads
+    → IfOk r (λ a. text_of a ≡ json_text ds ++ codes "\n") → IfOk r (λ a. status_of a ≡ Done) → IfErr r (λ e. e ≡ ends.NoMemory) → Answers asked.Compile before after r
+described_prints None after w ds (Ok a) opens same d e t s m = (same, tt)
+described_prints (Some held) after w ds (Ok a) opens same d e t s m = (
+  same,
+  subst (λ (z : Status). PrintsCompiled held.files (text_of a) z) (sym s)
+      (record {
+        sorted = w;
+        reads = e.0;
+        in_order = opens.0;
+        are_read = e.1;
+        clean = opens.1;
+        text_is = t ∙ ap (λ (l : List FileDesc). json_text l ++ codes "\n") (d e.0 e.1);
+      }),
+)
+described_prints before after w ds (Err ends.Store) opens same d e t s m = same
+described_prints before after w ds (Err ends.NoMemory) opens same d e t s m = same
+described_prints before after w ds (Err ends.Output) opens same d e t s m = cc
+
+-- over others
+pub faulty_compiles : (before after : Option Held) (a : Answer) → Opens before (Faulty a) → after ≡ before → Answers asked.Compile before after (Ok a)
+faulty_compiles None after a opens same = (same, tt)
+faulty_compiles (Some held) after a opens same = (same, subst (λ (z : Status). PrintsCompiled held.files (text_of a) z) (sym opens.0) opens.1)
+
+-- ---- lint
+
+pub linted_prints : (before after : Option Held) (w : List FileOf) (rules : RuleSet) (r : Result Answer RunFault) → Opens before (Whole w) → after ≡ before
+    → IfOk r (λ a. IsLintOf w rules.chosen (text_of a) (status_of a)) → IfErr r (λ e. e ≡ ends.NoMemory) → Answers (asked.Lint rules) before after r
+linted_prints None after w rules (Ok a) opens same l m = (same, tt)
+linted_prints (Some held) after w rules (Ok a) opens same l m = (same, of_findings w opens.0 opens.1 l)
+linted_prints before after w rules (Err ends.Store) opens same l m = same
+linted_prints before after w rules (Err ends.NoMemory) opens same l m = same
+linted_prints before after w rules (Err ends.Output) opens same l m = cc
+
+pub faulty_lints : (before after : Option Held) (rules : RuleSet) (a : Answer) → Opens before (Faulty a) → after ≡ before → Answers (asked.Lint rules) before after (Ok a)
+faulty_lints None after rules a opens same = (same, tt)
+faulty_lints (Some held) after rules a opens same = let f = opens.1 in (same, of_fault f.0 f.1 f.2 opens.0)
+
+-- ---- a call that ends before anything is answered
+
+pub ends_uncompiled : (before after : Option Held) (x : RunFault) → (x ≡ ends.Output → ⊥) → after ≡ before → Answers asked.Compile before after (Err x)
+ends_uncompiled before after ends.Store plain same = same
+ends_uncompiled before after ends.NoMemory plain same = same
+ends_uncompiled before after ends.Output plain same = plain refl
+
+pub ends_unlinted : (before after : Option Held) (rules : RuleSet) (x : RunFault) → (x ≡ ends.Output → ⊥) → after ≡ before → Answers (asked.Lint rules) before after (Err x)
+ends_unlinted before after rules ends.Store plain same = same
+ends_unlinted before after rules ends.NoMemory plain same = same
+ends_unlinted before after rules ends.Output plain same = plain refl
+
+-- nothing is written
+pub ran_early : (command : Command) (before after : Option Held) (old new : Option (List ℕ)) (x : RunFault) → Answers command before after (Err x) → Keeps old new → Ran command before after old new (Err x)
+ran_early command before after old new ends.Store a kept = (a, kept)
+ran_early command before after old new ends.NoMemory a kept = (a, kept)
+ran_early command before after old new ends.Output a kept = absurd a

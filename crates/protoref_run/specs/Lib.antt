@@ -1,2 +1,3 @@
+pub mod Commands
 pub mod Linted
 pub mod Printed

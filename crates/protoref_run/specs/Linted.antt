@@ -8,8 +8,8 @@ use Rattle.proto_files.specs.FilesRead.{ReadOf, AreRead}
 use Rattle.proto_output.specs.FaultLines.{IsLine}
 use Rattle.proto_output.specs.FoundLines.{found_line}
 use Rattle.proto_schema.specs.Whole.{IsSortedOf, WorkspaceFaults}
-use Rattle.protoref_run.specs.declared.command.Status.{Status}
-use Rattle.protoref_run.specs.declared.command.Status.TheVariants.{Done, Problem}
+use Rattle.proto_output.specs.declared.status.Status.{Status}
+use Rattle.proto_output.specs.declared.status.Status.TheVariants.{Done, Problem}
 
 -- something found is a problem
 abbrev pub status_over : List FindingOf → Status

@@ -3,9 +3,9 @@
 
 mod answer;
 mod command;
-mod fault;
+mod opening;
 mod running;
 
-pub use command::{Command, Status};
-pub use fault::{RunFault, fault_line};
+pub use command::Command;
+pub use proto_output::{RunFault, Status, fault_line};
 pub use running::run;

@@ -121,15 +121,93 @@ fn refuses_rules_and_commands_that_are_not_there(rt: HostRuntime) -> Result<(), 
             "protoref lint . --help",
             "protoref lint . -x",
             "protoref lint -- . IMPORT_USED",
-            "protoref rename . A B",
-            "protoref delete-field . A",
-            "protoref add-import . a.proto b.proto",
-            "protoref drop-import . a.proto b.proto",
-            "protoref undo .",
-            "protoref log .",
             "protoref recover .",
+            "protoref migrate .",
+            "protoref Rename . A B",
+            "protoref delete_field . A",
+            "protoref redo .",
         ],
     )
+}
+
+#[test]
+fn refuses_edits_with_too_few_or_too_many_words(rt: HostRuntime) -> Result<(), Fail> {
+    expect_refused(
+        &rt,
+        &[
+            "protoref rename",
+            "protoref rename . A",
+            "protoref rename . A B C",
+            "protoref delete-field .",
+            "protoref delete-field . A B",
+            "protoref add-import . a.proto",
+            "protoref add-import . a.proto b.proto c.proto",
+            "protoref drop-import . a.proto",
+            "protoref drop-import . a.proto b.proto c.proto",
+            "protoref undo",
+            "protoref undo . .",
+            "protoref undo . --help",
+            "protoref log",
+            "protoref log . 1",
+        ],
+    )
+}
+
+// The words of an edit, of an undo and of the log, joined by `|`.
+fn told(alloc: Global, request: &Request) -> Result<Option<String>, Fail> {
+    let text = match request {
+        Request::Rename { root, name, to } => format!(in alloc; "rename|{root}|{name}|{to}")?,
+        Request::DeleteField { root, name } => format!(in alloc; "delete-field|{root}|{name}")?,
+        Request::AddImport { root, file, path } => {
+            format!(in alloc; "add-import|{root}|{file}|{path}")?
+        }
+        Request::DropImport { root, file, path } => {
+            format!(in alloc; "drop-import|{root}|{file}|{path}")?
+        }
+        Request::Undo { root } => format!(in alloc; "undo|{root}")?,
+        Request::Log { root } => format!(in alloc; "log|{root}")?,
+        _ => return Ok(None),
+    };
+    Ok(Some(text))
+}
+
+#[test]
+fn takes_the_words_of_edits_as_they_stand(rt: HostRuntime) -> Result<(), Fail> {
+    for (words, wanted) in [
+        ("protoref rename . A.b_c d_e", "rename|.|A.b_c|d_e"),
+        ("protoref rename . A -x", "rename|.|A|-x"),
+        ("protoref rename -r --name --", "rename|-r|--name|--"),
+        ("protoref rename . A -h", "rename|.|A|-h"),
+        ("protoref rename . A --help", "rename|.|A|--help"),
+        ("protoref rename   ", "rename|||"),
+        ("protoref delete-field a/b p.M.f", "delete-field|a/b|p.M.f"),
+        ("protoref delete-field --x -f", "delete-field|--x|-f"),
+        (
+            "protoref add-import . a.proto b.proto",
+            "add-import|.|a.proto|b.proto",
+        ),
+        (
+            "protoref add-import . --file=a --path=b",
+            "add-import|.|--file=a|--path=b",
+        ),
+        (
+            "protoref drop-import . a.proto b.proto",
+            "drop-import|.|a.proto|b.proto",
+        ),
+        ("protoref undo .", "undo|."),
+        ("protoref undo undo", "undo|undo"),
+        ("protoref log -l", "log|-l"),
+        ("protoref log --", "log|--"),
+    ] {
+        let Ok(request) = read(rt.alloc(), words)? else {
+            panic!(rt; "refused: {words}");
+        };
+        let Some(text) = told(rt.alloc(), &request)? else {
+            panic!(rt; "{request:?} at {words}");
+        };
+        assert_eq!(rt; text.as_str(), wanted, "at {words}");
+    }
+    Ok(())
 }
 
 #[test]
@@ -144,6 +222,13 @@ fn gives_help(rt: HostRuntime) -> Result<(), Fail> {
         "protoref compile --help . .",
         "protoref lint -h",
         "protoref lint --help . NO_SUCH",
+        "protoref rename -h",
+        "protoref rename --help . A B",
+        "protoref delete-field -h",
+        "protoref add-import --help",
+        "protoref drop-import -h",
+        "protoref undo --help",
+        "protoref log -h",
     ] {
         match read(rt.alloc(), words)? {
             Ok(Request::Help(text)) => {
@@ -152,5 +237,47 @@ fn gives_help(rt: HostRuntime) -> Result<(), Fail> {
             other => panic!(rt; "{other:?} at {words}"),
         }
     }
+    Ok(())
+}
+
+#[test]
+fn gives_an_example_of_each_command(rt: HostRuntime) -> Result<(), Fail> {
+    for (words, wanted) in [
+        ("protoref compile -h", "Example: protoref compile "),
+        ("protoref lint -h", "Example: protoref lint "),
+        ("protoref rename -h", "Example: protoref rename "),
+        (
+            "protoref delete-field -h",
+            "Example: protoref delete-field ",
+        ),
+        ("protoref add-import -h", "Example: protoref add-import "),
+        ("protoref drop-import -h", "Example: protoref drop-import "),
+        ("protoref undo -h", "Example: protoref undo "),
+        ("protoref log -h", "Example: protoref log "),
+    ] {
+        match read(rt.alloc(), words)? {
+            Ok(Request::Help(text)) => assert!(rt; text.as_str().contains(wanted), "at {words}"),
+            other => panic!(rt; "{other:?} at {words}"),
+        }
+    }
+    Ok(())
+}
+
+#[test]
+fn tells_of_each_rule_in_a_line(rt: HostRuntime) -> Result<(), Fail> {
+    let Ok(Request::Help(text)) = read(rt.alloc(), "protoref lint --help")? else {
+        panic!(rt; "no help");
+    };
+    let mut rules = RuleSet::none();
+    let mut count = 0;
+    for line in text.as_str().lines() {
+        let name = line.trim_start().split(' ').next().unwrap_or("");
+        if let Some(rule) = Rule::from_name(name) {
+            rules.insert(rule);
+            count += 1;
+        }
+    }
+    assert_eq!(rt; count, 27);
+    assert!(rt; rules == RuleSet::all());
     Ok(())
 }

@@ -75,7 +75,7 @@ fn stops_where_the_store_fails(rt: HostRuntime) -> Result<(), Fail> {
     let range = "syntax = \"proto3\"; message A { string b = 19000; }";
     for (text, call) in [(ROW, 1), (ROW, 2), (range, 1), (range, 2), (range, 3)] {
         let mut store = store_of(rt.alloc(), &[("a.proto", text)])?;
-        store.fail_at(call);
+        store.fail_at(call, false);
         let mut writer = Pipe::new(rt.alloc(), 4096, 4096);
         assert_eq!(rt;
             run_into(&rt, Command::Compile, &mut store, &mut writer),

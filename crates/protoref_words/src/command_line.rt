@@ -1,9 +1,9 @@
 //! The words of the command line.
 
+use crate::commands::program;
 use crate::request::{Request, WordsFault};
+use clap::ArgMatches;
 use clap::error::ErrorKind;
-use clap::{Arg, ArgAction, ArgMatches, Command};
-use proto_faults::NoMemory;
 use proto_lint::{Rule, RuleSet};
 use std::alloc::Global;
 
@@ -20,34 +20,6 @@ pub fn read_words(alloc: Global, words: &[String]) -> Result<Request, WordsFault
             _ => Err(WordsFault::BadCommandLine),
         },
     }
-}
-
-fn program<'a>(alloc: Global) -> Result<Command<'a>, NoMemory> {
-    let compile = Command::new(alloc, "compile")
-        .about("Prints the descriptors of the schemas as JSON")
-        .arg(root_argument(alloc))?;
-    let rules = Arg::new(alloc, "RULE")
-        .help("The rules that are asked; all, where none is named")
-        .num_args(0..)
-        .action(ArgAction::Append);
-    let lint = Command::new(alloc, "lint")
-        .about("Prints what lint rules find in the schemas")
-        .arg(root_argument(alloc))?
-        .arg(rules)?;
-    let program = Command::new(alloc, "protoref")
-        .about("Compiles and lints Protocol Buffers schemas")
-        .disable_help_subcommand(true)
-        .subcommand_required(true)
-        .subcommand(compile)?
-        .subcommand(lint)?;
-    Ok(program)
-}
-
-fn root_argument<'a>(alloc: Global) -> Arg<'a> {
-    Arg::new(alloc, "ROOT")
-        .help("The folder of the schemas")
-        .required(true)
-        .action(ArgAction::Set)
 }
 
 // The words for `clap`, with `--` before those that are texts.
@@ -74,17 +46,53 @@ fn request_of(alloc: Global, matches: &ArgMatches<'_>) -> Result<Request, WordsF
     let Some((command, matches)) = matches.subcommand() else {
         return Err(WordsFault::BadCommandLine);
     };
-    let Some(root) = matches.get_str("ROOT") else {
-        return Err(WordsFault::BadCommandLine);
-    };
-    let root = String::from_str(alloc, root)?;
+    let root = text_of(alloc, matches, "ROOT")?;
     match command {
         "compile" => Ok(Request::Compile { root }),
         "lint" => {
             let rules = rules_of(matches.get_strs("RULE").unwrap_or(&[]))?;
             Ok(Request::Lint { root, rules })
         }
+        "rename" | "delete-field" => edit_of_name(alloc, command, matches, root),
+        "add-import" | "drop-import" => edit_of_import(alloc, command, matches, root),
+        "undo" => Ok(Request::Undo { root }),
+        "log" => Ok(Request::Log { root }),
         _ => Err(WordsFault::BadCommandLine),
+    }
+}
+
+fn edit_of_name(
+    alloc: Global,
+    command: &str,
+    matches: &ArgMatches<'_>,
+    root: String,
+) -> Result<Request, WordsFault> {
+    let name = text_of(alloc, matches, "NAME")?;
+    if command == "delete-field" {
+        return Ok(Request::DeleteField { root, name });
+    }
+    let to = text_of(alloc, matches, "TO")?;
+    Ok(Request::Rename { root, name, to })
+}
+
+fn edit_of_import(
+    alloc: Global,
+    command: &str,
+    matches: &ArgMatches<'_>,
+    root: String,
+) -> Result<Request, WordsFault> {
+    let file = text_of(alloc, matches, "FILE")?;
+    let path = text_of(alloc, matches, "PATH")?;
+    if command == "drop-import" {
+        return Ok(Request::DropImport { root, file, path });
+    }
+    Ok(Request::AddImport { root, file, path })
+}
+
+fn text_of(alloc: Global, matches: &ArgMatches<'_>, id: &str) -> Result<String, WordsFault> {
+    match matches.get_str(id) {
+        Some(text) => Ok(String::from_str(alloc, text)?),
+        None => Err(WordsFault::BadCommandLine),
     }
 }
 

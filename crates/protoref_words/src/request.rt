@@ -13,9 +13,45 @@ pub enum Request {
     /// This text.
     Help(String),
     /// The descriptors of the schemas in a folder.
-    Compile { root: String },
+    Compile {
+        root: String,
+    },
     /// What these rules find in the schemas in a folder.
-    Lint { root: String, rules: RuleSet },
+    Lint {
+        root: String,
+        rules: RuleSet,
+    },
+    /// A new simple name for the symbol of a full name.
+    Rename {
+        root: String,
+        name: String,
+        to: String,
+    },
+    /// The field of a full name deleted.
+    DeleteField {
+        root: String,
+        name: String,
+    },
+    /// An import of a path in a schema.
+    AddImport {
+        root: String,
+        file: String,
+        path: String,
+    },
+    /// No import of a path in a schema.
+    DropImport {
+        root: String,
+        file: String,
+        path: String,
+    },
+    /// The last entry of the journal undone.
+    Undo {
+        root: String,
+    },
+    /// The entries of the journal.
+    Log {
+        root: String,
+    },
 }
 
 /// Why the words ask for nothing. Want of memory is never told as a bad command line.

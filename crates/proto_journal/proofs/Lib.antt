@@ -1,0 +1,11 @@
+mod Between
+mod Holdings
+mod Replacing
+mod Recorded
+mod Grown
+mod Committed
+mod Undone
+mod PutPaths
+mod TornStores
+mod OneOutcome
+mod Loaded

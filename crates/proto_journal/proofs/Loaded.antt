@@ -1,0 +1,56 @@
+-- Workspaces that are loaded of a store.
+use Rattle.std.proofs.Common.{arith, ◌≡◌, ℕ, zero, suc, ◌<◌, ◌≤◌, List, [], ◌∷◌, length, get_or, Option, Some, None, Ok, Err, sym, ◌∙◌, subst}
+use Rattle.std.specs.List.{AllByRecursion}
+use Rattle.std.specs.List.Sorted.{IsStrictlySortedBy}
+use Rattle.std.specs.Cmp.Lexicographic.{slice_cmp}
+use Rattle.std.specs.Ordering.{nat_cmp}
+use Rattle.std.specs.declared.cmp.Ordering.TheVariants.{Less}
+use Rattle.std.proofs.lemmas.List.Sorted.{All-permutation, IsPermutation-sym, length_permutation}
+use Rattle.proto_faults.specs.declared.fault.Fault.{Fault}
+use Rattle.proto_files.specs.Faults.{IsLeastFault, fault_at}
+use Rattle.proto_files.specs.GivenFiles.{AreWorkspaceFiles, FileOf, paths_of}
+use Rattle.proto_files.specs.WorkspacePaths.{IsBefore, IsWorkspacePath}
+use Rattle.proto_schema.specs.Whole.{IsSortedOf, WorkspaceFaults}
+use Rattle.proto_edit.specs.Compiled.{AreCompiled}
+use Rattle.proto_edit.proofs.WholeFirst.{sorted_again}
+use Rattle.proto_store.specs.Stores.{AreInPathOrder, Held, HoldsFiles, ListsPaths}
+use Rattle.proto_journal.specs.declared.loading.LoadFault.TheVariants as load
+use Rattle.proto_journal.specs.Known.{Over}
+use Rattle.proto_journal.specs.Loads.{LoadOutcome}
+
+pub in_order : (h : Option Held) (paths : List (List ℕ)) → ListsPaths h paths → Over h (λ there. AreInPathOrder there.files)
+in_order None paths l = tt
+in_order (Some there) paths l = l.0
+
+below : (f : FileOf) (fs : List FileOf) → AllByRecursion (λ q. slice_cmp nat_cmp f.path q ≡ Less) (paths_of fs) → (j : ℕ) (d : FileOf) → j < length fs → IsBefore f.path (get_or fs j d).path
+below f [] a j d l = absurd (omega arith)
+below f (g ∷ gs) a zero d l = a.0
+below f (g ∷ gs) a (suc j) d l = below f gs a.1 j d (omega arith)
+
+-- each path is before all behind it
+ordered : (files : List FileOf) → AreInPathOrder files → (i j : ℕ) (d : FileOf) → i < j → j < length files → IsBefore (get_or files i d).path (get_or files j d).path
+unfolding IsStrictlySortedBy
+ordered [] h i j d lt within = absurd (omega arith)
+ordered (f ∷ fs) h i zero d lt within = absurd (omega arith)
+ordered (f ∷ fs) h zero (suc j) d lt within = below f fs h.0 j d (omega arith)
+ordered (f ∷ fs) h (suc i) (suc j) d lt within = ordered fs h.1 i j d (omega arith) (omega arith)
+
+-- what was given is a workspace's files where those in its order are
+given_files : (given files : List FileOf) → AreInPathOrder given → IsSortedOf given files → AreWorkspaceFiles files → AreWorkspaceFiles given
+given_files given files order sorted is =
+    let long : length files ≡ length given = length_permutation given files sorted.same in
+    let few : length files ≤ 4096 = is.few in
+    record {
+      few = omega arith;
+      named = All-permutation (λ (f : FileOf). IsWorkspacePath f.path) files given (IsPermutation-sym given files sorted.same) is.named;
+      ordered = ordered given order;
+    }
+
+pub loaded : (h : Option Held) (given files : List FileOf) → HoldsFiles h given → Over h (λ there. AreInPathOrder there.files) → IsSortedOf given files → AreCompiled files → LoadOutcome h (Ok files)
+loaded None given files e order sorted compiled = (compiled, tt)
+loaded (Some there) given files e order sorted compiled =
+    (compiled, sorted_again given files (given_files given files (subst AreInPathOrder (sym e) order) sorted compiled.workspace) sorted ∙ e)
+
+pub faulty : (h : Option Held) (given : List FileOf) (f : Fault) → HoldsFiles h given → IsLeastFault (WorkspaceFaults given) (fault_at f) → LoadOutcome h (Err (load.Schema f))
+faulty None given f e least = tt
+faulty (Some there) given f e least = subst (λ (fs : List FileOf). IsLeastFault (WorkspaceFaults fs) (fault_at f)) e least

@@ -1,0 +1,346 @@
+-- What a commit and an undo answer and leave is decided by the store and the workspace, where no call fails and memory is there.
+use Rattle.std.proofs.Common.{arith, ◌≡◌, inl, inr, ℕ, ◌≤◌, ◌<◌, ◌==◌, Bool, true, false, List, [], ◌∷◌, ◌++◌, length, Option, Some, None, Result, Ok, Err, refl, sym, ap, ◌∙◌, subst}
+use Rattle.std.specs.Prelude.{if◌then◌else◌}
+use Rattle.std.proofs.lemmas.Bool.{cases_lt}
+use Rattle.std.proofs.lemmas.List.Elements.{All-nil}
+use Rattle.proto_files.specs.GivenFiles.{FileOf}
+use Rattle.proto_entries.specs.Entries.{ChangeOf}
+use Rattle.proto_entries.specs.declared.refusal.Refusal.{Refusal}
+use Rattle.proto_entries.specs.declared.refusal.Refusal.TheVariants as refusal
+use Rattle.proto_entries.specs.RefusalTable.{number_of}
+use Rattle.proto_edit.specs.Workspaces.{Asked, IsLeastCase, IsMappedStep, IsUndo}
+use Rattle.proto_edit.proofs.OneAnswer.{steps_once}
+use Rattle.proto_edit.proofs.Steps.{undo_once}
+use Rattle.proto_records.specs.declared.fault.JournalFault.{JournalFault}
+use Rattle.proto_records.specs.declared.fault.JournalFault.TheVariants as fault
+use Rattle.proto_records.specs.declared.record.Record.{Record}
+use Rattle.proto_records.specs.Journals.{IsJournal, IsRecord, is_last_open, done, journal_text}
+use Rattle.proto_records.specs.Laws.{IsReadInOneWay}
+use Rattle.proto_store.specs.Stores.{Held}
+use Rattle.proto_journal.specs.Commits.{CommitOutcome, HasOpenEntry, IsCommitted, IsFull, IsReady, IsUnreadable, Stays}
+use Rattle.proto_journal.specs.Laws.{CommitsAreOne, IsSettled, UndosAreOne}
+use Rattle.proto_journal.specs.Torn.{Keeps}
+use Rattle.proto_journal.specs.Undoing.{EndsIn, IsStale, IsUndone, UndoOutcome}
+use Rattle.proto_journal.proofs.Recorded.{last_of}
+
+-- ---- refusals
+
+-- the refusal of a number, of those that have no place
+plain : ℕ → Refusal
+plain n =
+    if n == 1 then refusal.UnknownTarget
+    else (if n == 2 then refusal.KindNotAllowed
+    else (if n == 3 then refusal.NotAnIdentifier
+    else (if n == 4 then refusal.KeywordName
+    else (if n == 5 then refusal.SameName
+    else (if n == 6 then refusal.Collision
+    else (if n == 8 then refusal.NameReserved
+    else (if n == 9 then refusal.JsonClash
+    else (if n == 10 then refusal.LastOfOneof
+    else (if n == 11 then refusal.UnknownFile
+    else (if n == 12 then refusal.AlreadyImported
+    else (if n == 13 then refusal.NotImported
+    else (if n == 14 then refusal.Cycle
+    else (if n == 16 then refusal.TooLarge
+    else refusal.Stale)))))))))))))
+
+-- a refused edit: the store was ready, and the refusal is the least case
+record IsRefused (e : Asked) (from to : List FileOf) (old : Held) (new : Option Held) (r : Refusal) : Type 0 where
+  stay : Stays from to (Some old) new
+  ready : IsReady old
+  least : IsLeastCase from e (number_of r)
+  is : plain (number_of r) ≡ r
+
+is_refused : (e : Asked) (from to : List FileOf) (old : Held) (new : Option Held) (r : Refusal) → CommitOutcome e from to (Some old) new (Err (fault.Refused r)) → IsRefused e from to old new r
+unfolding plain
+is_refused e from to old new refusal.NoMemory o = absurd o
+is_refused e from to old new (refusal.Captured path offset) o = absurd o.2
+is_refused e from to old new (refusal.Needed path offset) o = absurd o.2
+is_refused e from to old new r o = record { stay = o.0; ready = o.1; least = o.2; is = refl }
+
+least_once : (from : List FileOf) (e : Asked) (m n : ℕ) → IsLeastCase from e m → IsLeastCase from e n → m ≡ n
+least_once from e m n x y = elim (cases_lt m n) [
+  | inl lt ↦ absurd (y.least m lt x.is)
+  | inr ge ↦ elim (cases_lt n m) [
+    | inl gt ↦ absurd (x.least n gt y.is)
+    | inr le ↦ omega arith
+  ]
+]
+
+-- ---- stores
+
+same_held : (n m : Held) → n.files ≡ m.files → n.journal ≡ m.journal → n ≡ m
+same_held n m p q = λ i. record { files = p i; journal = q i }
+
+same_kept : (to other : List FileOf) (rs ss : List Record) (n m : Held) → to ≡ other → rs ≡ ss → Keeps to rs n → Keeps other ss m → n ≡ m
+same_kept to other rs ss n m t r x y = same_held n m (x.has ∙ t ∙ sym y.has) (x.journal.text ∙ ap journal_text r ∙ sym y.journal.text)
+
+stays_once : (from to other : List FileOf) (old : Held) (new now : Option Held) → Stays from to (Some old) new → Stays from other (Some old) now → (to ≡ other) × (new ≡ now)
+stays_once from to other old new now x y = (x.workspace ∙ sym y.workspace, x.store ∙ sym y.store)
+
+-- ---- lists with one more
+
+never_none : {P : Type 0} (rs : List Record) (a : Record) → rs ++ a ∷ [] ≡ [] → P
+never_none [] a e = cc
+never_none (r ∷ rs) a e = cc
+
+head_of : (x y : Record) (xs ys : List Record) → x ∷ xs ≡ y ∷ ys → x ≡ y
+head_of x y xs ys e = cc
+
+tail_of : (x y : Record) (xs ys : List Record) → x ∷ xs ≡ y ∷ ys → xs ≡ ys
+tail_of x y xs ys e = cc
+
+same_ends : (rs ss : List Record) (a b : Record) → rs ++ a ∷ [] ≡ ss ++ b ∷ [] → (rs ≡ ss) × (a ≡ b)
+same_ends [] [] a b e = (refl, head_of a b [] [] e)
+same_ends [] (s ∷ ss) a b e = never_none ss b (sym (tail_of a s [] (ss ++ b ∷ []) e))
+same_ends (r ∷ rs) [] a b e = never_none rs a (tail_of r b (rs ++ a ∷ []) [] e)
+same_ends (r ∷ rs) (s ∷ ss) a b e =
+    let more = same_ends rs ss a b (tail_of r s (rs ++ a ∷ []) (ss ++ b ∷ []) e) in
+    let first : r ≡ s = head_of r s (rs ++ a ∷ []) (ss ++ b ∷ []) e in
+    ((λ i. first i ∷ more.0 i), more.1)
+
+both : {P : Type 0} (b : Bool) → b ≡ true → b ≡ false → P
+both b t f = let e : true ≡ false = sym t ∙ f in cc
+
+-- there is a last entry
+record HasLast (old : Held) (x : List ChangeOf) : Type 0 where
+  before : List Record
+  ends : EndsIn before x old
+
+record IsRefusedStale (from to : List FileOf) (old : Held) (new : Option Held) (r : Refusal) : Type 0 where
+  stay : Stays from to (Some old) new
+  stale : IsStale from (Some old)
+  is : r ≡ refusal.Stale
+
+is_stale : (from to : List FileOf) (old : Held) (new : Option Held) (r : Refusal) → UndoOutcome from to (Some old) new (Err (fault.Refused r)) → IsRefusedStale from to old new r
+is_stale from to old new refusal.Stale o = record { stay = o.0; stale = o.1; is = refl }
+is_stale from to old new r o = absurd o
+
+module _ (one_way : IsReadInOneWay) where
+  -- ---- what a journal says is one thing
+
+  not_unreadable : {P : Type 0} (old : Held) → IsUnreadable old → IsReady old → P
+  not_unreadable old u r = absurd (u r.0 r.1.journal)
+
+  neither : {P : Type 0} (old : Held) → IsUnreadable old → HasOpenEntry old → P
+  neither old u o = absurd (u o.0 o.1)
+
+  not_open : {P : Type 0} (old : Held) → HasOpenEntry old → IsReady old → P
+  not_open old o r = both (is_last_open o.0) o.2 (ap is_last_open (one_way old.journal o.0 r.0 o.1 r.1.journal) ∙ r.1.closed)
+
+  -- ---- commits
+
+  ready_committed : (e : Asked) (x : List ChangeOf) (from to : List FileOf) (old : Held) (new : Option Held) → IsCommitted e x from to (Some old) new → IsReady old
+  ready_committed e x from to old None c = absurd c.store
+  ready_committed e x from to old (Some n) c = (c.store.0, c.store.1)
+
+  ready_full : (e : Asked) (from : List FileOf) (old : Held) → IsFull e from (Some old) → IsReady old
+  ready_full e from old f = (f.3.0, f.3.1)
+
+  committed_once : (e : Asked) (x y : List ChangeOf) (from to other : List FileOf) (old : Held) (new now : Option Held) → IsCommitted e x from to (Some old) new → IsCommitted e y from other (Some old) now
+      → (x ≡ y) × (to ≡ other) × (new ≡ now)
+  committed_once e x y from to other old None now c d = absurd c.store
+  committed_once e x y from to other old (Some n) None c d = absurd d.store
+  committed_once e x y from to other old (Some n) (Some m) c d =
+      let step = steps_once from to other e x y c.step.step d.step.step in
+      let rs : List Record = c.store.0 in
+      let ss : List Record = d.store.0 in
+      let same : rs ≡ ss = one_way old.journal rs ss c.store.1.journal d.store.1.journal in
+      let texts : rs ++ done x ∷ [] ≡ ss ++ done y ∷ [] = λ i. same i ++ done (step.0 i) ∷ [] in
+      (step.0, step.1, ap (λ (h : Held). Some h) (same_kept to other (rs ++ done x ∷ []) (ss ++ done y ∷ []) n m step.1 texts c.store.2 d.store.2))
+
+  committed_not_full : {P : Type 0} (e : Asked) (x : List ChangeOf) (from to : List FileOf) (old : Held) (new : Option Held) → IsCommitted e x from to (Some old) new → IsFull e from (Some old) → P
+  committed_not_full e x from to old None c f = absurd c.store
+  committed_not_full e x from to old (Some n) c f =
+      let step = steps_once from to f.1 e x f.0 c.step.step f.2.step in
+      let rs : List Record = c.store.0 in
+      let ss : List Record = f.3.0 in
+      let same : rs ≡ ss = one_way old.journal rs ss c.store.1.journal f.3.1.journal in
+      let texts : rs ++ done x ∷ [] ≡ ss ++ done f.0 ∷ [] = λ i. same i ++ done (step.0 i) ∷ [] in
+      let size : length n.journal ≡ length (journal_text (ss ++ done f.0 ∷ [])) = ap length (c.store.2.journal.text ∙ ap journal_text texts) in
+      let short : length n.journal ≤ 16777216 = c.store.2.journal.short in
+      let long : 16777216 < length (journal_text (ss ++ done f.0 ∷ [])) = f.3.2 in
+      absurd (omega arith)
+
+  not_refused : {P : Type 0} (e : Asked) (x : List ChangeOf) (from made to : List FileOf) (old : Held) (new : Option Held) (r : Refusal) → IsMappedStep from e x made → IsRefused e from to old new r → P
+  not_refused e x from made to old new r s i = absurd (s.step.admissible (number_of r) i.least.is)
+
+  module _ (e : Asked) (from to other : List FileOf) (old : Held) (new now : Option Held) where
+    abbrev Same : Result (List ChangeOf) JournalFault → Result (List ChangeOf) JournalFault → Type 0
+    Same a b = (a ≡ b) × (to ≡ other) × (new ≡ now)
+
+    stay_once : (a : Result (List ChangeOf) JournalFault) → Stays from to (Some old) new → Stays from other (Some old) now → Same a a
+    stay_once a x y = let s = stays_once from to other old new now x y in (refl, s.0, s.1)
+
+    of_committed : (x : List ChangeOf) (b : Result (List ChangeOf) JournalFault) → IsSettled b → IsCommitted e x from to (Some old) new → CommitOutcome e from other (Some old) now b → Same (Ok x) b
+    of_committed x (Ok y) s p q = let c = committed_once e x y from to other old new now p q in (ap (λ (z : List ChangeOf). Ok z) c.0, c.1, c.2)
+    of_committed x (Err fault.BadJournal) s p q = not_unreadable old q.1 (ready_committed e x from to old new p)
+    of_committed x (Err fault.NothingToUndo) s p q = absurd q
+    of_committed x (Err fault.OpenEntry) s p q = not_open old q.1 (ready_committed e x from to old new p)
+    of_committed x (Err fault.Store) s p q = absurd s
+    of_committed x (Err fault.JournalFull) s p q = committed_not_full e x from to old new p q.1
+    of_committed x (Err fault.NoMemory) s p q = absurd s
+    of_committed x (Err (fault.Refused r)) s p q = not_refused e x from to other old now r p.step (is_refused e from other old now r q)
+
+    of_unreadable : (b : Result (List ChangeOf) JournalFault) → IsSettled b → Stays from to (Some old) new → IsUnreadable old → CommitOutcome e from other (Some old) now b → Same (Err fault.BadJournal) b
+    of_unreadable (Ok y) s p u q = not_unreadable old u (ready_committed e y from other old now q)
+    of_unreadable (Err fault.BadJournal) s p u q = stay_once (Err fault.BadJournal) p q.0
+    of_unreadable (Err fault.NothingToUndo) s p u q = absurd q
+    of_unreadable (Err fault.OpenEntry) s p u q = neither old u q.1
+    of_unreadable (Err fault.Store) s p u q = absurd s
+    of_unreadable (Err fault.JournalFull) s p u q = not_unreadable old u (ready_full e from old q.1)
+    of_unreadable (Err fault.NoMemory) s p u q = absurd s
+    of_unreadable (Err (fault.Refused r)) s p u q = not_unreadable old u (is_refused e from other old now r q).ready
+
+    of_open : (b : Result (List ChangeOf) JournalFault) → IsSettled b → Stays from to (Some old) new → HasOpenEntry old → CommitOutcome e from other (Some old) now b → Same (Err fault.OpenEntry) b
+    of_open (Ok y) s p o q = not_open old o (ready_committed e y from other old now q)
+    of_open (Err fault.BadJournal) s p o q = neither old q.1 o
+    of_open (Err fault.NothingToUndo) s p o q = absurd q
+    of_open (Err fault.OpenEntry) s p o q = stay_once (Err fault.OpenEntry) p q.0
+    of_open (Err fault.Store) s p o q = absurd s
+    of_open (Err fault.JournalFull) s p o q = not_open old o (ready_full e from old q.1)
+    of_open (Err fault.NoMemory) s p o q = absurd s
+    of_open (Err (fault.Refused r)) s p o q = not_open old o (is_refused e from other old now r q).ready
+
+    of_full : (b : Result (List ChangeOf) JournalFault) → IsSettled b → Stays from to (Some old) new → IsFull e from (Some old) → CommitOutcome e from other (Some old) now b → Same (Err fault.JournalFull) b
+    of_full (Ok y) s p f q = committed_not_full e y from other old now q f
+    of_full (Err fault.BadJournal) s p f q = not_unreadable old q.1 (ready_full e from old f)
+    of_full (Err fault.NothingToUndo) s p f q = absurd q
+    of_full (Err fault.OpenEntry) s p f q = not_open old q.1 (ready_full e from old f)
+    of_full (Err fault.Store) s p f q = absurd s
+    of_full (Err fault.JournalFull) s p f q = stay_once (Err fault.JournalFull) p q.0
+    of_full (Err fault.NoMemory) s p f q = absurd s
+    of_full (Err (fault.Refused r)) s p f q = not_refused e f.0 from f.1 other old now r f.2 (is_refused e from other old now r q)
+
+    of_refused : (a : Refusal) (b : Result (List ChangeOf) JournalFault) → IsSettled b → IsRefused e from to old new a → CommitOutcome e from other (Some old) now b → Same (Err (fault.Refused a)) b
+    of_refused a (Ok y) s p q = not_refused e y from other to old new a q.step p
+    of_refused a (Err fault.BadJournal) s p q = not_unreadable old q.1 p.ready
+    of_refused a (Err fault.NothingToUndo) s p q = absurd q
+    of_refused a (Err fault.OpenEntry) s p q = not_open old q.1 p.ready
+    of_refused a (Err fault.Store) s p q = absurd s
+    of_refused a (Err fault.JournalFull) s p q = not_refused e q.1.0 from q.1.1 to old new a q.1.2 p
+    of_refused a (Err fault.NoMemory) s p q = absurd s
+    of_refused a (Err (fault.Refused r)) s p q =
+        let i : IsRefused e from other old now r = is_refused e from other old now r q in
+        let same : a ≡ r = sym p.is ∙ ap plain (least_once from e (number_of a) (number_of r) p.least i.least) ∙ i.is in
+        let x = stays_once from to other old new now p.stay i.stay in
+        (ap (λ (z : Refusal). Err (fault.Refused z)) same, x.0, x.1)
+
+  pub commits_are_one : CommitsAreOne
+  commits_are_one e from to other old new now (Ok x) b s t p q = of_committed e from to other old new now x b t p q
+  commits_are_one e from to other old new now (Err fault.BadJournal) b s t p q = of_unreadable e from to other old new now b t p.0 p.1 q
+  commits_are_one e from to other old new now (Err fault.NothingToUndo) b s t p q = absurd p
+  commits_are_one e from to other old new now (Err fault.OpenEntry) b s t p q = of_open e from to other old new now b t p.0 p.1 q
+  commits_are_one e from to other old new now (Err fault.Store) b s t p q = absurd s
+  commits_are_one e from to other old new now (Err fault.JournalFull) b s t p q = of_full e from to other old new now b t p.0 p.1 q
+  commits_are_one e from to other old new now (Err fault.NoMemory) b s t p q = absurd s
+  commits_are_one e from to other old new now (Err (fault.Refused r)) b s t p q = of_refused e from to other old new now r b t (is_refused e from to old new r p) q
+
+  -- ---- undos
+
+  ends_once : (old : Held) (rs ss : List Record) (x y : List ChangeOf) → EndsIn rs x old → EndsIn ss y old → (rs ≡ ss) × (x ≡ y)
+  ends_once old rs ss x y a b =
+      let e = same_ends rs ss (done x) (done y) (one_way old.journal (rs ++ done x ∷ []) (ss ++ done y ∷ []) a b) in
+      (e.0, ap (λ (r : Record). r.entry) e.1)
+
+  ends_closed : {P : Type 0} (old : Held) (rs : List Record) (x : List ChangeOf) → EndsIn rs x old → HasOpenEntry old → P
+  ends_closed old rs x a o = both (is_last_open o.0) o.2 (ap is_last_open (one_way old.journal o.0 (rs ++ done x ∷ []) o.1 a) ∙ last_of rs (done x))
+
+  -- an empty journal has no records
+  none_there : (old : Held) → old.journal ≡ [] → IsJournal old.journal []
+  none_there old e = record { text = e; order = tt; entries = All-nil IsRecord; short = (let size : length old.journal ≡ 0 = ap length e in omega arith) }
+
+  ends_some : {P : Type 0} (old : Held) (rs : List Record) (x : List ChangeOf) → EndsIn rs x old → old.journal ≡ [] → P
+  ends_some old rs x a e = never_none rs (done x) (one_way old.journal (rs ++ done x ∷ []) [] a (none_there old e))
+
+  empty_closed : {P : Type 0} (old : Held) → old.journal ≡ [] → HasOpenEntry old → P
+  empty_closed old e o = both (is_last_open o.0) o.2 (ap is_last_open (one_way old.journal o.0 [] o.1 (none_there old e)))
+
+  last_undone : (x : List ChangeOf) (from to : List FileOf) (old : Held) (new : Option Held) → IsUndone x from to (Some old) new → HasLast old x
+  last_undone x from to old None u = absurd u.store
+  last_undone x from to old (Some n) u = record { before = u.store.0; ends = u.store.1 }
+
+  undone_once : (x y : List ChangeOf) (from to other : List FileOf) (old : Held) (new now : Option Held) → IsUndone x from to (Some old) new → IsUndone y from other (Some old) now
+      → (x ≡ y) × (to ≡ other) × (new ≡ now)
+  undone_once x y from to other old None now u v = absurd u.store
+  undone_once x y from to other old (Some n) None u v = absurd v.store
+  undone_once x y from to other old (Some n) (Some m) u v =
+      let e = ends_once old u.store.0 v.store.0 x y u.store.1 v.store.1 in
+      let same : to ≡ other = undo_once from to other y (subst (λ (z : List ChangeOf). IsUndo from z to) e.1 u.files) v.files in
+      (e.1, same, ap (λ (h : Held). Some h) (same_kept to other u.store.0 v.store.0 n m same e.0 u.store.2 v.store.2))
+
+  undone_not_stale : {P : Type 0} (x : List ChangeOf) (from to : List FileOf) (old : Held) (new : Option Held) → IsUndone x from to (Some old) new → IsStale from (Some old) → P
+  undone_not_stale x from to old new u s =
+      let l : HasLast old x = last_undone x from to old new u in
+      let e = ends_once old l.before s.2.0 x s.0 l.ends s.2.1 in
+      absurd (s.1 to (subst (λ (z : List ChangeOf). IsUndo from z to) e.1 u.files))
+
+  module _ (from to other : List FileOf) (old : Held) (new now : Option Held) where
+    abbrev Alike : Result (List ChangeOf) JournalFault → Result (List ChangeOf) JournalFault → Type 0
+    Alike a b = (a ≡ b) × (to ≡ other) × (new ≡ now)
+
+    alike : (a : Result (List ChangeOf) JournalFault) → Stays from to (Some old) new → Stays from other (Some old) now → Alike a a
+    alike a x y = let s = stays_once from to other old new now x y in (refl, s.0, s.1)
+
+    undo_done : (x : List ChangeOf) (b : Result (List ChangeOf) JournalFault) → IsSettled b → IsUndone x from to (Some old) new → UndoOutcome from other (Some old) now b → Alike (Ok x) b
+    undo_done x (Ok y) s p q = let c = undone_once x y from to other old new now p q in (ap (λ (z : List ChangeOf). Ok z) c.0, c.1, c.2)
+    undo_done x (Err fault.BadJournal) s p q = (let l : HasLast old x = last_undone x from to old new p in absurd (q.1 (l.before ++ done x ∷ []) l.ends))
+    undo_done x (Err fault.NothingToUndo) s p q = (let l : HasLast old x = last_undone x from to old new p in ends_some old l.before x l.ends q.1)
+    undo_done x (Err fault.OpenEntry) s p q = (let l : HasLast old x = last_undone x from to old new p in ends_closed old l.before x l.ends q.1)
+    undo_done x (Err fault.Store) s p q = absurd s
+    undo_done x (Err fault.JournalFull) s p q = absurd q
+    undo_done x (Err fault.NoMemory) s p q = absurd s
+    undo_done x (Err (fault.Refused r)) s p q = undone_not_stale x from to old new p (is_stale from other old now r q).stale
+
+    undo_unreadable : (b : Result (List ChangeOf) JournalFault) → IsSettled b → Stays from to (Some old) new → IsUnreadable old → UndoOutcome from other (Some old) now b → Alike (Err fault.BadJournal) b
+    undo_unreadable (Ok y) s p u q = (let l : HasLast old y = last_undone y from other old now q in absurd (u (l.before ++ done y ∷ []) l.ends))
+    undo_unreadable (Err fault.BadJournal) s p u q = alike (Err fault.BadJournal) p q.0
+    undo_unreadable (Err fault.NothingToUndo) s p u q = absurd (u [] (none_there old q.1))
+    undo_unreadable (Err fault.OpenEntry) s p u q = neither old u q.1
+    undo_unreadable (Err fault.Store) s p u q = absurd s
+    undo_unreadable (Err fault.JournalFull) s p u q = absurd q
+    undo_unreadable (Err fault.NoMemory) s p u q = absurd s
+    undo_unreadable (Err (fault.Refused r)) s p u q = (let t : IsStale from (Some old) = (is_stale from other old now r q).stale in absurd (u (t.2.0 ++ done t.0 ∷ []) t.2.1))
+
+    undo_open : (b : Result (List ChangeOf) JournalFault) → IsSettled b → Stays from to (Some old) new → HasOpenEntry old → UndoOutcome from other (Some old) now b → Alike (Err fault.OpenEntry) b
+    undo_open (Ok y) s p o q = (let l : HasLast old y = last_undone y from other old now q in ends_closed old l.before y l.ends o)
+    undo_open (Err fault.BadJournal) s p o q = neither old q.1 o
+    undo_open (Err fault.NothingToUndo) s p o q = empty_closed old q.1 o
+    undo_open (Err fault.OpenEntry) s p o q = alike (Err fault.OpenEntry) p q.0
+    undo_open (Err fault.Store) s p o q = absurd s
+    undo_open (Err fault.JournalFull) s p o q = absurd q
+    undo_open (Err fault.NoMemory) s p o q = absurd s
+    undo_open (Err (fault.Refused r)) s p o q = (let t : IsStale from (Some old) = (is_stale from other old now r q).stale in ends_closed old t.2.0 t.0 t.2.1 o)
+
+    undo_nothing : (b : Result (List ChangeOf) JournalFault) → IsSettled b → Stays from to (Some old) new → old.journal ≡ [] → UndoOutcome from other (Some old) now b → Alike (Err fault.NothingToUndo) b
+    undo_nothing (Ok y) s p n q = (let l : HasLast old y = last_undone y from other old now q in ends_some old l.before y l.ends n)
+    undo_nothing (Err fault.BadJournal) s p n q = absurd (q.1 [] (none_there old n))
+    undo_nothing (Err fault.NothingToUndo) s p n q = alike (Err fault.NothingToUndo) p q.0
+    undo_nothing (Err fault.OpenEntry) s p n q = empty_closed old n q.1
+    undo_nothing (Err fault.Store) s p n q = absurd s
+    undo_nothing (Err fault.JournalFull) s p n q = absurd q
+    undo_nothing (Err fault.NoMemory) s p n q = absurd s
+    undo_nothing (Err (fault.Refused r)) s p n q = (let t : IsStale from (Some old) = (is_stale from other old now r q).stale in ends_some old t.2.0 t.0 t.2.1 n)
+
+    undo_stale : (a : Refusal) (b : Result (List ChangeOf) JournalFault) → IsSettled b → IsRefusedStale from to old new a → UndoOutcome from other (Some old) now b → Alike (Err (fault.Refused a)) b
+    undo_stale a (Ok y) s p q = undone_not_stale y from other old now q p.stale
+    undo_stale a (Err fault.BadJournal) s p q = (let t : IsStale from (Some old) = p.stale in absurd (q.1 (t.2.0 ++ done t.0 ∷ []) t.2.1))
+    undo_stale a (Err fault.NothingToUndo) s p q = (let t : IsStale from (Some old) = p.stale in ends_some old t.2.0 t.0 t.2.1 q.1)
+    undo_stale a (Err fault.OpenEntry) s p q = (let t : IsStale from (Some old) = p.stale in ends_closed old t.2.0 t.0 t.2.1 q.1)
+    undo_stale a (Err fault.Store) s p q = absurd s
+    undo_stale a (Err fault.JournalFull) s p q = absurd q
+    undo_stale a (Err fault.NoMemory) s p q = absurd s
+    undo_stale a (Err (fault.Refused r)) s p q =
+        let i : IsRefusedStale from other old now r = is_stale from other old now r q in
+        let x = stays_once from to other old new now p.stay i.stay in
+        (ap (λ (z : Refusal). Err (fault.Refused z)) (p.is ∙ sym i.is), x.0, x.1)
+
+  pub undos_are_one : UndosAreOne
+  undos_are_one from to other old new now (Ok x) b s t p q = undo_done from to other old new now x b t p q
+  undos_are_one from to other old new now (Err fault.BadJournal) b s t p q = undo_unreadable from to other old new now b t p.0 p.1 q
+  undos_are_one from to other old new now (Err fault.NothingToUndo) b s t p q = undo_nothing from to other old new now b t p.0 p.1 q
+  undos_are_one from to other old new now (Err fault.OpenEntry) b s t p q = undo_open from to other old new now b t p.0 p.1 q
+  undos_are_one from to other old new now (Err fault.Store) b s t p q = absurd s
+  undos_are_one from to other old new now (Err fault.JournalFull) b s t p q = absurd p
+  undos_are_one from to other old new now (Err fault.NoMemory) b s t p q = absurd s
+  undos_are_one from to other old new now (Err (fault.Refused r)) b s t p q = undo_stale from to other old new now r b t (is_stale from to old new r p) q

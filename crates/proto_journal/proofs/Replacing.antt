@@ -1,0 +1,86 @@
+-- Replacing the files that differ, one after the other.
+use Rattle.std.proofs.Common.{arith, ◌≡◌, ◌⊎◌, inl, inr, ℕ, suc, ◌+◌, ◌<◌, List, length, Option, Result, Ok, Err, sym, ap, ◌∙◌, subst}
+use Rattle.std.specs.Prelude.{OnErr, OnOk, option_map}
+use Rattle.proto_files.specs.GivenFiles.{FileOf, file_at, paths_of}
+use Rattle.proto_store.specs.Stores.{Held, HoldsFiles, IsListed, with_bytes, with_file}
+use Rattle.proto_journal.specs.Written.{AreBetween, IsHalfReplaced, IsReplaced, with_files}
+use Rattle.proto_journal.proofs.Between.{IsOrdered, all_after, between_up_to, listed_step, replaced_step, same_step, up_to}
+use Rattle.proto_journal.proofs.Holdings.{file_replaced, files_already, files_between, listed_among}
+
+-- a fact that holds of an answer
+pub on_ok : {T E : Type 0} (r : Result T E) (P Q : Type 0) → (P → Q) → OnOk r P → OnOk r Q
+on_ok (Ok x) P Q f p = f p
+on_ok (Err e) P Q f p = tt
+
+pub on_err : {T E : Type 0} (r : Result T E) (P Q : Type 0) → (P → Q) → OnErr r P → OnErr r Q
+on_err (Ok x) P Q f p = tt
+on_err (Err e) P Q f p = f p
+
+-- no file is replaced yet
+pub none_replaced : (h now : Option Held) (before after : List FileOf) (i : ℕ) → HoldsFiles h before → i ≡ 0 → now ≡ h → now ≡ option_map (with_files (up_to i after before)) h
+none_replaced h now before after i e z n =
+    n ∙ sym (files_already h before e) ∙ ap (λ (k : ℕ). option_map (with_files (up_to k after before)) h) (sym z)
+
+-- all are
+pub all_replaced : (h now : Option Held) (before after : List FileOf) (i : ℕ) → paths_of after ≡ paths_of before → i ≡ length after
+    → now ≡ option_map (with_files (up_to i after before)) h → now ≡ option_map (with_files after) h
+all_replaced h now before after i p e n =
+    n ∙ ap (λ (k : ℕ). option_map (with_files (up_to k after before)) h) e ∙ ap (λ (files : List FileOf). option_map (with_files files) h) (all_after after before p)
+
+-- whatever the answer is
+pub err_of : {T E : Type 0} (r : Result T E) (P : Type 0) → P → OnErr r P
+err_of (Ok x) P p = tt
+err_of (Err e) P p = p
+
+pub ok_of : {T E : Type 0} (r : Result T E) (P : Type 0) → P → OnOk r P
+ok_of (Ok x) P p = p
+ok_of (Err e) P p = tt
+
+-- a file, told by its path and its bytes
+pub as_told : (old new : Option Held) (path bytes : List ℕ) (to : FileOf) → path ≡ to.path → bytes ≡ to.bytes → new ≡ option_map (with_file path bytes) old → new ≡ option_map (with_file to.path to.bytes) old
+as_told old new path bytes to p b n = n ∙ ap (λ (z : List ℕ). option_map (with_file z bytes) old) p ∙ ap (λ (z : List ℕ). option_map (with_file to.path z) old) b
+
+pub half_told : (old new : Option Held) (path bytes : List ℕ) (to : FileOf) → path ≡ to.path → bytes ≡ to.bytes → (new ≡ old) ⊎ (new ≡ option_map (with_file path bytes) old) → IsHalfReplaced to old new
+half_told old new path bytes to p b c = elim c [
+  | inl same ↦ inl same
+  | inr n ↦ inr (as_told old new path bytes to p b n)
+]
+
+module _ (h : Option Held) (before after : List FileOf) (i : ℕ) (lt : i < length after) (p : paths_of after ≡ paths_of before) where
+  one_more : i + 1 ≡ suc i
+  one_more = omega arith
+
+  pub next_listed : (mid : Option Held) → mid ≡ option_map (with_files (up_to i after before)) h → IsListed mid (file_at after i).path
+  next_listed mid m =
+      subst (λ (z : Option Held). IsListed z (file_at after i).path) (sym m) (listed_among h (up_to i after before) (file_at after i).path (listed_step i after before lt p))
+
+  -- a file that has the same bytes stays
+  next_same : (mid : Option Held) → mid ≡ option_map (with_files (up_to i after before)) h → (file_at before i).bytes ≡ (file_at after i).bytes
+      → mid ≡ option_map (with_files (up_to (i + 1) after before)) h
+  next_same mid m same =
+      let step : up_to (i + 1) after before ≡ up_to i after before = ap (λ (k : ℕ). up_to k after before) one_more ∙ same_step i after before lt p same in
+      m ∙ ap (λ (files : List FileOf). option_map (with_files files) h) (sym step)
+
+  module _ (ordered : IsOrdered after) where
+    next_written : (mid now : Option Held) → mid ≡ option_map (with_files (up_to i after before)) h → now ≡ option_map (with_file (file_at after i).path (file_at after i).bytes) mid
+        → now ≡ option_map (with_files (up_to (i + 1) after before)) h
+    next_written mid now m n =
+        let name : List ℕ = (file_at after i).path in
+        let text : List ℕ = (file_at after i).bytes in
+        let step : with_bytes name text (up_to i after before) ≡ up_to (i + 1) after before = replaced_step i after before lt p ordered ∙ ap (λ (k : ℕ). up_to k after before) (sym one_more) in
+        n ∙ ap (option_map (with_file name text)) m ∙ file_replaced h name text (up_to i after before) ∙ ap (λ (files : List FileOf). option_map (with_files files) h) step
+
+    pub next_replaced : (mid now : Option Held) → mid ≡ option_map (with_files (up_to i after before)) h → IsReplaced (file_at before i) (file_at after i) mid now
+        → now ≡ option_map (with_files (up_to (i + 1) after before)) h
+    next_replaced mid now m r = elim r [
+      | inl n ↦ next_written mid now m n
+      | inr s ↦ s.1 ∙ next_same mid m s.0
+    ]
+
+    -- a write that fails leaves the file as before or as after
+    pub next_cut : (mid now : Option Held) → mid ≡ option_map (with_files (up_to i after before)) h → IsHalfReplaced (file_at after i) mid now → AreBetween before after h now
+    next_cut mid now m c = elim c [
+      | inl same ↦ subst (λ (z : Option Held). AreBetween before after h z) (sym (same ∙ m)) (files_between h before after (up_to i after before) (between_up_to i after before p))
+      | inr there ↦ subst (λ (z : Option Held). AreBetween before after h z) (sym (next_written mid now m there))
+          (files_between h before after (up_to (i + 1) after before) (between_up_to (i + 1) after before p))
+    ]

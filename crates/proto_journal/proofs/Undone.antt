@@ -1,0 +1,110 @@
+-- What an undo answers, from what it read, made and wrote.
+use Rattle.std.proofs.Common.{◌≡◌, ◌⊎◌, inl, inr, ℕ, List, [], ◌∷◌, ◌++◌, Option, Some, None, Ok, Err, refl, sym, ◌∙◌, subst}
+use Rattle.std.specs.Prelude.{option_map}
+use Rattle.proto_files.specs.GivenFiles.{FileOf, paths_of}
+use Rattle.proto_entries.specs.Entries.{ChangeOf}
+use Rattle.proto_entries.specs.declared.refusal.Refusal.{Refusal}
+use Rattle.proto_entries.specs.declared.refusal.Refusal.TheVariants as refusal
+use Rattle.proto_edit.specs.Answers.{IsUndoRefusal}
+use Rattle.proto_edit.specs.Workspaces.{IsUndo}
+use Rattle.proto_records.specs.declared.fault.JournalFault.{JournalFault}
+use Rattle.proto_records.specs.declared.fault.JournalFault.TheVariants as fault
+use Rattle.proto_records.specs.declared.record.Record.{Record}
+use Rattle.proto_records.specs.FaultTable.{fault_of}
+use Rattle.proto_records.specs.Journals.{IsJournal, done, opened}
+use Rattle.proto_store.specs.Stores.{Held, HoldsJournal}
+use Rattle.proto_journal.specs.Known.{CountsFault, Over, OverBoth}
+use Rattle.proto_journal.specs.Torn.{IsBetween, IsTornBetween, Keeps}
+use Rattle.proto_journal.specs.Undoing.{EndsIn, IsUndone, IsUndoCut, UndoOutcome}
+use Rattle.proto_journal.specs.Written.{LastOutcome, Passes, Reopens, Shortens, held}
+use Rattle.proto_journal.proofs.Committed.{stays}
+use Rattle.proto_journal.proofs.Recorded.{last_open_there, over_journal, unreadable}
+
+pub ends_there : (old : Option Held) (journal : List ℕ) (entry : List ChangeOf) → HoldsJournal old journal → LastOutcome journal (Ok entry) → Over old (λ then. (records : List Record) × EndsIn records entry then)
+ends_there old journal entry there l = over_journal old journal (λ (t : List ℕ). (records : List Record) × IsJournal t (records ++ done entry ∷ [])) there l
+
+-- ---- refused
+
+pub no_entry : (from : List FileOf) (old new : Option Held) (journal : List ℕ) (f : JournalFault) → new ≡ old → HoldsJournal old journal → LastOutcome journal (Err f) → UndoOutcome from from old new (Err f)
+no_entry from old new journal fault.BadJournal same there l = (stays from old new same, unreadable old journal there l)
+no_entry from old new journal fault.NothingToUndo same there l = (stays from old new same, over_journal old journal (λ (t : List ℕ). t ≡ []) there l)
+no_entry from old new journal fault.OpenEntry same there l = (stays from old new same, last_open_there old journal l.0 there l.1 l.2)
+no_entry from old new journal fault.Store same there l = absurd l
+no_entry from old new journal fault.JournalFull same there l = absurd l
+no_entry from old new journal fault.NoMemory same there l = stays from old new same
+no_entry from old new journal (fault.Refused r) same there l = absurd l
+
+pub stale : (from : List FileOf) (old new : Option Held) (journal : List ℕ) (entry : List ChangeOf) (r : Refusal) → new ≡ old → HoldsJournal old journal → LastOutcome journal (Ok entry)
+    → IsUndoRefusal from entry r → UndoOutcome from from old new (Err (fault_of r))
+stale from old new journal entry refusal.Stale same there l u = (stays from old new same, (entry, u, ends_there old journal entry there l))
+stale from old new journal entry refusal.NoMemory same there l u = stays from old new same
+stale from old new journal entry r same there l u = absurd u
+
+pub counts_no_entry : (before after : ℕ) (journal : List ℕ) (f : JournalFault) → after ≡ before → LastOutcome journal (Err f) → CountsFault before after f
+counts_no_entry before after journal fault.BadJournal same l = same
+counts_no_entry before after journal fault.NothingToUndo same l = same
+counts_no_entry before after journal fault.OpenEntry same l = same
+counts_no_entry before after journal fault.Store same l = absurd l
+counts_no_entry before after journal fault.JournalFull same l = same
+counts_no_entry before after journal fault.NoMemory same l = same
+counts_no_entry before after journal (fault.Refused r) same l = same
+
+pub counts_stale : (before after : ℕ) (r : Refusal) → after ≡ before → CountsFault before after (fault_of r)
+counts_stale before after refusal.NoMemory same = same
+counts_stale before after r same = same
+
+-- ---- written
+
+module _ (journal first last : List ℕ) (entry : List ChangeOf) (first_is : Reopens journal entry first) (last_is : Shortens journal last) where
+  module _ (from made : List FileOf) (same_paths : paths_of made ≡ paths_of from) where
+    -- files between are between either way round
+    turned : (files : List FileOf) → IsBetween from made files → IsBetween made from files
+    turned files b = record {
+      paths = b.paths ∙ sym same_paths;
+      bytes = λ path. (elim (b.bytes path) [
+        | inl h ↦ inr h
+        | inr h ↦ inl h
+      ]);
+    }
+
+    torn : (old new : Option Held) → LastOutcome journal (Ok entry) → HoldsJournal old journal → OverBoth old new (λ then now. (now.journal ≡ first) × IsBetween from made now.files)
+        → OverBoth old new (λ then now. (records : List Record) × EndsIn records entry then × (IsTornBetween records entry made from now ⊎ Keeps made records now))
+    torn None None l there b = tt
+    torn None (Some now) l there b = absurd b
+    torn (Some then) None l there b = absurd b
+    torn (Some then) (Some now) l there b =
+        let ends : EndsIn l.0 entry then = subst (λ (t : List ℕ). IsJournal t (l.0 ++ done entry ∷ [])) there l.1 in
+        let text : IsJournal now.journal (l.0 ++ opened entry ∷ []) = subst (λ (t : List ℕ). IsJournal t (l.0 ++ opened entry ∷ [])) (sym b.0) (first_is l.0 l.1) in
+        (l.0, ends, inl (record { journal = text; files = turned now.files b.1 }))
+
+    through : (old : Option Held) → LastOutcome journal (Ok entry) → HoldsJournal old journal
+        → OverBoth old (option_map (λ h. held made last) old) (λ then now. (records : List Record) × EndsIn records entry then × Keeps made records now)
+    through None l there = tt
+    through (Some then) l there = (l.0, subst (λ (t : List ℕ). IsJournal t (l.0 ++ done entry ∷ [])) there l.1, record { has = refl; journal = last_is l.0 (done entry) l.1 })
+
+    landed : (old : Option Held) → LastOutcome journal (Ok entry) → HoldsJournal old journal
+        → OverBoth old (option_map (λ h. held made last) old) (λ then now. (records : List Record) × EndsIn records entry then × (IsTornBetween records entry made from now ⊎ Keeps made records now))
+    landed None l there = tt
+    landed (Some then) l there = let t = through (Some then) l there in (t.0, t.1, inr t.2)
+
+    module _ (undo : IsUndo from entry made) where
+      pub undo_cut : (old new : Option Held) → LastOutcome journal (Ok entry) → HoldsJournal old journal → Passes from made first last old new → IsUndoCut from old new
+      undo_cut old new l there p = elim p [
+        | inl same ↦ inl same
+        | inr rest ↦ elim rest [
+          | inl b ↦ inr (entry, made, undo, torn old new l there b)
+          | inr done_is ↦ inr (
+            entry,
+            made,
+            undo,
+            subst (λ (z : Option Held). OverBoth old z (λ then now. (records : List Record) × EndsIn records entry then
+                × (IsTornBetween records entry made from now ⊎ Keeps made records now))) (sym done_is) (landed old l there),
+          )
+        ]
+      ]
+
+      pub undone : (old new : Option Held) → LastOutcome journal (Ok entry) → HoldsJournal old journal → new ≡ option_map (λ h. held made last) old → IsUndone entry from made old new
+      undone old new l there n = record {
+        files = undo;
+        store = subst (λ (z : Option Held). OverBoth old z (λ then now. (records : List Record) × EndsIn records entry then × Keeps made records now)) (sym n) (through old l there);
+      }

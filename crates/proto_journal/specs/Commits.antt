@@ -1,0 +1,72 @@
+-- What a commit answers, and what it leaves in the store and in the workspace.
+use Rattle.std.specs.Prelude.{◌≡◌, ◌⊎◌, ℕ, ◌<◌, List, [], ◌∷◌, ◌++◌, length, true, false, Option, Result, Ok, Err}
+use Rattle.proto_files.specs.GivenFiles.{FileOf}
+use Rattle.proto_entries.specs.Entries.{ChangeOf}
+use Rattle.proto_entries.specs.declared.refusal.Refusal.TheVariants as refusal
+use Rattle.proto_edit.specs.Workspaces.{Asked, IsMappedStep, IsRefusal}
+use Rattle.proto_records.specs.declared.fault.JournalFault.{JournalFault}
+use Rattle.proto_records.specs.declared.fault.JournalFault.TheVariants as fault
+use Rattle.proto_records.specs.declared.record.Record.{Record}
+use Rattle.proto_records.specs.Journals.{IsJournal, is_last_open, done, journal_text}
+use Rattle.proto_store.specs.Stores.{Held}
+use Rattle.proto_journal.specs.Known.{Over, OverBoth}
+use Rattle.proto_journal.specs.Torn.{IsTornBetween, Keeps}
+
+-- how many bytes a journal has at most
+abbrev pub journal_limit : ℕ
+journal_limit = 16777216
+
+-- ---- what a journal says to a call
+
+-- the journal is none: it has no records
+abbrev pub IsUnreadable : Held → Type 0
+IsUnreadable held = (records : List Record) → IsJournal held.journal records → ⊥
+
+-- the journal's last entry is open
+abbrev pub HasOpenEntry : Held → Type 0
+HasOpenEntry held = (records : List Record) × IsJournal held.journal records × (is_last_open records ≡ true)
+
+-- the journal is that of these records, of which none is open
+pub record IsReadyWith (records : List Record) (held : Held) : Type 0 where
+  pub journal : IsJournal held.journal records
+  pub closed : is_last_open records ≡ false
+
+abbrev pub IsReady : Held → Type 0
+IsReady held = (records : List Record) × IsReadyWith records held
+
+-- ---- commit
+
+-- the store and the workspace are as before
+pub record Stays (from to : List FileOf) (old new : Option Held) : Type 0 where
+  pub workspace : to ≡ from
+  pub store : new ≡ old
+
+-- The edit is made and journalled: where the journal was that of records of which none is open, it now has the entry behind
+-- them, done, and the files are those of the workspace after the edit.
+pub record IsCommitted (e : Asked) (entry : List ChangeOf) (from to : List FileOf) (old new : Option Held) : Type 0 where
+  pub step : IsMappedStep from e entry to
+  pub store : OverBoth old new (λ then now. (records : List Record) × IsReadyWith records then × Keeps to (records ++ done entry ∷ []) now)
+
+-- A store call failed: the store is as before; or the edit can be made, and the store is torn between the files before and
+-- after it over the old records, or as after the commit.
+abbrev pub IsCommitCut : Asked → List FileOf → Option Held → Option Held → Type 0
+IsCommitCut e from old new = (new ≡ old) ⊎ ((entry : List ChangeOf) × (made : List FileOf) × IsMappedStep from e entry made
+    × OverBoth old new (λ then now. (records : List Record) × IsReadyWith records then
+    × (IsTornBetween records entry from made now ⊎ Keeps made (records ++ done entry ∷ []) now)))
+
+-- the edit can be made, but the journal with its entry would pass the limit
+abbrev pub IsFull : Asked → List FileOf → Option Held → Type 0
+IsFull e from old = (entry : List ChangeOf) × (made : List FileOf) × IsMappedStep from e entry made
+    × Over old (λ then. (records : List Record) × IsReadyWith records then × (journal_limit < length (journal_text (records ++ done entry ∷ []))))
+
+-- An answer, the workspace's files before and after, and the store then and now.
+abbrev pub CommitOutcome : Asked → List FileOf → List FileOf → Option Held → Option Held → Result (List ChangeOf) JournalFault → Type 0
+CommitOutcome e from to old new (Ok entry) = IsCommitted e entry from to old new
+CommitOutcome e from to old new (Err fault.BadJournal) = Stays from to old new × Over old IsUnreadable
+CommitOutcome e from to old new (Err fault.NothingToUndo) = ⊥
+CommitOutcome e from to old new (Err fault.OpenEntry) = Stays from to old new × Over old HasOpenEntry
+CommitOutcome e from to old new (Err fault.Store) = (to ≡ from) × IsCommitCut e from old new
+CommitOutcome e from to old new (Err fault.JournalFull) = Stays from to old new × IsFull e from old
+CommitOutcome e from to old new (Err fault.NoMemory) = Stays from to old new
+CommitOutcome e from to old new (Err (fault.Refused refusal.NoMemory)) = ⊥
+CommitOutcome e from to old new (Err (fault.Refused r)) = Stays from to old new × Over old IsReady × IsRefusal from e r

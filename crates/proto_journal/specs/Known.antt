@@ -1,0 +1,26 @@
+-- What is known of a store. A store may not say what it holds; then nothing is claimed of it.
+use Rattle.std.specs.Prelude.{◌≡◌, ℕ, ◌+◌, Option, Some, None, Result, Ok, Err}
+use Rattle.proto_records.specs.declared.fault.JournalFault.{JournalFault}
+use Rattle.proto_records.specs.declared.fault.JournalFault.TheVariants as fault
+use Rattle.proto_store.specs.Stores.{Held}
+
+-- it holds of what the store holds
+abbrev pub Over : Option Held → (Held → Type 0) → Type 0
+Over None P = Unit {0}
+Over (Some held) P = P held
+
+-- it holds of what the store held and of what it holds now
+abbrev pub OverBoth : Option Held → Option Held → (Held → Held → Type 0) → Type 0
+OverBoth None None P = Unit {0}
+OverBoth None (Some now) P = ⊥
+OverBoth (Some then) None P = ⊥
+OverBoth (Some then) (Some now) P = P then now
+
+-- a failed call of the store is counted and answered as Store, and nothing else is
+abbrev pub CountsFault : ℕ → ℕ → JournalFault → Type 0
+CountsFault before after fault.Store = after ≡ before + 1
+CountsFault before after _ = after ≡ before
+
+abbrev pub CountsStore : {T : Type 0} → ℕ → ℕ → Result T JournalFault → Type 0
+CountsStore before after (Ok value) = after ≡ before
+CountsStore before after (Err f) = CountsFault before after f

@@ -1,0 +1,39 @@
+-- The laws of commits and undos, and of torn stores.
+use Rattle.std.specs.Prelude.{◌≡◌, List, Option, Some, Result, Err}
+use Rattle.proto_files.specs.GivenFiles.{FileOf}
+use Rattle.proto_entries.specs.Entries.{ChangeOf, IsEntry}
+use Rattle.proto_entries.specs.Putting.{IsPut}
+use Rattle.proto_edit.specs.Workspaces.{Asked, IsUndo}
+use Rattle.proto_records.specs.declared.fault.JournalFault.{JournalFault}
+use Rattle.proto_records.specs.declared.fault.JournalFault.TheVariants as fault
+use Rattle.proto_records.specs.declared.record.Record.{Record}
+use Rattle.proto_store.specs.Stores.{Held}
+use Rattle.proto_journal.specs.Commits.{CommitOutcome}
+use Rattle.proto_journal.specs.Torn.{IsTorn, IsTornBetween}
+use Rattle.proto_journal.specs.Undoing.{UndoOutcome}
+
+-- no call of the store failed, and memory was there
+abbrev pub IsSettled : Result (List ChangeOf) JournalFault → Type 0
+IsSettled (Err fault.Store) = ⊥
+IsSettled (Err fault.NoMemory) = ⊥
+IsSettled _ = Unit {0}
+
+-- Where no call of the store fails and memory is there, the store and the workspace decide what a commit answers and leaves.
+abbrev pub CommitsAreOne : Type 0
+CommitsAreOne = (e : Asked) (from to other : List FileOf) (old : Held) (new now : Option Held) (a b : Result (List ChangeOf) JournalFault) → IsSettled a → IsSettled b
+    → CommitOutcome e from to (Some old) new a → CommitOutcome e from other (Some old) now b → (a ≡ b) × (to ≡ other) × (new ≡ now)
+
+-- And so for an undo.
+abbrev pub UndosAreOne : Type 0
+UndosAreOne = (from to other : List FileOf) (old : Held) (new now : Option Held) (a b : Result (List ChangeOf) JournalFault) → IsSettled a → IsSettled b
+    → UndoOutcome from to (Some old) new a → UndoOutcome from other (Some old) now b → (a ≡ b) × (to ≡ other) × (new ≡ now)
+
+-- A store that is torn between the files before and after an entry is torn: each file of the entry is as before or as after it.
+abbrev pub TornBetweenIsTorn : Type 0
+TornBetweenIsTorn = (records : List Record) (entry : List ChangeOf) (before after : List FileOf) (held : Held) → IsEntry entry → IsPut before entry after
+    → IsTornBetween records entry before after held → IsTorn records entry held
+
+-- The same where the entry was being undone.
+abbrev pub TornUndoIsTorn : Type 0
+TornUndoIsTorn = (records : List Record) (entry : List ChangeOf) (before after : List FileOf) (held : Held) → IsEntry entry → IsUndo after entry before
+    → IsTornBetween records entry before after held → IsTorn records entry held

@@ -1,0 +1,57 @@
+-- What is read of a store.
+use Rattle.std.specs.Prelude.{◌≡◌, ℕ, ◌+◌, List, codes, Option, Result, Ok, Err}
+use Rattle.proto_faults.specs.FaultTable.{number_of, name_of}
+use Rattle.proto_files.specs.Faults.{IsLeastFault, fault_at}
+use Rattle.proto_files.specs.GivenFiles.{FileOf}
+use Rattle.proto_schema.specs.Whole.{WorkspaceFaults}
+use Rattle.proto_edit.specs.Compiled.{AreCompiled}
+use Rattle.proto_records.specs.declared.fault.JournalFault.{JournalFault}
+use Rattle.proto_records.specs.declared.fault.JournalFault.TheVariants as journal
+use Rattle.proto_store.specs.Stores.{Held, HoldsFiles}
+use Rattle.proto_journal.specs.declared.loading.LoadFault.{LoadFault}
+use Rattle.proto_journal.specs.declared.loading.LoadFault.TheVariants as load
+use Rattle.proto_journal.specs.Commits.{IsUnreadable, HasOpenEntry, IsReady}
+use Rattle.proto_journal.specs.Known.{Over}
+
+-- a workspace of the store's files, which compile; or their least fault
+abbrev pub LoadOutcome : Option Held → Result (List FileOf) LoadFault → Type 0
+LoadOutcome held (Ok files) = AreCompiled files × HoldsFiles held files
+LoadOutcome held (Err (load.Schema f)) = Over held (λ now. IsLeastFault (WorkspaceFaults now.files) (fault_at f))
+LoadOutcome held (Err load.Store) = Unit {0}
+LoadOutcome held (Err load.NoMemory) = Unit {0}
+
+-- it is no fault of the files
+abbrev pub IsNoSchemaFault : LoadFault → Type 0
+IsNoSchemaFault (load.Schema f) = ⊥
+IsNoSchemaFault load.Store = Unit {0}
+IsNoSchemaFault load.NoMemory = Unit {0}
+
+-- why edits and undo may not begin: the journal is none, or its last entry is open
+abbrev pub IsUnready : Option Held → JournalFault → Type 0
+IsUnready held journal.BadJournal = Over held IsUnreadable
+IsUnready held journal.OpenEntry = Over held HasOpenEntry
+IsUnready held journal.Store = Unit {0}
+IsUnready held journal.NoMemory = Unit {0}
+IsUnready held journal.NothingToUndo = ⊥
+IsUnready held journal.JournalFull = ⊥
+IsUnready held (journal.Refused r) = ⊥
+
+-- whether they may
+abbrev pub ReadyOutcome : {T : Type 0} → Option Held → Result T JournalFault → Type 0
+ReadyOutcome held (Ok value) = Over held IsReady
+ReadyOutcome held (Err f) = IsUnready held f
+
+-- a failed call of the store is counted and answered as Store, and nothing else is
+abbrev pub CountsLoad : {T : Type 0} → ℕ → ℕ → Result T LoadFault → Type 0
+CountsLoad before after (Err load.Store) = after ≡ before + 1
+CountsLoad before after _ = after ≡ before
+
+abbrev pub fault_number : LoadFault → ℕ
+fault_number (load.Schema f) = number_of f.kind
+fault_number load.Store = 0
+fault_number load.NoMemory = 0
+
+abbrev pub fault_name : LoadFault → List ℕ
+fault_name (load.Schema f) = name_of f.kind
+fault_name load.Store = codes "Store"
+fault_name load.NoMemory = codes "NoMemory"

@@ -1,0 +1,93 @@
+//! Making an edit, in the store and in the workspace.
+
+ghost use Rattle.std.specs.Prelude.{◌-◌, ◌^◌, ◌<◌, IfErr, IfOk};
+ghost use Rattle.proto_edit.specs.Answers.{asked};
+ghost use Rattle.proto_edit.specs.Workspaces.{IsMappedStep};
+ghost use Rattle.proto_journal.specs.Commits.{CommitOutcome};
+ghost use Rattle.proto_journal.specs.Known.{CountsStore};
+ghost use Rattle.proto_journal.specs.Written.{AddsTo, IsUnprepared};
+ghost use Rattle.proto_records.specs.Journals.{done, opened};
+ghost use Rattle.proto_store.specs.Stores.{HoldsFiles};
+
+use crate::reading::ready_journal;
+use crate::writing::write_through;
+use proto_edit::{Edit, Entry, Workspace};
+use proto_records::laws::{journals_grow_and_shrink, records_have_one_text};
+use proto_records::{JournalFault, State, with_record};
+use proto_store::{Store, StoreFault};
+use std::alloc::Global;
+
+/// How many bytes a journal has at most.
+const MAX_LEN: usize = 16_777_216;
+
+// All that a commit writes and puts in place.
+#[derive(Drop)]
+struct Prepared {
+    next: Workspace,
+    entry: Entry,
+    // The journal with the entry, open and done.
+    first: Vec<u8>,
+    last: Vec<u8>,
+}
+
+// The workspace after an edit, and the journal with its entry.
+fn prepare(
+    alloc: Global,
+    journal: &[u8],
+    workspace: &Workspace,
+    edit: &Edit,
+) -> Result<Prepared, JournalFault>
+    ensures step { IfOk result (λ p. IsMappedStep workspace.now (asked edit.now) p.entry p.next) }
+    ensures first { IfOk result (λ p. AddsTo journal.now (opened p.entry) p.first.items) }
+    ensures last { IfOk result (λ p. AddsTo journal.now (done p.entry) p.last.items) }
+    ensures err { IfErr result (IsUnprepared workspace.now (asked edit.now) journal.now) }
+{
+    let (next, entry) = workspace.with_edit(alloc, edit)?;
+    let first = with_record(alloc, journal, State::Open, &entry)?;
+    let last = with_record(alloc, journal, State::Done, &entry)?;
+    if last.len() > MAX_LEN {
+        return Err(JournalFault::JournalFull);
+    }
+    // Both are journals: the text of an entry is as long while it is open.
+    records_have_one_text();
+    journals_grow_and_shrink();
+    Ok(Prepared {
+        next,
+        entry,
+        first,
+        last,
+    })
+}
+
+/// Makes an edit: writes it into the journal as open, replaces the changed files in the order of their paths, marks it as
+/// done, and puts the workspace in place. All that is written is made before the first write.
+///
+/// Refused are, in this order: a journal that is none (`BadJournal`), one whose last entry is open (`OpenEntry`), an edit that
+/// is not admissible (`Refused`), and an edit with which the journal would pass 16,777,216 bytes (`JournalFull`). `NoMemory`
+/// may come in place of any answer. After these, store and workspace are as before. `Store` comes exactly where a call of the
+/// store failed; then the workspace is as before, and the store is as before, torn between the files before and after the
+/// edit, or as after it.
+pub fn commit<S: Store>(
+    alloc: Global,
+    store: &mut S,
+    workspace: &mut Workspace,
+    edit: Edit,
+) -> Result<Entry, JournalFault>
+    requires room { S.failure_count store.old < 2 ^ 64 - 1 }
+    requires loaded { HoldsFiles (S.holds store.old) workspace.old }
+    ensures outcome { CommitOutcome (asked edit) workspace.old workspace.new
+        (S.holds store.old) (S.holds store.new) result }
+    ensures count { CountsStore (S.failure_count store.old) (S.failure_count store.new) result }
+{
+    let journal = ready_journal(alloc, store)?;
+    let made = prepare(alloc, journal.as_slice(), workspace, &edit)?;
+    let first = made.first.as_slice();
+    let last = made.last.as_slice();
+    match write_through(store, first, workspace.files(), made.next.files(), last) {
+        Ok(()) => {
+            *workspace = made.next;
+            Ok(made.entry)
+        }
+        Err(StoreFault::Failed) => Err(JournalFault::Store),
+    }
+}

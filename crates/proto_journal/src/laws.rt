@@ -1,0 +1,20 @@
+//! What holds of commits, undos and torn stores, for whoever builds on them. None of these does anything.
+
+ghost use Rattle.proto_journal.specs.Laws.{CommitsAreOne, TornBetweenIsTorn, TornUndoIsTorn, UndosAreOne};
+
+use proto_records::laws::journals_are_read_in_one_way;
+
+/// Where no call of a store fails and memory is there, the store and the workspace decide what a commit or an undo answers,
+/// and what it leaves.
+pub fn answers_are_one()
+    ensures commits { CommitsAreOne }
+    ensures undos { UndosAreOne }
+{
+    journals_are_read_in_one_way();
+}
+
+/// Where a commit or an undo leaves a store torn, each file of the entry is as before or as after it.
+pub fn torn_stores()
+    ensures made { TornBetweenIsTorn }
+    ensures undone { TornUndoIsTorn }
+{}

@@ -1,0 +1,17 @@
+//! The journal of a store: edits that are written down before they are made, and the way back.
+#![tactic(auto)]
+
+mod committing;
+pub mod laws;
+mod loading;
+mod reading;
+mod undoing;
+mod writing;
+
+pub use committing::commit;
+pub use loading::{LoadFault, all_files, load};
+pub use proto_edit::{Change, Edit, Entry, Refusal, Workspace};
+pub use proto_records::{JournalFault, Record, State, entry_text, read_entry, read_records};
+pub use proto_store::{FolderStore, MemoryStore, Store, StoreFault};
+pub use reading::ready;
+pub use undoing::undo_last;

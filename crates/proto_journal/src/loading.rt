@@ -1,0 +1,109 @@
+//! Files and workspaces, as a store has them.
+
+ghost use Rattle.std.specs.Prelude.{◌≡◌, ◌-◌, ◌^◌, ◌<◌, IfOk, IfErr};
+ghost use Rattle.proto_files.specs.GivenFiles.{files_of};
+ghost use Rattle.proto_journal.specs.Known.{Over};
+ghost use Rattle.proto_journal.specs.Loads.{CountsLoad, IsNoSchemaFault, LoadOutcome, fault_name, fault_number};
+ghost use Rattle.proto_store.specs.Stores.{AreInPathOrder, HoldsFiles};
+
+use proto_edit::Workspace;
+use proto_faults::{Fault, SchemaFault};
+use proto_store::{Store, StoreFault};
+use std::alloc::{AllocFailed, Global};
+use thiserror::Error;
+
+/// Why no workspace is loaded.
+#[derive(Debug, Drop, Error)]
+pub enum LoadFault {
+    /// The files do not compile: their least fault by phase, path, offset and number.
+    #[error("{0}")]
+    Schema(Fault),
+    /// A call of the store failed.
+    #[error("the store failed")]
+    Store,
+    #[error("no memory")]
+    NoMemory,
+}
+
+impl LoadFault {
+    /// The number of the schema fault, from 1 to 35, or 0 for another fault.
+    pub fn number(&self) -> u32
+        ensures { result ≡ fault_number self.now }
+    {
+        match self {
+            LoadFault::Schema(fault) => fault.number(),
+            LoadFault::Store => 0,
+            LoadFault::NoMemory => 0,
+        }
+    }
+
+    /// The name of the fault.
+    pub fn name(&self) -> &'static str
+        ensures { result.now ≡ fault_name self.now }
+    {
+        match self {
+            LoadFault::Schema(fault) => fault.name(),
+            LoadFault::Store => "Store",
+            LoadFault::NoMemory => "NoMemory",
+        }
+    }
+}
+
+impl From<StoreFault> for LoadFault {
+    ghost use Rattle.proto_journal.specs.declared.loading.LoadFault.TheVariants as fault;
+
+    ghost from_gives = { λ _ e. e ≡ fault.Store };
+
+    fn from(_fault: StoreFault) -> LoadFault {
+        LoadFault::Store
+    }
+}
+
+impl<T: Drop> From<AllocFailed<T>> for LoadFault {
+    ghost use Rattle.proto_journal.specs.declared.loading.LoadFault.TheVariants as fault;
+
+    ghost from_gives = { λ _ e. e ≡ fault.NoMemory };
+
+    fn from(_error: AllocFailed<T>) -> LoadFault {
+        LoadFault::NoMemory
+    }
+}
+
+/// All files of the store, in the order of their paths. It ends with `Store` at the first call of the store that fails, and
+/// with `NoMemory` where memory runs out; `Schema` never comes. The store is as before.
+pub fn all_files<S: Store>(
+    alloc: Global,
+    store: &mut S,
+) -> Result<Vec<(String, Vec<u8>)>, LoadFault>
+    requires { S.failure_count store.old < 2 ^ 64 - 1 }
+    ensures files { IfOk result (λ files. HoldsFiles (S.holds store.old) (files_of files.items)) }
+    ensures order { IfOk result (λ _. Over (S.holds store.old) (λ held. AreInPathOrder held.files)) }
+    ensures plain { IfErr result IsNoSchemaFault }
+    ensures same { S.holds store.new ≡ S.holds store.old }
+    ensures count { CountsLoad (S.failure_count store.old) (S.failure_count store.new) result }
+{
+    let mut paths = store.list()?;
+    paths.sort_unstable();
+    let mut files = Vec::new(alloc);
+    for path in paths {
+        let bytes = store.read(path.as_str())?;
+        files.push((path, bytes))?;
+    }
+    Ok(files)
+}
+
+/// The workspace of the store's files, where they compile; else `Schema` with their least fault. It ends with `Store` at the
+/// first call of the store that fails, and with `NoMemory` where memory runs out. The store is as before.
+pub fn load<S: Store>(alloc: Global, store: &mut S) -> Result<Workspace, LoadFault>
+    requires { S.failure_count store.old < 2 ^ 64 - 1 }
+    ensures outcome { LoadOutcome (S.holds store.old) result }
+    ensures same { S.holds store.new ≡ S.holds store.old }
+    ensures count { CountsLoad (S.failure_count store.old) (S.failure_count store.new) result }
+{
+    let files = all_files(alloc, store)?;
+    match Workspace::open(alloc, files) {
+        Ok(workspace) => Ok(workspace),
+        Err(SchemaFault::Schema(fault)) => Err(LoadFault::Schema(fault)),
+        Err(SchemaFault::NoMemory) => Err(LoadFault::NoMemory),
+    }
+}

@@ -1,0 +1,27 @@
+-- The answer of a command: what it prints, and how it ends.
+use Rattle.std.specs.Prelude.{◌≡◌, ℕ, List, Option, Result, Ok, Err}
+use Rattle.std.specs.String.{string_bytes}
+use Rattle.proto_output.specs.EditLines.{changed_lines}
+use Rattle.proto_output.specs.declared.answer.Answer.{Answer}
+use Rattle.proto_output.specs.declared.answer.Answer.TheVariants.{Text, Changed}
+use Rattle.proto_output.specs.declared.run_fault.RunFault.{RunFault}
+use Rattle.proto_output.specs.declared.run_fault.RunFault.TheVariants.{Store, NoMemory, Output}
+use Rattle.proto_output.specs.declared.status.Status.{Status}
+use Rattle.proto_output.specs.declared.status.Status.TheVariants.{Done}
+use Rattle.proto_store.specs.Stores.{Held}
+
+abbrev pub text_of : Answer → List ℕ
+text_of (Text text status) = string_bytes text
+text_of (Changed entry) = changed_lines entry
+
+abbrev pub status_of : Answer → Status
+status_of (Text text status) = status
+status_of (Changed entry) = Done
+
+-- What a command answers before it writes: the text and the status that it prints; or that a store call failed, which may have cut it;
+-- or want of memory, which leaves the store.
+abbrev pub IsAnswer : (List ℕ → Status → Type 0) → Type 0 → Option Held → Option Held → Result Answer RunFault → Type 0
+IsAnswer Prints Cut before after (Ok answer) = Prints (text_of answer) (status_of answer)
+IsAnswer Prints Cut before after (Err Store) = Cut
+IsAnswer Prints Cut before after (Err NoMemory) = after ≡ before
+IsAnswer Prints Cut before after (Err Output) = ⊥

@@ -1,0 +1,39 @@
+//! The answer of a command.
+
+ghost use Rattle.std.specs.Prelude.{◌≡◌, IfOk, OnErr};
+ghost use Rattle.std.specs.Io.KnownBytes.{Appends};
+ghost use Rattle.proto_output.specs.Answers.{status_of, text_of};
+ghost use Rattle.proto_output.specs.Writing.{AppendsBeginning};
+
+use crate::edit_lines::write_changed;
+use crate::status::Status;
+use crate::writing::{OutputFault, write_text};
+use proto_entries::Entry;
+use std::io::Write;
+
+/// What a command prints, and how it ends.
+#[derive(Drop)]
+pub enum Answer {
+    /// A text, and how the command ends.
+    Text(String, Status),
+    /// A line for each file that an entry changed, and that all is well. Nothing is left to be made for it.
+    Changed(Entry),
+}
+
+/// Writes what an answer prints, and tells how the command ends. It takes no memory.
+pub fn write_answer<W: Write>(writer: &mut W, answer: &Answer) -> Result<Status, OutputFault>
+    ensures ok { IfOk result (λ status. Appends (W.contents writer.old) (W.contents writer.new) (text_of answer.now)
+        × (status ≡ status_of answer.now)) }
+    ensures err { OnErr result (AppendsBeginning (W.contents writer.old) (W.contents writer.new) (text_of answer.now)) }
+{
+    match answer {
+        Answer::Text(text, status) => {
+            write_text(writer, text.as_str().as_bytes())?;
+            Ok(*status)
+        }
+        Answer::Changed(entry) => {
+            write_changed(writer, entry)?;
+            Ok(Status::Done)
+        }
+    }
+}

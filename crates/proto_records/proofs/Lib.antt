@@ -1,0 +1,5 @@
+mod CompactText
+mod JournalLists
+mod Lines
+mod ReadSteps
+mod RecordTexts

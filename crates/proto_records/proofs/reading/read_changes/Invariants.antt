@@ -1,0 +1,9 @@
+use Rattle.std.proofs.Common.{◌≡◌, List, map, take}
+use Rattle.std.specs.Prelude.{All}
+use Rattle.serde_json.specs.View.{items_view, items_of}
+use Rattle.proto_entries.specs.Entries.{ChangeOf, change_of, IsMeasured}
+use Rattle.proto_records.specs.RecordText.{change_data}
+use Rattle.proto_records.proofs.reading.read_changes.Given as goal
+
+abbrev pub invariant-loop-value : goal.invariant-loop-value
+invariant-loop-value l = (cs : List ChangeOf) → All IsMeasured cs → items_view l.value-items ≡ items_of (map change_data cs) → map change_of l.changes.items ≡ take l.value-index cs

@@ -1,0 +1,4 @@
+pub mod RecordText
+pub mod Journals
+pub mod FaultTable
+pub mod Laws

@@ -1,0 +1,11 @@
+//! Tests of stores, through the public calls of their crate alone.
+#![tactic(auto)]
+
+#[cfg(test)]
+mod allocations;
+#[cfg(test)]
+mod calls;
+#[cfg(test)]
+mod folders;
+#[cfg(test)]
+mod memory;

@@ -1,0 +1,2 @@
+pub mod Faulted
+mod Tellings

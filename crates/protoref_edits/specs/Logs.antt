@@ -1,0 +1,32 @@
+-- What the log prints, and how it ends: the choice of this program.
+use Rattle.std.specs.Prelude.{◌≡◌, ℕ, List, Option, Result, Ok, Err}
+use Rattle.proto_journal.specs.Known.{Over}
+use Rattle.proto_output.specs.Answers.{IsAnswer, status_of, text_of}
+use Rattle.proto_output.specs.EditLines.{faulty_line}
+use Rattle.proto_output.specs.LogLines.{log_lines}
+use Rattle.proto_output.specs.declared.answer.Answer.{Answer}
+use Rattle.proto_output.specs.declared.run_fault.RunFault.{RunFault}
+use Rattle.proto_output.specs.declared.run_fault.RunFault.TheVariants as ends
+use Rattle.proto_output.specs.declared.status.Status.{Status}
+use Rattle.proto_output.specs.declared.status.Status.TheVariants.{Done, Problem}
+use Rattle.proto_records.specs.Journals.{IsJournal}
+use Rattle.proto_records.specs.declared.fault.JournalFault.TheVariants as fault
+use Rattle.proto_records.specs.declared.record.Record.{Record}
+use Rattle.proto_store.specs.Stores.{Held}
+
+-- of a journal the lines of its records, and of what is none that it is bad
+abbrev pub PrintsLog : List ℕ → List ℕ → Status → Type 0
+PrintsLog journal text Done = (records : List Record) × IsJournal journal records × (text ≡ log_lines records)
+PrintsLog journal text Problem = ((records : List Record) → IsJournal journal records → ⊥) × (text ≡ faulty_line fault.BadJournal)
+
+-- the answer over the bytes of a journal; only memory may be wanting
+abbrev pub TellsLog : List ℕ → Result Answer RunFault → Type 0
+TellsLog journal (Ok answer) = PrintsLog journal (text_of answer) (status_of answer)
+TellsLog journal (Err e) = e ≡ ends.NoMemory
+
+-- the log of a store, which stays as it is
+abbrev pub PrintsLogOf : Option Held → Option Held → List ℕ → Status → Type 0
+PrintsLogOf before after text status = (after ≡ before) × Over before (λ held. PrintsLog held.journal text status)
+
+abbrev pub AnswersLog : Option Held → Option Held → Result Answer RunFault → Type 0
+AnswersLog before after result = IsAnswer (PrintsLogOf before after) (after ≡ before) before after result

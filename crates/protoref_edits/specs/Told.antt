@@ -1,0 +1,44 @@
+-- What is told of the outcome of a change: the choice of this program.
+use Rattle.std.specs.Prelude.{◌≡◌, ℕ, List, Option, Result, Ok, Err}
+use Rattle.proto_entries.specs.Entries.{ChangeOf}
+use Rattle.proto_files.specs.GivenFiles.{FileOf}
+use Rattle.proto_journal.specs.Known as known
+use Rattle.proto_output.specs.Answers.{status_of, text_of}
+use Rattle.proto_output.specs.EditLines.{changed_lines, faulty_line, refused_line}
+use Rattle.proto_output.specs.Ends.{CountsStore}
+use Rattle.proto_output.specs.declared.answer.Answer.{Answer}
+use Rattle.proto_output.specs.declared.run_fault.RunFault.{RunFault}
+use Rattle.proto_output.specs.declared.run_fault.RunFault.TheVariants as ends
+use Rattle.proto_output.specs.declared.status.Status.{Status}
+use Rattle.proto_output.specs.declared.status.Status.TheVariants.{Done, Problem}
+use Rattle.proto_records.specs.declared.fault.JournalFault.{JournalFault}
+use Rattle.proto_records.specs.declared.fault.JournalFault.TheVariants as fault
+use Rattle.proto_store.specs.Stores.{Held}
+
+-- An entry is told by its files, and a fault by its line. Neither a failed store call nor want of memory has a line.
+abbrev pub Tells : List FileOf → Result (List ChangeOf) JournalFault → List ℕ → Status → Type 0
+Tells files (Ok entry) text status = (text ≡ changed_lines entry) × (status ≡ Done)
+Tells files (Err (fault.Refused r)) text status = (text ≡ refused_line files r) × (status ≡ Problem)
+Tells files (Err fault.Store) text status = ⊥
+Tells files (Err fault.NoMemory) text status = ⊥
+Tells files (Err f) text status = (text ≡ faulty_line f) × (status ≡ Problem)
+
+-- the answer tells of the outcome, or ends with what the outcome ends with; or memory runs out for the line of a fault
+abbrev pub IsTold : List FileOf → Result (List ChangeOf) JournalFault → Result Answer RunFault → Type 0
+IsTold files outcome (Ok answer) = Tells files outcome (text_of answer) (status_of answer)
+IsTold files (Ok entry) (Err e) = ⊥
+IsTold files (Err fault.Store) (Err e) = e ≡ ends.Store
+IsTold files (Err f) (Err e) = e ≡ ends.NoMemory
+
+-- a store call whose failure is counted in the outcome is counted in the answer
+abbrev pub CountsAlike : Result (List ChangeOf) JournalFault → Result Answer RunFault → Type 0
+CountsAlike outcome result = (before after : ℕ) → known.CountsStore before after outcome → CountsStore before after result
+
+abbrev pub IsNoRefusal : JournalFault → Type 0
+IsNoRefusal (fault.Refused r) = ⊥
+IsNoRefusal _ = Unit {0}
+
+-- a change over the files has an outcome, of which the answer tells
+abbrev pub TellsOf : (List FileOf → List FileOf → Option Held → Option Held → Result (List ChangeOf) JournalFault → Type 0)
+    → List FileOf → Option Held → Option Held → Result Answer RunFault → Type 0
+TellsOf Outcome files before after result = (to : List FileOf) × (outcome : Result (List ChangeOf) JournalFault) × Outcome files to before after outcome × IsTold files outcome result

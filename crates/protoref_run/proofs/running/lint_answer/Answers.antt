@@ -1,0 +1,29 @@
+use Rattle.std.proofs.Common.{Result, Err, ap, subst}
+use Rattle.std.proofs.lemmas.Result.{err_from_is_err_and}
+use Rattle.std.specs.Prelude.{Option}
+use Rattle.proto_output.specs.declared.run_fault.RunFault.{RunFault}
+use Rattle.proto_store.specs.Stores.{Held}
+use Rattle.protoref_run.specs.Printed.{Opens}
+use Rattle.protoref_run.specs.declared.opening.Opening.{Opening}
+use Rattle.protoref_run.proofs.Printing.{ends_unlinted, faulty_lints, linted_prints}
+use Rattle.protoref_run.proofs.running.lint_answer.Goals as goal
+
+abbrev ended : RunFault → Result Opening RunFault
+ended x = Err x
+
+pub returns-in_err-opening-clause-outcome : goal.returns-in_err-opening-clause-outcome
+returns-in_err-opening-clause-outcome g c =
+    let p = err_from_is_err_and c.from_residual.result c.from_residual.ensures.1 in
+    rw (p.1, p.2)
+    (ends_unlinted (g.S.Store.holds c.args.store.now) (g.S.Store.holds c.open.new.store) c.args.rules c.in_err-opening.field-0.0
+    (λ is. c.in_err-opening.ensures.unwritten (ap ended is)) c.open.ensures.same)
+
+pub returns-in-Whole-clause-outcome : goal.returns-in-Whole-clause-outcome
+returns-in-Whole-clause-outcome g c =
+    let held : Option Held = g.S.Store.holds c.args.store.now in
+    let after : Option Held = g.S.Store.holds c.open.new.store in
+    linted_prints held after c.in-Whole.schema c.args.rules c.linted.result (subst (Opens held) c.in-Whole.is c.in_ok-opening.ensures.opens) c.open.ensures.same c.linted.ensures.linted c.linted.ensures.err
+
+pub returns-in-Faulty-clause-outcome : goal.returns-in-Faulty-clause-outcome
+returns-in-Faulty-clause-outcome g c =
+    faulty_lints (g.S.Store.holds c.args.store.now) (g.S.Store.holds c.open.new.store) c.args.rules c.in-Faulty.answer (subst (Opens (g.S.Store.holds c.args.store.now)) c.in-Faulty.is c.in_ok-opening.ensures.opens) c.open.ensures.same

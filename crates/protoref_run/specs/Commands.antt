@@ -1,0 +1,43 @@
+-- What a command prints, how it ends, and the store then and now: the choice of this program.
+use Rattle.std.specs.Prelude.{◌≡◌, ℕ, List, Option, Result, Ok, Err}
+use Rattle.std.specs.Io.KnownBytes.{Appends, Keeps}
+use Rattle.proto_edit.specs.Answers.{asked}
+use Rattle.proto_journal.specs.Known.{Over}
+use Rattle.proto_output.specs.Answers.{IsAnswer}
+use Rattle.proto_output.specs.Writing.{AppendsBeginning}
+use Rattle.proto_output.specs.declared.answer.Answer.{Answer}
+use Rattle.proto_output.specs.declared.run_fault.RunFault.{RunFault}
+use Rattle.proto_output.specs.declared.run_fault.RunFault.TheVariants.{Store, NoMemory, Output}
+use Rattle.proto_output.specs.declared.status.Status.{Status}
+use Rattle.proto_store.specs.Stores.{Held}
+use Rattle.protoref_edits.specs.Changes.{IsEditCut, IsUndoingCut, PrintsEdit, PrintsUndo}
+use Rattle.protoref_edits.specs.Logs.{PrintsLogOf}
+use Rattle.protoref_run.specs.Linted.{PrintsLinted}
+use Rattle.protoref_run.specs.Printed.{PrintsCompiled}
+use Rattle.protoref_run.specs.declared.command.Command.{Command}
+use Rattle.protoref_run.specs.declared.command.Command.TheVariants.{Compile, Lint, Edit, Undo, Log}
+
+-- the text that a command prints over a store, the status that it ends with, and the store then and now
+abbrev pub Answered : Command → Option Held → Option Held → List ℕ → Status → Type 0
+Answered Compile before after text status = (after ≡ before) × Over before (λ held. PrintsCompiled held.files text status)
+Answered (Lint rules) before after text status = (after ≡ before) × Over before (λ held. PrintsLinted held.files rules.chosen text status)
+Answered (Edit edit) before after text status = PrintsEdit (asked edit) before after text status
+Answered Undo before after text status = PrintsUndo before after text status
+Answered Log before after text status = PrintsLogOf before after text status
+
+-- where a store call failed: the store is as before, or as an edit or an undo that was cut leaves it
+abbrev pub IsCut : Command → Option Held → Option Held → Type 0
+IsCut (Edit edit) before after = IsEditCut (asked edit) before after
+IsCut Undo before after = IsUndoingCut before after
+IsCut _ before after = after ≡ before
+
+abbrev pub Answers : Command → Option Held → Option Held → Result Answer RunFault → Type 0
+Answers command before after result = IsAnswer (Answered command before after) (IsCut command before after) before after result
+
+-- The store then and now, and what was written: the whole text where the command ends, a beginning of it where the output failed, and
+-- else nothing.
+abbrev pub Ran : Command → Option Held → Option Held → Option (List ℕ) → Option (List ℕ) → Result Status RunFault → Type 0
+Ran command before after old new (Ok status) = (text : List ℕ) × Answered command before after text status × Appends old new text
+Ran command before after old new (Err Output) = (text : List ℕ) × (status : Status) × Answered command before after text status × AppendsBeginning old new text
+Ran command before after old new (Err Store) = IsCut command before after × Keeps old new
+Ran command before after old new (Err NoMemory) = (after ≡ before) × Keeps old new
