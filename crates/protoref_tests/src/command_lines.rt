@@ -269,12 +269,12 @@ fn tells_of_each_rule_in_a_line(rt: HostRuntime) -> Result<(), Fail> {
         panic!(rt; "no help");
     };
     let mut rules = RuleSet::none();
-    let mut count = 0;
+    let mut count: u32 = 0;
     for line in text.as_str().lines() {
         let name = line.trim_start().split(' ').next().unwrap_or("");
         if let Some(rule) = Rule::from_name(name) {
             rules.insert(rule);
-            count += 1;
+            count = count.saturating_add(1);
         }
     }
     assert_eq!(rt; count, 27);
