@@ -57,7 +57,7 @@ fn paths_text(alloc: Global, changes: &[Change]) -> Result<String, NoMemory>
     };
     let mut text = String::from_str(alloc, first.path.as_str())?;
     for change in rest {
-        text.push(' ')?;
+        text.push(',')?;
         text.push_str(change.path.as_str())?;
     }
     Ok(text)

@@ -43,7 +43,7 @@ fn committed<S: Store>(
     ensures told { TellsOf (CommitOutcome (asked edit)) workspace (S.holds store.old) (S.holds store.new) result }
     ensures count { CountsStore (S.failure_count store.old) (S.failure_count store.new) result }
 {
-    if let Ok((_, entry)) = workspace.with_edit(alloc, &edit) { return Ok(Answer::Changed(entry)); } let outcome = commit(alloc, store, &mut workspace, edit);
+    let outcome = commit(alloc, store, &mut workspace, edit);
     outcome_answer(alloc, workspace.files(), outcome)
 }
 
