@@ -1,14 +1,17 @@
 -- Each flaw of a file stands at a token that is there (for the crates above).
-use Rattle.std.proofs.Common.{ℕ, suc, ◌+◌, ◌<◌, ◌≤◌, Bool, true, false, not, ◌&&◌, List, [], ◌∷◌, ◌++◌, cond, length, map, Option, Some, None, arith}
+use Rattle.std.proofs.Common.{ℕ, suc, ◌<◌, Bool, true, false, not, ◌&&◌, List, [], ◌∷◌, ◌++◌, cond, length, map, Option, Some, None, arith}
 use Rattle.std.specs.Prelude.{if◌then◌else◌, ℤ, pos, codes}
 use Rattle.std.specs.List.{AllByRecursion, Contains, flat_map, find, list_any}
 use Rattle.std.specs.Ordering.{int_eq}
 use Rattle.std.specs.Str.{bytes_eq}
 use Rattle.std.proofs.lemmas.List.Elements.{All-contains, All-from_recursion}
+use Rattle.std.proofs.lemmas.List.{length-map}
 use Rattle.proto_faults.specs.declared.fault.FaultKind.{FaultKind}
 use Rattle.proto_faults.specs.declared.fault.FaultKind.TheVariants as kind
 use Rattle.proto_text.specs.declared.lexer.Token.{Token}
-use Rattle.proto_text.specs.Tokens.{lexeme_at}
+use Rattle.proto_text.specs.declared.kind.TokenKind.TheVariants as token_kind
+use Rattle.proto_text.specs.Tokens.{Lexeme, lexeme_at}
+use Rattle.proto_text.proofs.Lists.{contains_head, contains_later}
 use Rattle.proto_tree.specs.declared.class.Class.{Class}
 use Rattle.proto_tree.specs.declared.class.Class.TheVariants as class
 use Rattle.proto_tree.specs.declared.class.Want.TheVariants as want
@@ -28,12 +31,10 @@ use Rattle.proto_tree.specs.declared.tree.ReservedList.TheVariants as reserved_l
 use Rattle.proto_tree.specs.declared.tree.Settings.{Settings}
 use Rattle.proto_tree.specs.declared.tree.Signed.{Signed}
 use Rattle.proto_tree.specs.declared.tree.Value.{Value}
-use Rattle.proto_tree.specs.Flat.{Mark, flat_all, flat_behind, flat_header, flat_number, flat_option, flat_range, flat_reserved_list, flat_separated, flat_setting, flat_settings, flat_signed, flat_statement, flat_type, flat_up_to, flat_value, one as one_mark, only, text as text_mark, word}
-use Rattle.proto_tree.specs.Laws.{Numbered}
+use Rattle.proto_tree.specs.Flat.{Mark, flat_all, flat_behind, flat_header, flat_number, flat_option, flat_range, flat_reserved_list, flat_separated, flat_setting, flat_settings, flat_signed, flat_statement, flat_type, flat_up_to, flat_value, one as one_mark, only, text as text_mark, name}
 use Rattle.proto_tree.specs.Reads.{Reads}
 use Rattle.proto_tree.specs.Tree.{Tree, End, Leaf, Block, flat}
-use Rattle.proto_tree.proofs.MarkLaws.{trees_are_numbered}
-use Rattle.proto_listing.proofs.InTokens.{as_long}
+use Rattle.proto_tree.proofs.MarkLaws.{marks_fit}
 use Rattle.proto_parts.specs.Options.{is_allowed, is_named}
 use Rattle.proto_parts.specs.Parts.{FieldOf, OptionOf, BlockOf, blocks_in, closed_ranges, enum_ranges, extension_words, fields_from, fields_in, map_field, names_of, option_of_setting, options_in, plain_field, ranges_of, reserved_names, reserved_names_in, separated, settings_of, statement_fields, statement_options, statement_values, statements, values_in}
 use Rattle.proto_parts.specs.Scenes.{Scene, text, value}
@@ -140,7 +141,7 @@ module _ (Here : ℕ → Type 0) where
       let label : List Mark = flat_option (only want.Label) f.label in
       let settings : List Mark = flat_option flat_settings f.settings in
       let ends : List Mark = settings ++ one_mark class.Semicolon f.semicolon in
-      let later : List Mark = word f.name ++ (one_mark class.Equals f.equals ++ (one_mark class.Number f.number ++ ends)) in
+      let later : List Mark = name f.name ++ (one_mark class.Equals f.equals ++ (one_mark class.Number f.number ++ ends)) in
       let behind = right label (flat_type f.kind ++ later) h in
       let named = right (flat_type f.kind) later behind in
       record {
@@ -156,7 +157,7 @@ module _ (Here : ℕ → Type 0) where
   map_here f h =
       let settings : List Mark = flat_option flat_settings f.settings in
       let ends : List Mark = settings ++ one_mark class.Semicolon f.semicolon in
-      let later : List Mark = one_mark class.Greater f.close ++ (word f.name ++ (one_mark class.Equals f.equals ++ (one_mark class.Number f.number ++ ends))) in
+      let later : List Mark = one_mark class.Greater f.close ++ (name f.name ++ (one_mark class.Equals f.equals ++ (one_mark class.Number f.number ++ ends))) in
       let typed = h.1.1.1.1 in
       let named = (right (flat_type f.value) later typed).1 in
       record {
@@ -528,12 +529,14 @@ module _ (Here : ℕ → Type 0) where
 
 -- ---- a tree that was read
 
-numbered_below : (n bound : ℕ) (ms : List Mark) → Numbered n ms → n + length ms ≤ bound → AllByRecursion (λ m. m.at < bound) ms
-numbered_below n bound [] num le = tt
-numbered_below n bound (m ∷ ms) num le = (omega (arith, num.0, le), numbered_below (suc n) bound ms num.1 (omega (arith, le)))
+each_mark : (P : Mark → Type 0) (ms : List Mark) → ((m : Mark) → Contains ms m → P m) → AllByRecursion P ms
+each_mark P [] here = tt
+each_mark P (m ∷ ms) here = (here m (contains_head m ms), each_mark P ms (λ x c. here x (contains_later m x ms c)))
 
 pub flaw_within : (text : List ℕ) (tokens : List Token) (tree : Tree) → Reads text tokens tree → (scene : Scene) (f : Flaw) → Contains (file_flaws scene tree) f → f.token < length tokens
 flaw_within text tokens tree reads scene f c =
     let bound = length tokens in
-    let marks = numbered_below 0 bound (flat tree) (trees_are_numbered tree (map (lexeme_at text) tokens) reads.spells) (omega (arith, as_long text tokens tree reads)) in
+    let ls = map (lexeme_at text) tokens in
+    let none : Lexeme = record { kind = token_kind.Word; text = [] } in
+    let marks = each_mark (λ m. m.at < bound) (flat tree) (λ m d. (let fits = marks_fit tree ls m none reads.spells d in omega (arith, fits.0, length-map tokens (lexeme_at text)))) in
     All-contains (λ x. x.token < bound) (file_flaws scene tree) f (All-from_recursion (λ x. x.token < bound) (file_flaws scene tree) (file_stands (λ i. i < bound) scene tree marks)) c

@@ -1,4 +1,9 @@
+pub mod Declarations
 pub mod DeletedFlaws
+pub mod FieldOrder
 pub mod MovedFlaws
 pub mod MovedParts
+pub mod NamedFlaws
+pub mod OneField
 pub mod RenamedFlaws
+pub mod Roles

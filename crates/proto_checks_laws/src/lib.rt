@@ -3,4 +3,7 @@
 
 mod laws;
 
-pub use laws::{deletions_bring_no_flaws, imports_move_flaws, names_decide_three_kinds};
+pub use laws::{
+    asked_tokens_have_roles, blocks_are_declared, deletions_bring_no_flaws, flaws_of_names,
+    imports_move_flaws, names_decide_three_kinds, tokens_are_of_one_field,
+};

@@ -1,4 +1,5 @@
 pub mod Puts
+pub mod ShortPuts
 pub mod Walks
 mod EntrySums
 mod EntryTests

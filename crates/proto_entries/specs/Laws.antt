@@ -1,5 +1,6 @@
 -- The laws of entries: what their changes put into files, and the way back.
-use Rattle.std.specs.Prelude.{◌≡◌, List}
+use Rattle.std.specs.Prelude.{◌≡◌, ℕ, ◌+◌, ◌≤◌, List, length}
+use Rattle.proto_text.specs.Edits.{Edit, AreShort, Puts}
 use Rattle.proto_files.specs.GivenFiles.{FileOf, AreWorkspaceFiles}
 use Rattle.proto_entries.specs.Entries.{ChangeOf, inverted, AreRising, IsEntry}
 use Rattle.proto_entries.specs.Putting.{IsPut, AreShortFiles, ArePut}
@@ -23,3 +24,7 @@ PutsKeepPaths = (w after : List FileOf) (cs : List ChangeOf) → AreWorkspaceFil
 -- From what an entry put, its changes turned round lead back.
 abbrev pub EntriesLeadBack : Type 0
 EntriesLeadBack = (w after : List FileOf) (cs : List ChangeOf) → IsEntry cs → IsPut w cs after → IsPut after (inverted cs) w
+
+-- Splices that put a text lie in order, and so do those that lead back, where both texts are short; they begin at these bytes.
+abbrev pub PutsAreShort : Type 0
+PutsAreShort = (to from : ℕ) (text new : List ℕ) (es : List Edit) → Puts from text es new → from + length text ≤ 1048576 → to + length new ≤ 1048576 → AreShort to from es

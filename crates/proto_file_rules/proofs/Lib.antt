@@ -1,7 +1,7 @@
 pub mod FileHeads
 mod HeadLists
 mod ImportLists
-mod MarkedWalks
+mod MeantMarks
 mod PublicImports
 mod Reached
 mod Used

@@ -21,6 +21,7 @@ use Rattle.proto_meaning.specs.declared.kind.Kind.TheVariants.{Package, Message,
 use Rattle.proto_meaning.proofs.Basics.{name_from_same, same_from_name}
 use Rattle.proto_meaning.proofs.Joined.{joined_apart}
 use Rattle.proto_meaning.proofs.Renamed.{meant as meant_type}
+use Rattle.proto_meaning.proofs.Seeing.{reaches_all, reaches_only}
 use Rattle.proto_files.specs.FilesRead.{ReadOf, AreRead, read_at}
 use Rattle.proto_imports.specs.Links.{link_skeleton, names_in, names_of_files, text_of}
 use Rattle.proto_imports.proofs.Walks.{marked_within}
@@ -32,7 +33,7 @@ use Rattle.proto_names.proofs.MeantNames.{declared_as}
 use Rattle.proto_case.specs.Camel.{entry_name}
 use Rattle.proto_file_rules.specs.Imports.{is_reached, is_used}
 use Rattle.proto_file_rules.specs.ImportTables.{LeadsToMarked, MarksMeant}
-use Rattle.proto_file_rules.proofs.Reached.{reached_within, search_finds, search_sound}
+use Rattle.proto_file_rules.proofs.Reached.{reached_within}
 
 -- ---- the references and the declarations of files, file after file
 
@@ -173,7 +174,7 @@ module _ (files : List FileOf) (reads : List ReadOf) (l : LinkOf) (are : AreRead
         let plain : ArePlain named.0 = subst ArePlain t.2 (link.by.names.plain t.0 t.1) in
         let s = o.2 in
         let same : s.0.name ≡ named.0 = joined_apart s.0.name named.0 (link.by.names.plain s.0 s.1) plain (s.2 ∙ named.2) in
-        let found : reaches w.imports w.files to s.0.file ≡ true = search_finds w link.by.between to s.0.file (omega (arith, l', files_are)) (subst (Reaches w.imports to) (sym s.3) r) in
+        let found : reaches w.imports w.files to s.0.file ≡ true = reaches_all w.imports w.files (λ i c. (link.by.between i c).1) to s.0.file (omega (arith, l', files_are)) (subst (Reaches w.imports to) (sym s.3) r) in
         let reached : is_reached w to (Some named.0) ≡ true = any_from (λ y. same_name y.name named.0 && reaches w.imports w.files to y.file) w.symbols s.0 s.1 (and_from _ _ (same_from_name s.0.name named.0 same) found) in
         let there : Contains w.references (used_named text file u.0) = contains_map (reference_of text entry_name) (link_skeleton files reads).used (used_in file u.0)
         (subst (λ m. Contains (all_used 0 (map names_in reads)) (used_in m u.0)) {x = 0 + file} {y = file} (omega arith) (use_in 0 file reads u.0 (omega (arith, within, are.same)) u.1)) in
@@ -197,7 +198,7 @@ module _ (files : List FileOf) (reads : List ReadOf) (l : LinkOf) (are : AreRead
         let m = from_map (meant_by_link l) ms (meant_by_use files reads file one) (subst (λ (z : List TextMeant). Contains z (meant_by_use files reads file one)) (sym (link.means file within).texts) (contains_map (meant_by_use files reads file) (uses_of reads file) one c)) in
         let n = with_text (name_at l m.0.row) (joined named.0) (ap (λ (z : TextMeant). z.text) m.2 ∙ ap (option_map joined) means) in
         let declared = symbol_file (used_named text file one) named.0 means m.0.row n.0 n.1 n.2 s.0 s.1 s.2 in
-        let r = search_sound w.imports w.files to s.0.file s.3 in
+        let r = reaches_only w.imports w.files to s.0.file s.3 in
         let inside = reached_within w link.by.between {f = to} {g = s.0.file} (omega (arith, l', files_are)) r in
         (s.0.file, r, (marked s.0.file (omega (arith, inside, files_are))).1 (m.0, m.1, declared))
 

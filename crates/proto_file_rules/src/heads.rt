@@ -1,6 +1,6 @@
 //! What is read of each file, and the first files of directories and packages.
 
-ghost use Rattle.std.specs.Prelude.{◌≡◌, ◌<◌, ◌∷◌, List, map, length, find, get_or, option_map, IfOk};
+ghost use Rattle.std.specs.Prelude.{◌≡◌, ◌<◌, ◌≤◌, ◌^◌, ◌∷◌, List, map, length, find, get_or, option_map, IfOk};
 ghost use Rattle.std.specs.String.{string_bytes};
 ghost use Rattle.std.specs.Str.{bytes_eq};
 ghost use Rattle.proto_text.specs.Texts.{word_at};
@@ -11,10 +11,10 @@ ghost use Rattle.proto_findings.specs.Placed.{before_last, behind_last};
 ghost use Rattle.proto_file_rules.specs.Heads.{first_offset, head_of_file, heads};
 ghost use Rattle.proto_file_rules.specs.Packages.{Head, directory, file_name, package_name, stem};
 
-use crate::first_places::{first_places, place_of};
 use indexmap::IndexMap;
 use proto_faults::NoMemory;
 use proto_files::{Files, Words, offset_of};
+use proto_imports::first_places::{first_places, place_of};
 use proto_listing::wanted::package;
 use proto_parts::syntax_text;
 use proto_text::Token;
@@ -51,8 +51,8 @@ impl<'a> Model for FileHead<'a> {
 #[derive(Drop)]
 pub struct Heads<'a> {
     heads: Vec<FileHead<'a>>,
-    directories: IndexMap<String, usize>,
-    packages: IndexMap<String, usize>,
+    directories: IndexMap<String, u32>,
+    packages: IndexMap<String, u32>,
 }
 
 impl<'a> Model for Heads<'a> {
@@ -216,7 +216,8 @@ impl<'a> FileHead<'a> {
 
 /// The heads of all files.
 fn all_heads<'a>(alloc: Global, files: &'a Files) -> Result<Vec<FileHead<'a>>, NoMemory>
-    ensures { IfOk result (λ hs. (reads : List ReadOf) → AreRead files.now reads → hs.items ≡ heads files.now reads) }
+    ensures few { IfOk result (λ hs. length hs.items ≤ 2 ^ 32) }
+    ensures heads { IfOk result (λ hs. (reads : List ReadOf) → AreRead files.now reads → hs.items ≡ heads files.now reads) }
 {
     let mut all = Vec::new(alloc);
     for file in 0..files.len() {
@@ -229,7 +230,8 @@ fn all_heads<'a>(alloc: Global, files: &'a Files) -> Result<Vec<FileHead<'a>>, N
 fn first_of_directories(
     alloc: Global,
     heads: &[FileHead],
-) -> Result<IndexMap<String, usize>, NoMemory>
+) -> Result<IndexMap<String, u32>, NoMemory>
+    requires { length heads.now ≤ 2 ^ 32 }
     ensures { IfOk result (λ index. IsFileIndex index (map directory heads.now)) }
 {
     let mut directories = Vec::new(alloc);
@@ -240,7 +242,8 @@ fn first_of_directories(
 }
 
 /// The place of the first file of each package.
-fn first_of_packages(alloc: Global, heads: &[FileHead]) -> Result<IndexMap<String, usize>, NoMemory>
+fn first_of_packages(alloc: Global, heads: &[FileHead]) -> Result<IndexMap<String, u32>, NoMemory>
+    requires { length heads.now ≤ 2 ^ 32 }
     ensures { IfOk result (λ index. IsFileIndex index (map package_name heads.now)) }
 {
     let mut packages = Vec::new(alloc);
@@ -276,7 +279,7 @@ impl<'a> Heads<'a> {
         ensures { option_map (λ h. h.now) result ≡ find (λ g. bytes_eq (directory g) path.now) self.now }
     {
         match place_of(&self.directories, path) {
-            Some(place) => self.heads.get(place),
+            Some(place) => self.heads.get(place as usize),
             None => None,
         }
     }
@@ -286,7 +289,7 @@ impl<'a> Heads<'a> {
         ensures { option_map (λ h. h.now) result ≡ find (λ g. bytes_eq (package_name g) name.now) self.now }
     {
         match place_of(&self.packages, name) {
-            Some(place) => self.heads.get(place),
+            Some(place) => self.heads.get(place as usize),
             None => None,
         }
     }

@@ -22,12 +22,13 @@ ghost use Rattle.proto_findings.specs.declared.rule.Rule.TheVariants as rule;
 ghost use Rattle.proto_file_rules.specs.Imports.{import_finds, import_no_public, import_used, imports_finds, imports_in};
 ghost use Rattle.proto_file_rules.specs.ImportTables.{AreImportsOf, LeadsToMarked, MarksUsed, public_target, public_targets};
 
-use crate::first_places::{first_places, place_of};
-use crate::uses::{leads_to_marked, used_files};
+use crate::uses::{share_a_mark, used_files};
 use indexmap::IndexMap;
 use proto_faults::NoMemory;
-use proto_files::{Files, Words};
+use proto_files::{Files, Words, all_paths};
 use proto_findings::{Found, Reading, Rule, RuleSet, add_unless};
+use proto_imports::first_places::{first_places, place_of};
+use proto_imports::walk::reached;
 use proto_listing::wanted;
 use proto_listing::wanted::Wanted;
 use proto_names::{Link, are_read};
@@ -38,27 +39,28 @@ use std::alloc::Global;
 /// The files of a workspace by their paths, and for each file those that it imports publicly.
 #[derive(Drop)]
 pub struct Imports {
-    files: IndexMap<String, usize>,
-    public: Vec<Vec<usize>>,
+    files: IndexMap<String, u32>,
+    public: Vec<Vec<u32>>,
 }
 
-fn all_paths<'a>(alloc: Global, files: &'a Files) -> Result<Vec<&'a str>, NoMemory>
-    ensures { IfOk result (λ paths. map (λ p. p.now) paths.items ≡ paths_of files.now) }
+/// The files by their paths.
+fn files_by_path(alloc: Global, files: &Files) -> Result<IndexMap<String, u32>, NoMemory>
+    ensures { IfOk result (λ index. IsFileIndex index (paths_of files.now)) }
 {
-    let mut paths = Vec::new(alloc);
-    for file in 0..files.len() {
-        paths.push(files.path(file))?;
-    }
-    Ok(paths)
+    // There are at most 4,096 files.
+    let _count = files.len();
+    let paths = all_paths(alloc, files)?;
+    let index = first_places(alloc, &paths)?;
+    Ok(index)
 }
 
 /// The file that a public import names.
 fn public_target(
     alloc: Global,
-    index: &IndexMap<String, usize>,
+    index: &IndexMap<String, u32>,
     words: &Words,
     import: &Wanted,
-) -> Result<Option<usize>, NoMemory>
+) -> Result<Option<u32>, NoMemory>
     requires { IsString (word_at words.now import.now.path) }
     ensures { IfOk result (λ to. (paths : List (List ℕ)) → IsFileIndex index.now paths → to ≡ public_target paths (word_at words.now) (wanted_of import.now)) }
 {
@@ -69,7 +71,7 @@ fn public_target(
     Ok(place_of(index, path.as_str()))
 }
 
-fn add(targets: &mut Vec<usize>, target: Option<usize>) -> Result<(), NoMemory>
+fn add(targets: &mut Vec<u32>, target: Option<u32>) -> Result<(), NoMemory>
     ensures { OnOk result (targets.new.items ≡ targets.old.items ++ option_to_list target) }
 {
     if let Some(target) = target {
@@ -81,10 +83,10 @@ fn add(targets: &mut Vec<usize>, target: Option<usize>) -> Result<(), NoMemory>
 /// The files that the public ones of these imports name.
 fn public_targets(
     alloc: Global,
-    index: &IndexMap<String, usize>,
+    index: &IndexMap<String, u32>,
     words: &Words,
     wanted: &[Wanted],
-) -> Result<Vec<usize>, NoMemory>
+) -> Result<Vec<u32>, NoMemory>
     requires { All (λ w. IsString (word_at words.now w.path)) wanted.now }
     ensures { IfOk result (λ targets. (paths : List (List ℕ)) → IsFileIndex index.now paths → targets.items ≡ public_targets paths (word_at words.now) (map wanted_of wanted.now)) }
 {
@@ -99,9 +101,9 @@ fn public_targets(
 fn public_of(
     alloc: Global,
     files: &Files,
-    index: &IndexMap<String, usize>,
+    index: &IndexMap<String, u32>,
     file: usize,
-) -> Result<Vec<usize>, NoMemory>
+) -> Result<Vec<u32>, NoMemory>
     requires { file < length files.now }
     ensures { IfOk result (λ public. (paths : List (List ℕ)) → IsFileIndex index.now paths → (reads : List ReadOf) → AreRead files.now reads
         → public.items ≡ public_targets paths (λ i. text_of files.now reads (at file i)) (wanted_in (read_at reads file).tree)) }
@@ -116,8 +118,8 @@ fn public_of(
 fn all_public(
     alloc: Global,
     files: &Files,
-    index: &IndexMap<String, usize>,
-) -> Result<Vec<Vec<usize>>, NoMemory>
+    index: &IndexMap<String, u32>,
+) -> Result<Vec<Vec<u32>>, NoMemory>
     ensures len { IfOk result (λ public. length public.items ≡ length files.now) }
     ensures each { IfOk result (λ public. (paths : List (List ℕ)) → IsFileIndex index.now paths → (reads : List ReadOf) → AreRead files.now reads
         → Each (λ k v. v.items ≡ public_targets paths (λ i. text_of files.now reads (at k i)) (wanted_in (read_at reads k).tree)) public.items) }
@@ -136,8 +138,7 @@ impl Imports {
     {
         // Each file has tokens and a tree.
         are_read(files);
-        let paths = all_paths(alloc, files)?;
-        let index = first_places(alloc, &paths)?;
+        let index = files_by_path(alloc, files)?;
         let public = all_public(alloc, files, &index)?;
         Ok(Imports {
             files: index,
@@ -160,8 +161,8 @@ impl Imports {
     {
         match place_of(&self.files, path) {
             Some(file) => {
-                let leads = leads_to_marked(alloc, &self.public, marks, file)?;
-                Ok(leads)
+                let seen = reached(alloc, &self.public, file)?;
+                Ok(share_a_mark(&seen, marks))
             }
             None => Ok(false),
         }

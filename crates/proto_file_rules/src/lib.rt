@@ -1,7 +1,6 @@
 //! The lint rules of whole files: packages, paths, syntax and imports.
 #![tactic(auto)]
 
-mod first_places;
 mod heads;
 mod imports;
 mod packages;

@@ -1,8 +1,7 @@
-//! Which files are used by references, and which lead to them by public imports.
+//! Which files are used by references.
 
-ghost use Rattle.std.specs.Prelude.{◌≡◌, ◌↔◌, ℕ, ◌<◌, ◌++◌, ◌∷◌, [], length, get_or, map, true, false, OnOk, IfOk, slice_set, replicate};
-ghost use Rattle.std.specs.List.{All};
-ghost use Rattle.proto_imports.specs.Walks.{Walks, IsMarked, Visits};
+ghost use Rattle.std.specs.Prelude.{◌≡◌, ◌↔◌, ◌&&◌, ℕ, ◌<◌, [], length, get_or, true, false, IfOk, replicate};
+ghost use Rattle.proto_imports.specs.Walks.{IsMarked};
 ghost use Rattle.proto_names.specs.LinkOfFiles.{IsLinkOf};
 ghost use Rattle.proto_names.specs.Linking.{file_at};
 ghost use Rattle.proto_file_rules.specs.ImportTables.{MarksMeant, MarksUsed, with_mark};
@@ -60,50 +59,24 @@ pub(crate) fn used_files(
     Ok(marks)
 }
 
-/// Whether steps along the lists lead from this file to one that is marked.
-pub(crate) fn leads_to_marked(
-    alloc: Global,
-    next: &[Vec<usize>],
-    marks: &[bool],
-    start: usize,
-) -> Result<bool, NoMemory>
-    requires start { start < length next.now }
-    requires files { All (λ v. All (λ g. g < length next.now) v.items) next.now }
-    requires marks { length marks.now ≡ length next.now }
-    ensures { IfOk result (λ leads. (leads ≡ true) ↔ ((g : ℕ) × Walks (map (λ v. v.items) next.now) start g × IsMarked marks.now g)) }
+/// Whether the file is marked in both.
+fn is_shared(marks: &[bool], others: &[bool], file: usize) -> bool
+    requires marks { file < length marks.now }
+    requires others { file < length others.now }
+    ensures { result ≡ get_or marks.now file false && get_or others.now file false }
 {
-    let mut seen = unmarked(alloc, next.len())?;
-    seen[start] = true;
-    let mut todo = vec![in alloc; start]?;
-    while let Some(file) = todo.pop() {
-        if marks[file] {
-            return Ok(true);
+    marks[file] && others[file]
+}
+
+/// Whether some file is marked in both.
+pub(crate) fn share_a_mark(marks: &[bool], others: &[bool]) -> bool
+    requires { length others.now ≡ length marks.now }
+    ensures { (result ≡ true) ↔ ((g : ℕ) × IsMarked marks.now g × IsMarked others.now g) }
+{
+    for file in 0..marks.len() {
+        if is_shared(marks, others, file) {
+            return true;
         }
-        visit(&next[file], &mut seen, &mut todo)?;
     }
-    Ok(false)
-}
-
-/// Marks the files of a list; those that were not marked wait.
-fn visit(next: &[usize], seen: &mut Vec<bool>, todo: &mut Vec<usize>) -> Result<(), NoMemory>
-    requires { All (λ g. g < length seen.old.items) next.now }
-    ensures { OnOk result (Visits next.now seen.old.items todo.old.items seen.new.items todo.new.items) }
-{
-    for file in next {
-        wait(*file, seen, todo)?;
-    }
-    Ok(())
-}
-
-/// Marks a file, which waits if it was not marked.
-fn wait(file: usize, seen: &mut Vec<bool>, todo: &mut Vec<usize>) -> Result<(), NoMemory>
-    requires { file < length seen.old.items }
-    ensures old { OnOk result (IsMarked seen.old.items file → (seen.new.items ≡ seen.old.items) × (todo.new.items ≡ todo.old.items)) }
-    ensures new { OnOk result (get_or seen.old.items file false ≡ false → (seen.new.items ≡ slice_set seen.old.items file true) × (todo.new.items ≡ todo.old.items ++ file ∷ [])) }
-{
-    if !seen[file] {
-        seen[file] = true;
-        todo.push(file)?;
-    }
-    Ok(())
+    false
 }

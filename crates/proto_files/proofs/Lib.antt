@@ -12,6 +12,7 @@ pub mod OneLeast
 mod Rows
 pub mod OneOrder
 pub mod WordsAt
+mod StringsAt
 pub mod OwnTokens
 pub mod FilesAreRead
 pub mod OneReading

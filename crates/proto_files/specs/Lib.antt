@@ -8,4 +8,5 @@ pub mod ReadFaults
 pub mod Reading
 pub mod FileTokens
 pub mod FilesRead
+pub mod StringTokens
 pub mod Laws

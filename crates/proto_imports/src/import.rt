@@ -6,8 +6,9 @@ ghost use Rattle.proto_meaning.specs.Faults.{Fault, ImportFault, IsBefore, impor
 ghost use Rattle.proto_imports.specs.Importing.{AreRising, all_asked, all_imports, fault_of, number_of, IsImportError};
 ghost use Rattle.proto_imports.specs.ImportSteps.{IsFirst};
 
+use crate::first_places::first_places;
 use crate::import_cycles::first_on_cycle;
-use crate::import_paths::{file_index, first_path_fault, resolved};
+use crate::import_paths::{first_path_fault, resolved};
 use proto_faults::NoMemory;
 use std::alloc::{AllocError, Global};
 
@@ -115,7 +116,7 @@ pub fn resolve_imports(
     ensures within { IfOk result (λ imports. All (λ v. All (λ i. i.to < length files.now) v.items) imports.items) }
     ensures fault { IfErr result (IsImportError (ImportFault (map (λ p. p.now) paths.now) (all_asked 0 (map (λ v. v.items) files.now)))) }
 {
-    let index = file_index(alloc, paths)?;
+    let index = first_places(alloc, paths)?;
     let imports = resolved(alloc, &index, files)?;
     let path_fault = first_path_fault(alloc, &index, files)?;
     let cycle_fault = first_on_cycle(alloc, &index, files, &imports)?;

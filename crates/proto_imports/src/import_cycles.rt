@@ -8,8 +8,8 @@ ghost use Rattle.proto_meaning.specs.Faults.{imports_of};
 ghost use Rattle.proto_imports.specs.Importing.{AreRising, all_asked, all_imports, fault_of};
 ghost use Rattle.proto_imports.specs.ImportSteps.{AreTurned, AreImporters, IsFileIndex, IsFirst, CycleFault, MarkedFault};
 
+use crate::first_places::place_of;
 use crate::import::{BadImport, FileImport, ImportFlaw, WrittenImport};
-use crate::import_paths::file_with;
 use crate::walk::reached;
 use indexmap::IndexMap;
 use proto_faults::NoMemory;
@@ -248,7 +248,7 @@ fn first_to_marked(
 fn names_marked(index: &IndexMap<String, u32>, path: &str, marked: &[bool]) -> bool
     ensures { result ≡ option_map_or (λ to. get_or marked.now to false) (get_by_text index.now path.now) false }
 {
-    match file_with(index, path) {
+    match place_of(index, path) {
         Some(to) => is_marked(marked, to),
         None => false,
     }

@@ -2,39 +2,16 @@
 
 ghost use Rattle.std.specs.Prelude.{◌≡◌, ℕ, ◌≤◌, ◌^◌, List, length, map, option_map, IfOk};
 ghost use Rattle.std.specs.List.{All};
-ghost use Rattle.indexmap.specs.IndexMap.{get_by_text};
-ghost use Rattle.proto_meaning.specs.Faults.{file_of, imports_of};
+ghost use Rattle.proto_meaning.specs.Faults.{imports_of};
 ghost use Rattle.proto_imports.specs.Importing.{AreRising, all_asked, all_imports, asked_by, import_from, fault_of};
 ghost use Rattle.proto_imports.specs.ImportSteps.{IsFileIndex, IsFirst, PathFault};
 
+use crate::first_places::place_of;
 use crate::import::{BadImport, FileImport, ImportFlaw, WrittenImport};
 use indexmap::IndexMap;
 use proto_faults::NoMemory;
 use std::alloc::Global;
 use std::collections::HashSet;
-
-/// The files by their paths; of files with one path the first.
-pub(crate) fn file_index(alloc: Global, paths: &[&str]) -> Result<IndexMap<String, u32>, NoMemory>
-    requires { length paths.now ≤ 2 ^ 32 }
-    ensures { IfOk result (λ index. IsFileIndex index (map (λ p. p.now) paths.now)) }
-{
-    let mut index = IndexMap::new(alloc);
-    let mut file = paths.len();
-    // From the last to the first, so that the first stays.
-    while file > 0 {
-        file -= 1;
-        let path = String::from_str(alloc, paths[file])?;
-        index.insert(path, file as u32)?;
-    }
-    Ok(index)
-}
-
-/// The file with a path.
-pub(crate) fn file_with(index: &IndexMap<String, u32>, path: &str) -> Option<u32>
-    ensures { result ≡ get_by_text index.now path.now }
-{
-    index.get(path).copied()
-}
 
 /// The imports of each file that name a file.
 pub(crate) fn resolved(
@@ -62,7 +39,7 @@ fn resolved_in(
 {
     let mut imports = Vec::new(alloc);
     for import in written {
-        if let Some(to) = file_with(index, import.path.as_str()) {
+        if let Some(to) = place_of(index, import.path.as_str()) {
             imports.push(FileImport {
                 to,
                 is_public: import.is_public,
@@ -103,7 +80,7 @@ fn path_fault_in(
     let mut named = HashSet::new(alloc);
     for import in written {
         let token = import.token;
-        match file_with(index, import.path.as_str()) {
+        match place_of(index, import.path.as_str()) {
             None => {
                 let flaw = ImportFlaw::Unknown;
                 return Ok(Some(BadImport { file, token, flaw }));

@@ -1,6 +1,7 @@
 //! The imports of files: their paths, their cycles, and what each file sees.
 #![tactic(auto)]
 
+pub mod first_places;
 pub mod import;
 mod import_cycles;
 mod import_paths;

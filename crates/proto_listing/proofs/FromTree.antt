@@ -25,7 +25,7 @@ use Rattle.proto_tree.specs.declared.context.Context.TheVariants as context
 use Rattle.proto_tree.specs.declared.context.Kind.TheVariants as kind
 use Rattle.proto_text.specs.Tokens.{Lexeme}
 use Rattle.proto_tree.specs.Words.{classes}
-use Rattle.proto_tree.specs.Flat.{Mark, Fit, mark, one, word, only, flat_option, flat_all, flat_behind, flat_type, flat_settings, flat_dotted, flat_package, flat_field, flat_map_field, flat_value, flat_signed, flat_method_type, flat_signature, flat_statement, flat_heading, flat_header}
+use Rattle.proto_tree.specs.Flat.{Mark, Fit, mark, one, name, only, flat_option, flat_all, flat_behind, flat_type, flat_settings, flat_separated, flat_package, flat_field, flat_map_field, flat_value, flat_signed, flat_method_type, flat_signature, flat_statement, flat_heading, flat_header}
 use Rattle.proto_tree.specs.Tree.{Tree, End, Leaf, Block, flat, allows, after, statement_kind, header_kind, IsWellFormed, Spells}
 use Rattle.proto_meaning.specs.declared.kind.Kind.TheVariants.{Message, Service, Method}
 use Rattle.proto_meaning.specs.Skeleton.{Source, Token, Used}
@@ -62,10 +62,10 @@ numbered_at n (x ∷ xs) h m c = elim (contains_cases x m xs c) [
 abbrev field_tail : Field → List Mark
 field_tail f = one class.Equals f.equals ++ (one class.Number f.number ++ (flat_option flat_settings f.settings ++ one class.Semicolon f.semicolon))
 
-field_mark : (f : Field) → Contains (flat_field f) (mark want.Word f.name)
+field_mark : (f : Field) → Contains (flat_field f) (mark want.Name f.name)
 field_mark f =
-    Contains-append_right (flat_option (only want.Label) f.label) (flat_type f.kind ++ (word f.name ++ field_tail f)) (mark want.Word f.name)
-    (Contains-append_right (flat_type f.kind) (word f.name ++ field_tail f) (mark want.Word f.name) (contains_head (mark want.Word f.name) (field_tail f)))
+    Contains-append_right (flat_option (only want.Label) f.label) (flat_type f.kind ++ (name f.name ++ field_tail f)) (mark want.Name f.name)
+    (Contains-append_right (flat_type f.kind) (name f.name ++ field_tail f) (mark want.Name f.name) (contains_head (mark want.Name f.name) (field_tail f)))
 
 abbrev map_tail : MapField → List Mark
 map_tail f = one class.Equals f.equals ++ (one class.Number f.number ++ (flat_option flat_settings f.settings ++ one class.Semicolon f.semicolon))
@@ -73,11 +73,11 @@ map_tail f = one class.Equals f.equals ++ (one class.Number f.number ++ (flat_op
 abbrev map_front : MapField → List Mark
 map_front f = mark (want.One class.Map) f.keyword ∷ mark (want.One class.Less) f.open ∷ mark (want.One class.Scalar) f.key ∷ mark (want.One class.Comma) f.comma ∷ []
 
-map_mark : (f : MapField) → Contains (flat_map_field f) (mark want.Word f.name)
+map_mark : (f : MapField) → Contains (flat_map_field f) (mark want.Name f.name)
 map_mark f =
-    Contains-append_right (map_front f) (flat_type f.value ++ (one class.Greater f.close ++ (word f.name ++ map_tail f))) (mark want.Word f.name)
-    (Contains-append_right (flat_type f.value) (one class.Greater f.close ++ (word f.name ++ map_tail f)) (mark want.Word f.name)
-    (Contains-append_right (one class.Greater f.close) (word f.name ++ map_tail f) (mark want.Word f.name) (contains_head (mark want.Word f.name) (map_tail f))))
+    Contains-append_right (map_front f) (flat_type f.value ++ (one class.Greater f.close ++ (name f.name ++ map_tail f))) (mark want.Name f.name)
+    (Contains-append_right (flat_type f.value) (one class.Greater f.close ++ (name f.name ++ map_tail f)) (mark want.Name f.name)
+    (Contains-append_right (one class.Greater f.close) (name f.name ++ map_tail f) (mark want.Name f.name) (contains_head (mark want.Name f.name) (map_tail f))))
 
 value_mark : (v : Value) → Contains (flat_value v) (mark want.ValueName v.name)
 value_mark v = contains_head (mark want.ValueName v.name) (one class.Equals v.equals ++ (flat_signed v.number ++ (flat_option flat_settings v.settings ++ one class.Semicolon v.semicolon)))
@@ -85,11 +85,11 @@ value_mark v = contains_head (mark want.ValueName v.name) (one class.Equals v.eq
 abbrev signature_tail : Signature → List Mark
 signature_tail s = flat_method_type s.input ++ (one class.Returns s.returns ++ flat_method_type s.output)
 
-signature_mark : (s : Signature) → Contains (flat_signature s) (mark want.Word s.name)
-signature_mark s = Contains-append_right (one class.Rpc s.keyword) (word s.name ++ signature_tail s) (mark want.Word s.name) (contains_head (mark want.Word s.name) (signature_tail s))
+signature_mark : (s : Signature) → Contains (flat_signature s) (mark want.Name s.name)
+signature_mark s = Contains-append_right (one class.Rpc s.keyword) (name s.name ++ signature_tail s) (mark want.Name s.name) (contains_head (mark want.Name s.name) (signature_tail s))
 
-heading_mark : (c : Class) (h : Heading) → Contains (flat_heading c h) (mark want.Word h.name)
-heading_mark c h = Contains-append_right (one c h.keyword) (word h.name) (mark want.Word h.name) (contains_head (mark want.Word h.name) [])
+heading_mark : (c : Class) (h : Heading) → Contains (flat_heading c h) (mark want.Name h.name)
+heading_mark c h = Contains-append_right (one c h.keyword) (name h.name) (mark want.Name h.name) (contains_head (mark want.Name h.name) [])
 
 -- a token that a statement gives is one of its marks
 abbrev Gives : List ℕ → List Mark → Type 0
@@ -99,7 +99,7 @@ one_given : (x : ℕ) (marks : List Mark) (m : Mark) → Contains marks m → m.
 one_given x marks m c e v cv = elim (contains_cases x v [] cv) [ inl q ↦ (m, c, e ∙ q) | inr n ↦ absurd (omega (arith, n.1)) ]
 
 field_gives : (s : Statement) → Gives (field_names s) (flat_statement s)
-field_gives (statement.Field f) = one_given f.name (flat_field f) (mark want.Word f.name) (field_mark f) refl
+field_gives (statement.Field f) = one_given f.name (flat_field f) (mark want.Name f.name) (field_mark f) refl
 field_gives _ = λ v c. absurd (omega (arith, c.1))
 
 value_gives : (s : Statement) → Gives (value_names s) (flat_statement s)
@@ -107,14 +107,14 @@ value_gives (statement.Value x) = one_given x.name (flat_value x) (mark want.Val
 value_gives _ = λ v c. absurd (omega (arith, c.1))
 
 method_gives : (s : Statement) → Gives (method_names s) (flat_statement s)
-method_gives (statement.Method x end) = one_given x.name (flat_statement (statement.Method x end)) (mark want.Word x.name) (Contains-append_left (flat_signature x) (one class.Semicolon end) (mark want.Word x.name) (signature_mark x)) refl
+method_gives (statement.Method x end) = one_given x.name (flat_statement (statement.Method x end)) (mark want.Name x.name) (Contains-append_left (flat_signature x) (one class.Semicolon end) (mark want.Name x.name) (signature_mark x)) refl
 method_gives _ = λ v c. absurd (omega (arith, c.1))
 
 no_gives : (h : Header) → Gives (no_names h) (flat_header h)
 no_gives h = λ v c. absurd (omega (arith, c.1))
 
 block_gives : (h : Header) → Gives (block_names h) (flat_header h)
-block_gives (header.Method x) = one_given x.name (flat_signature x) (mark want.Word x.name) (signature_mark x) refl
+block_gives (header.Method x) = one_given x.name (flat_signature x) (mark want.Name x.name) (signature_mark x) refl
 block_gives _ = λ v c. absurd (omega (arith, c.1))
 
 -- ---- blocks
@@ -198,10 +198,10 @@ rises_within (t ∷ ts) lo hi lo' hi' a b r = (omega (arith, a, r.0), omega (ari
 
 statement_span : (s : Statement) (n mid hi : ℕ) (ms : Members) → IsNumbered n (flat_statement s) → mid ≡ n + length (flat_statement s) → mid ≤ hi → AllSpan mid hi ms → AllSpan n hi (add_statement s ms)
 statement_span (statement.Field f) n mid hi ms num e l span =
-    let r = numbered_at n (flat_field f) num (mark want.Word f.name) (field_mark f) in
+    let r = numbered_at n (flat_field f) num (mark want.Name f.name) (field_mark f) in
     (mid, l, omega (arith, e), (r.0, omega (arith, r.1, e)), span)
 statement_span (statement.MapField f) n mid hi ms num e l span =
-    let r = numbered_at n (flat_map_field f) num (mark want.Word f.name) (map_mark f) in
+    let r = numbered_at n (flat_map_field f) num (mark want.Name f.name) (map_mark f) in
     (mid, l, omega (arith, e), (r.0, omega (arith, r.1, e)), span)
 statement_span _ n mid hi ms num e l span = span_within ms mid hi n hi (omega (arith, e)) (omega arith) span
 
@@ -211,7 +211,7 @@ record HeadAt (n name a : ℕ) : Type 0 where
   high : name < a
 
 heading_at : (c : Class) (h : Heading) (n a : ℕ) → IsNumbered n (flat_heading c h) → a ≡ n + length (flat_heading c h) + 1 → HeadAt n h.name a
-heading_at c h n a num e = let r = numbered_at n (flat_heading c h) num (mark want.Word h.name) (heading_mark c h) in record { low = r.0; high = omega (arith, r.1, e) }
+heading_at c h n a num e = let r = numbered_at n (flat_heading c h) num (mark want.Name h.name) (heading_mark c h) in record { low = r.0; high = omega (arith, r.1, e) }
 
 block_span : (h : Header) (within : Tree) (inner rest : Members) (n a b mid hi : ℕ) → IsNumbered n (flat_header h) → a ≡ n + length (flat_header h) + 1 → IsNumbered a (flat within) → b ≡ a + length (flat within)
     → AllSpan a b inner → mid ≡ b + 1 → mid ≤ hi → AllSpan mid hi rest → AllSpan n hi (add_block h inner within rest)
@@ -242,7 +242,7 @@ members_span (Block h i within j rest) n hi num e =
 
 -- ---- packages
 
-behind_rises : (bs : List (Behind ℕ)) (n hi : ℕ) → IsNumbered n (flat_all (flat_behind class.Dot word) bs) → hi ≡ n + length (flat_all (flat_behind class.Dot word) bs) → Rises n hi (map (λ b. b.item) bs)
+behind_rises : (bs : List (Behind ℕ)) (n hi : ℕ) → IsNumbered n (flat_all (flat_behind class.Dot name) bs) → hi ≡ n + length (flat_all (flat_behind class.Dot name) bs) → Rises n hi (map (λ b. b.item) bs)
 behind_rises [] n hi num e = omega (arith, e)
 behind_rises (b ∷ bs) n hi num e =
     let at : b.item ≡ n + 1 = num.1.0 in
@@ -250,7 +250,7 @@ behind_rises (b ∷ bs) n hi num e =
     let r = behind_rises bs (n + 1 + 1) hi num.1.1 (omega (arith, e)) in
     (omega (arith, at), omega (arith, at, e), subst (λ k. Rises k hi (map (λ b. b.item) bs)) e2 r)
 
-dotted_rises : (d : Separated ℕ) (n hi : ℕ) → IsNumbered n (flat_dotted d) → hi ≡ n + length (flat_dotted d) → Rises n hi (dotted d)
+dotted_rises : (d : Separated ℕ) (n hi : ℕ) → IsNumbered n (flat_separated class.Dot name d) → hi ≡ n + length (flat_separated class.Dot name d) → Rises n hi (dotted d)
 dotted_rises d n hi num e =
     let at : d.first ≡ n = num.0 in
     let e2 : n + 1 ≡ d.first + 1 = omega (arith, at) in
@@ -258,10 +258,10 @@ dotted_rises d n hi num e =
 
 package_rises : (p : Package) (n hi : ℕ) → IsNumbered n (flat_package p) → hi ≡ n + length (flat_package p) → Rises n hi (dotted p.name)
 package_rises p n hi num e =
-    let l1 = length-append (flat_dotted p.name) (one class.Semicolon p.semicolon) in
-    let l2 = length-append (one class.Package p.keyword) (flat_dotted p.name ++ one class.Semicolon p.semicolon) in
-    rises_within (dotted p.name) (n + 1) (n + 1 + length (flat_dotted p.name)) n hi (omega arith) (omega (arith, e, l1, l2))
-    (dotted_rises p.name (n + 1) (n + 1 + length (flat_dotted p.name)) (numbered_left (n + 1) (flat_dotted p.name) (one class.Semicolon p.semicolon) num.1) refl)
+    let l1 = length-append (flat_separated class.Dot name p.name) (one class.Semicolon p.semicolon) in
+    let l2 = length-append (one class.Package p.keyword) (flat_separated class.Dot name p.name ++ one class.Semicolon p.semicolon) in
+    rises_within (dotted p.name) (n + 1) (n + 1 + length (flat_separated class.Dot name p.name)) n hi (omega arith) (omega (arith, e, l1, l2))
+    (dotted_rises p.name (n + 1) (n + 1 + length (flat_separated class.Dot name p.name)) (numbered_left (n + 1) (flat_separated class.Dot name p.name) (one class.Semicolon p.semicolon) num.1) refl)
 
 after_package : (c : Context) → allows c kind.Package ≡ true → after c kind.Package ≡ context.Packaged
 after_package context.Start h = refl

@@ -24,13 +24,13 @@ use Rattle.proto_listing.proofs.Growing.{token_last, entry_last, given_last}
 use Rattle.proto_meaning.proofs.RisingLists.{rising_each}
 use Rattle.proto_listing.proofs.MarkedTokens.{Are, Known}
 use Rattle.proto_listing.proofs.MarkedNames.{declared_worded}
-use Rattle.proto_listing.proofs.MarkedUses.{Uses, items_rise, imports_rise}
+use Rattle.proto_listing.proofs.MarkedUses.{Uses, items_rise, imports_rise, words_past}
 use Rattle.proto_listing.proofs.PackageFirst.{same_declared}
 use Rattle.proto_listing.proofs.ReadTrees.{tree_span}
 
 -- ---- the token that a declaration stands at
 
-abbrev or_at : ℕ → Option ℕ → ℕ
+abbrev pub or_at : ℕ → Option ℕ → ℕ
 or_at x None = x
 or_at x (Some t) = t
 
@@ -42,7 +42,7 @@ or_none : (x : ℕ) (o : Option ℕ) → or_at x o ≡ or_at x (later o None)
 or_none x None = refl
 or_none x (Some u) = refl
 
-place_is : (x : ℕ) (path : List (Source ℕ)) → place_from x path ≡ or_at x (last_token path)
+pub place_is : (x : ℕ) (path : List (Source ℕ)) → place_from x path ≡ or_at x (last_token path)
 place_is x [] = refl
 place_is x (Token t ∷ rest) = place_is t rest ∙ or_later x t (last_token rest)
 place_is x (EntryOf t ∷ rest) = place_is t rest ∙ or_later x t (last_token rest)
@@ -100,37 +100,38 @@ module _ (text : List ℕ) (tokens : List TextToken) (tree : Tree) (reads : Read
   abbrev Here : ℕ → Type 0
   Here i = i < length tokens
 
-  known : (w : Want) (i : ℕ) → Here i → Known Here Here w i
+  known : (w : Want) (i : ℕ) → Here i → Known Here Here Here w i
   known (want.One class.Name) i l = l
   known want.Word i l = l
+  known want.Name i l = l
   known want.ValueName i l = l
   known want.Text i l = l
   known _ i l = tt
 
-  pub as_long : length (flat tree) ≡ length tokens
+  as_long : length (flat tree) ≡ length tokens
   as_long = fit_length 0 (flat tree) (map (lexeme_at text) tokens) reads.spells.fits ∙ length_map (lexeme_at text) tokens
 
-  are_marked : (n : ℕ) (ms : List Mark) → Numbered n ms → n + length ms ≤ length tokens → Are Here Here n ms
+  are_marked : (n : ℕ) (ms : List Mark) → Numbered n ms → n + length ms ≤ length tokens → Are Here Here Here n ms
   are_marked n [] num le = tt
   are_marked n (m ∷ ms) num le =
       let e : suc n ≡ n + 1 = omega arith in
-      (num.0, known m.want m.at (omega (arith, num.0, le)), subst (λ (k : ℕ). Are Here Here k ms) e (are_marked (suc n) ms num.1 (omega (arith, le))))
+      (num.0, known m.want m.at (omega (arith, num.0, le)), subst (λ (k : ℕ). Are Here Here Here k ms) e (are_marked (suc n) ms num.1 (omega (arith, le))))
 
-  are : Are Here Here 0 (flat tree)
+  are : Are Here Here Here 0 (flat tree)
   are = are_marked 0 (flat tree) (trees_are_numbered tree (map (lexeme_at text) tokens) reads.spells) (omega (arith, as_long))
 
   pub import_here : (w : Wanted) → Contains (imports_in tree) w → w.path < length tokens
-  import_here = rising_each (λ w. w.path) (λ w. Here w.path) (imports_in tree) 0 (length (flat tree)) (imports_rise Here Here tree 0 (length (flat tree)) are (omega arith))
+  import_here = rising_each (λ w. w.path) (λ w. Here w.path) (imports_in tree) 0 (length (flat tree)) (imports_rise Here Here Here tree 0 (length (flat tree)) are (omega arith))
 
-  first_below : (us : List (Used ℕ)) (lo hi : ℕ) → Uses Here Here lo hi us → AllByRecursion (λ u. u.first < hi) us
+  first_below : (us : List (Used ℕ)) (lo hi : ℕ) → Uses Here Here Here lo hi us → AllByRecursion (λ u. u.first < hi) us
   first_below [] lo hi r = tt
-  first_below (u ∷ us) lo hi r = (r.1, first_below us (u.first + 1) hi r.3)
+  first_below (u ∷ us) lo hi r = let w = words_past Here Here Here u.tokens u.first r.0 r.4 r.3 in (omega (arith, w, r.2), first_below us r.0 hi r.6)
 
   pub use_here : (u : Used ℕ) → Contains (file_names tree).used u → u.first < length tokens
   use_here u c =
       let us = (file_names tree).used in
       let hi = length (flat tree) in
-      let below = first_below us 0 hi (items_rise Here Here tree (map (λ t. Token t) (package_of (items_in tree))) 0 hi are (omega arith)) in
+      let below = first_below us 0 hi (items_rise Here Here Here tree (map (λ t. Token t) (package_of (items_in tree))) 0 hi are (omega arith)) in
       omega (arith, as_long, All-contains (λ u. u.first < hi) us u (All-from_recursion (λ u. u.first < hi) us below) c)
 
   pub name_here : (p : Placed) → Contains (file_placed (items_in tree)) p → place_from 0 (whole p) < length tokens
@@ -138,5 +139,5 @@ module _ (text : List ℕ) (tokens : List TextToken) (tree : Tree) (reads : Read
       let span = tree_span text tokens tree reads in
       let last = has_last (items_in tree) p c in
       let at : place_from 0 (whole p) ≡ last.0 = place_is 0 (whole p) ∙ ap (or_at 0) last.1 in
-      let here : last.0 < length tokens = declared_worded Here Here tree 0 are p ((same_declared (items_in tree) span.0 span.1 span.2 p).1 c) last.0 last.1 in
+      let here : last.0 < length tokens = declared_worded Here Here Here tree 0 are p ((same_declared (items_in tree) span.0 span.1 span.2 p).1 c) last.0 last.1 in
       omega (arith, at, here)

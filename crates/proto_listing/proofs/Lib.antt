@@ -8,3 +8,4 @@ mod MarkedTokens
 mod MarkedUses
 pub mod PackageFirst
 pub mod ReadTrees
+pub mod Roles

@@ -16,7 +16,7 @@ use Rattle.proto_tree.specs.declared.piece.Statement.{Statement}
 use Rattle.proto_tree.specs.declared.piece.Statement.TheVariants as statement
 use Rattle.proto_tree.specs.declared.piece.Header.{Header}
 use Rattle.proto_tree.specs.declared.piece.Header.TheVariants as header
-use Rattle.proto_tree.specs.Flat.{Mark, mark, only, one, word, flat_option, flat_all, flat_behind, flat_type, flat_settings, flat_dotted, flat_field, flat_map_field, flat_value, flat_signature, flat_statement, flat_header}
+use Rattle.proto_tree.specs.Flat.{Mark, mark, only, one, word, name, flat_option, flat_separated, flat_all, flat_behind, flat_type, flat_settings, flat_dotted, flat_field, flat_map_field, flat_value, flat_signature, flat_statement, flat_header}
 use Rattle.proto_tree.specs.Tree.{Tree, End, Leaf, Block, flat}
 use Rattle.proto_meaning.specs.declared.kind.Kind.{Kind}
 use Rattle.proto_meaning.specs.declared.kind.Kind.TheVariants.{Package, Message, Enum, Service, Field, Oneof, Value, Method}
@@ -30,7 +30,7 @@ use Rattle.proto_listing.proofs.Growing.{token_last, entry_last, given_last}
 use Rattle.proto_meaning.proofs.RisingLists.{Rising, rising_spreads, Spreads, pairs_append}
 use Rattle.proto_listing.proofs.MarkedTokens.{Are, are_left, are_right, are_at, heading_at, leaf_step, block_step}
 
-module _ (W S : ℕ → Type 0) where
+module _ (W R S : ℕ → Type 0) where
   abbrev Names : ℕ → ℕ → List ℕ → Type 0
   Names = Rising (λ t. t) W
 
@@ -39,39 +39,39 @@ module _ (W S : ℕ → Type 0) where
 
   -- ---- names of statements and of methods' blocks
 
-  field_at : (f : FieldParts) (n : ℕ) → Are W S n (flat_field f) → (n ≤ f.name) × (f.name < n + length (flat_field f)) × W f.name
+  field_at : (f : FieldParts) (n : ℕ) → Are W R S n (flat_field f) → (n ≤ f.name) × (f.name < n + length (flat_field f)) × W f.name
   field_at f n a =
-      let tail = word f.name ++ (one class.Equals f.equals ++ (one class.Number f.number ++ (flat_option flat_settings f.settings ++ one class.Semicolon f.semicolon))) in
-      are_at W S n (flat_field f) (mark want.Word f.name) a
+      let tail = name f.name ++ (one class.Equals f.equals ++ (one class.Number f.number ++ (flat_option flat_settings f.settings ++ one class.Semicolon f.semicolon))) in
+      are_at W R S n (flat_field f) (mark want.Name f.name) a
       (Contains-append_right (flat_option (only want.Label) f.label) (flat_type f.kind ++ tail) _ (Contains-append_right (flat_type f.kind) tail _ (0, omega arith, refl)))
 
-  map_field_at : (f : MapField) (n : ℕ) → Are W S n (flat_map_field f) → (n ≤ f.name) × (f.name < n + length (flat_map_field f)) × W f.name
+  map_field_at : (f : MapField) (n : ℕ) → Are W R S n (flat_map_field f) → (n ≤ f.name) × (f.name < n + length (flat_map_field f)) × W f.name
   map_field_at f n a =
       let front = one class.Map f.keyword ++ (one class.Less f.open ++ (one class.Scalar f.key ++ one class.Comma f.comma)) in
-      let tail = one class.Greater f.close ++ (word f.name ++ (one class.Equals f.equals ++ (one class.Number f.number ++ (flat_option flat_settings f.settings ++ one class.Semicolon f.semicolon)))) in
-      are_at W S n (flat_map_field f) (mark want.Word f.name) a
+      let tail = one class.Greater f.close ++ (name f.name ++ (one class.Equals f.equals ++ (one class.Number f.number ++ (flat_option flat_settings f.settings ++ one class.Semicolon f.semicolon)))) in
+      are_at W R S n (flat_map_field f) (mark want.Name f.name) a
       (Contains-append_right front (flat_type f.value ++ tail) _ (Contains-append_right (flat_type f.value) tail _ (1, omega arith, refl)))
 
-  signature_at : (s : Signature) (n : ℕ) → Are W S n (flat_signature s) → (n ≤ s.name) × (s.name < n + length (flat_signature s)) × W s.name
-  signature_at s n a = are_at W S n (flat_signature s) (mark want.Word s.name) a (1, omega arith, refl)
+  signature_at : (s : Signature) (n : ℕ) → Are W R S n (flat_signature s) → (n ≤ s.name) × (s.name < n + length (flat_signature s)) × W s.name
+  signature_at s n a = are_at W R S n (flat_signature s) (mark want.Name s.name) a (1, omega arith, refl)
 
   abbrev GivesNames : (Statement → List ℕ) → Type 0
-  GivesNames of_leaf = (s : Statement) (n : ℕ) → Are W S n (flat_statement s) → Names n (n + length (flat_statement s)) (of_leaf s)
+  GivesNames of_leaf = (s : Statement) (n : ℕ) → Are W R S n (flat_statement s) → Names n (n + length (flat_statement s)) (of_leaf s)
 
   abbrev BlocksGiveNames : (Header → List ℕ) → Type 0
-  BlocksGiveNames of_block = (h : Header) (n : ℕ) → Are W S n (flat_header h) → Names n (n + length (flat_header h)) (of_block h)
+  BlocksGiveNames of_block = (h : Header) (n : ℕ) → Are W R S n (flat_header h) → Names n (n + length (flat_header h)) (of_block h)
 
   fields_rise : GivesNames field_names
   fields_rise (statement.Field f) n a = one_name n (flat_field f) f.name (field_at f n a)
   fields_rise _ n a = omega arith
 
   values_rise : GivesNames value_names
-  values_rise (statement.Value v) n a = one_name n (flat_value v) v.name (are_at W S n (flat_value v) (mark want.ValueName v.name) a (0, omega arith, refl))
+  values_rise (statement.Value v) n a = one_name n (flat_value v) v.name (are_at W R S n (flat_value v) (mark want.ValueName v.name) a (0, omega arith, refl))
   values_rise _ n a = omega arith
 
   methods_rise : GivesNames method_names
   methods_rise (statement.Method s end) n a =
-      one_name n (flat_signature s ++ one class.Semicolon end) s.name (are_at W S n (flat_signature s ++ one class.Semicolon end) (mark want.Word s.name) a (Contains-append_left (flat_signature s) (one class.Semicolon end) _ (1, omega arith, refl)))
+      one_name n (flat_signature s ++ one class.Semicolon end) s.name (are_at W R S n (flat_signature s ++ one class.Semicolon end) (mark want.Name s.name) a (Contains-append_left (flat_signature s) (one class.Semicolon end) _ (1, omega arith, refl)))
   methods_rise _ n a = omega arith
 
   none_rise : BlocksGiveNames no_names
@@ -85,12 +85,12 @@ module _ (W S : ℕ → Type 0) where
   names_law = rising_spreads (λ t. t) W
 
   picked_rise : (of_leaf : Statement → List ℕ) (of_block : Header → List ℕ) → GivesNames of_leaf → BlocksGiveNames of_block
-      → (t : Tree) (n hi : ℕ) → Are W S n (flat t) → hi ≡ n + length (flat t) → Names n hi (picked of_leaf of_block t)
+      → (t : Tree) (n hi : ℕ) → Are W R S n (flat t) → hi ≡ n + length (flat t) → Names n hi (picked of_leaf of_block t)
   picked_rise p g leaves blocks End n hi a e = omega (arith, e)
   picked_rise p g leaves blocks (Leaf s rest) n hi a e =
-      leaf_step W S Names names_law s rest n hi (p s) (picked p g rest) a e (leaves s n) (λ c b f. picked_rise p g leaves blocks rest c hi b f)
+      leaf_step W R S Names names_law s rest n hi (p s) (picked p g rest) a e (leaves s n) (λ c b f. picked_rise p g leaves blocks rest c hi b f)
   picked_rise p g leaves blocks (Block h i within j rest) n hi a e =
-      block_step W S Names names_law h i within j rest n hi (g h) (picked p g rest) a e
+      block_step W R S Names names_law h i within j rest n hi (g h) (picked p g rest) a e
       (λ x y head le inner f. names_law.within (g h) n (n + length (flat_header h)) n y (omega arith) (omega (arith, le, f)) (blocks h n head))
       (λ c b f. picked_rise p g leaves blocks rest c hi b f)
 
@@ -165,93 +165,100 @@ module _ (W S : ℕ → Type 0) where
   statement_adds path (statement.MapField f) ms = refl
   statement_adds path _ ms = refl
 
-  statement_climbs : (path : List (Source ℕ)) (s : Statement) (n : ℕ) → Are W S n (flat_statement s) → Climbs n (n + length (flat_statement s)) (statement_placed path s)
+  statement_climbs : (path : List (Source ℕ)) (s : Statement) (n : ℕ) → Are W R S n (flat_statement s) → Climbs n (n + length (flat_statement s)) (statement_placed path s)
   statement_climbs path (statement.Field f) n a = names_climb path Field refl (f.name ∷ []) n (n + length (flat_field f)) (one_name n (flat_field f) f.name (field_at f n a))
   statement_climbs path (statement.MapField f) n a = map_climbs path f.name n (n + length (flat_map_field f)) (map_field_at f n a)
   statement_climbs path _ n a = omega arith
 
-  members_climb : (t : Tree) (path : List (Source ℕ)) (n hi : ℕ) → Are W S n (flat t) → hi ≡ n + length (flat t) → Climbs n hi (all_placed path (members_in t))
+  members_climb : (t : Tree) (path : List (Source ℕ)) (n hi : ℕ) → Are W R S n (flat t) → hi ≡ n + length (flat t) → Climbs n hi (all_placed path (members_in t))
   members_climb End path n hi a e = omega (arith, e)
   members_climb (Leaf s rest) path n hi a e =
       subst (Climbs n hi) (statement_adds path s (members_in rest))
-      (leaf_step W S Climbs climbs_law s rest n hi (statement_placed path s) (all_placed path (members_in rest)) a e (statement_climbs path s n) (λ c b f. members_climb rest path c hi b f))
+      (leaf_step W R S Climbs climbs_law s rest n hi (statement_placed path s) (all_placed path (members_in rest)) a e (statement_climbs path s n) (λ c b f. members_climb rest path c hi b f))
   members_climb (Block (header.Message h) i within j rest) path n hi a e =
       let inside = all_placed (path ++ Token h.name ∷ []) (members_in within) in
-      block_step W S Climbs climbs_law (header.Message h) i within j rest n hi (place path (Token h.name) Message ∷ inside) (all_placed path (members_in rest)) a e
-      (λ x y head le inner f. first_climbs path Message refl h.name n x y inside (heading_at W S class.Message h n x head le) (members_climb within (path ++ Token h.name ∷ []) x y inner f))
+      block_step W R S Climbs climbs_law (header.Message h) i within j rest n hi (place path (Token h.name) Message ∷ inside) (all_placed path (members_in rest)) a e
+      (λ x y head le inner f. first_climbs path Message refl h.name n x y inside (heading_at W R S class.Message h n x head le) (members_climb within (path ++ Token h.name ∷ []) x y inner f))
       (λ c b f. members_climb rest path c hi b f)
   members_climb (Block (header.Oneof h) i within j rest) path n hi a e =
       let names = picked field_names no_names within in
       let inside = map (λ i. place path (Token i) Field) names in
-      block_step W S Climbs climbs_law (header.Oneof h) i within j rest n hi (place path (Token h.name) Oneof ∷ inside) (all_placed path (members_in rest)) a e
-      (λ x y head le inner f. first_climbs path Oneof refl h.name n x y inside (heading_at W S class.Oneof h n x head le) (names_climb path Field refl names x y (picked_rise field_names no_names fields_rise none_rise within x y inner f)))
+      block_step W R S Climbs climbs_law (header.Oneof h) i within j rest n hi (place path (Token h.name) Oneof ∷ inside) (all_placed path (members_in rest)) a e
+      (λ x y head le inner f. first_climbs path Oneof refl h.name n x y inside (heading_at W R S class.Oneof h n x head le) (names_climb path Field refl names x y (picked_rise field_names no_names fields_rise none_rise within x y inner f)))
       (λ c b f. members_climb rest path c hi b f)
   members_climb (Block (header.Enum h) i within j rest) path n hi a e =
       let names = picked value_names no_names within in
       let inside = map (λ i. place path (Token i) Value) names in
-      block_step W S Climbs climbs_law (header.Enum h) i within j rest n hi (place path (Token h.name) Enum ∷ inside) (all_placed path (members_in rest)) a e
-      (λ x y head le inner f. first_climbs path Enum refl h.name n x y inside (heading_at W S class.Enum h n x head le) (names_climb path Value refl names x y (picked_rise value_names no_names values_rise none_rise within x y inner f)))
+      block_step W R S Climbs climbs_law (header.Enum h) i within j rest n hi (place path (Token h.name) Enum ∷ inside) (all_placed path (members_in rest)) a e
+      (λ x y head le inner f. first_climbs path Enum refl h.name n x y inside (heading_at W R S class.Enum h n x head le) (names_climb path Value refl names x y (picked_rise value_names no_names values_rise none_rise within x y inner f)))
       (λ c b f. members_climb rest path c hi b f)
   members_climb (Block (header.Service h) i within j rest) path n hi a e =
-      block_step W S Climbs climbs_law (header.Service h) i within j rest n hi [] (all_placed path (members_in rest)) a e (λ x y head le inner f. omega (arith, le, f)) (λ c b f. members_climb rest path c hi b f)
+      block_step W R S Climbs climbs_law (header.Service h) i within j rest n hi [] (all_placed path (members_in rest)) a e (λ x y head le inner f. omega (arith, le, f)) (λ c b f. members_climb rest path c hi b f)
   members_climb (Block (header.Method s) i within j rest) path n hi a e =
-      block_step W S Climbs climbs_law (header.Method s) i within j rest n hi [] (all_placed path (members_in rest)) a e (λ x y head le inner f. omega (arith, le, f)) (λ c b f. members_climb rest path c hi b f)
+      block_step W R S Climbs climbs_law (header.Method s) i within j rest n hi [] (all_placed path (members_in rest)) a e (λ x y head le inner f. omega (arith, le, f)) (λ c b f. members_climb rest path c hi b f)
 
   -- a statement of a file declares a package at most
   statement_below : (path : List (Source ℕ)) (s : Statement) (is : Items) → items_below path is ≡ items_below path (file_statement s is)
   statement_below path (statement.Package p) is = refl
   statement_below path _ is = refl
 
-  items_climb : (t : Tree) (path : List (Source ℕ)) (n hi : ℕ) → Are W S n (flat t) → hi ≡ n + length (flat t) → Climbs n hi (items_below path (items_in t))
+  items_climb : (t : Tree) (path : List (Source ℕ)) (n hi : ℕ) → Are W R S n (flat t) → hi ≡ n + length (flat t) → Climbs n hi (items_below path (items_in t))
   items_climb End path n hi a e = omega (arith, e)
   items_climb (Leaf s rest) path n hi a e =
       subst (Climbs n hi) (statement_below path s (items_in rest))
-      (leaf_step W S Climbs climbs_law s rest n hi [] (items_below path (items_in rest)) a e (λ b. omega arith) (λ c b f. items_climb rest path c hi b f))
+      (leaf_step W R S Climbs climbs_law s rest n hi [] (items_below path (items_in rest)) a e (λ b. omega arith) (λ c b f. items_climb rest path c hi b f))
   items_climb (Block (header.Message h) i within j rest) path n hi a e =
       let inside = all_placed (path ++ Token h.name ∷ []) (members_in within) in
-      block_step W S Climbs climbs_law (header.Message h) i within j rest n hi (place path (Token h.name) Message ∷ inside) (items_below path (items_in rest)) a e
-      (λ x y head le inner f. first_climbs path Message refl h.name n x y inside (heading_at W S class.Message h n x head le) (members_climb within (path ++ Token h.name ∷ []) x y inner f))
+      block_step W R S Climbs climbs_law (header.Message h) i within j rest n hi (place path (Token h.name) Message ∷ inside) (items_below path (items_in rest)) a e
+      (λ x y head le inner f. first_climbs path Message refl h.name n x y inside (heading_at W R S class.Message h n x head le) (members_climb within (path ++ Token h.name ∷ []) x y inner f))
       (λ c b f. items_climb rest path c hi b f)
   items_climb (Block (header.Enum h) i within j rest) path n hi a e =
       let names = picked value_names no_names within in
       let inside = map (λ i. place path (Token i) Value) names in
-      block_step W S Climbs climbs_law (header.Enum h) i within j rest n hi (place path (Token h.name) Enum ∷ inside) (items_below path (items_in rest)) a e
-      (λ x y head le inner f. first_climbs path Enum refl h.name n x y inside (heading_at W S class.Enum h n x head le) (names_climb path Value refl names x y (picked_rise value_names no_names values_rise none_rise within x y inner f)))
+      block_step W R S Climbs climbs_law (header.Enum h) i within j rest n hi (place path (Token h.name) Enum ∷ inside) (items_below path (items_in rest)) a e
+      (λ x y head le inner f. first_climbs path Enum refl h.name n x y inside (heading_at W R S class.Enum h n x head le) (names_climb path Value refl names x y (picked_rise value_names no_names values_rise none_rise within x y inner f)))
       (λ c b f. items_climb rest path c hi b f)
   items_climb (Block (header.Service h) i within j rest) path n hi a e =
       let names = picked method_names block_names within in
       let inside = map (λ i. place (path ++ Token h.name ∷ []) (Token i) Method) names in
-      block_step W S Climbs climbs_law (header.Service h) i within j rest n hi (place path (Token h.name) Service ∷ inside) (items_below path (items_in rest)) a e
-      (λ x y head le inner f. first_climbs path Service refl h.name n x y inside (heading_at W S class.Service h n x head le) (names_climb (path ++ Token h.name ∷ []) Method refl names x y (picked_rise method_names block_names methods_rise blocks_rise within x y inner f)))
+      block_step W R S Climbs climbs_law (header.Service h) i within j rest n hi (place path (Token h.name) Service ∷ inside) (items_below path (items_in rest)) a e
+      (λ x y head le inner f. first_climbs path Service refl h.name n x y inside (heading_at W R S class.Service h n x head le) (names_climb (path ++ Token h.name ∷ []) Method refl names x y (picked_rise method_names block_names methods_rise blocks_rise within x y inner f)))
       (λ c b f. items_climb rest path c hi b f)
   items_climb (Block (header.Oneof h) i within j rest) path n hi a e =
-      block_step W S Climbs climbs_law (header.Oneof h) i within j rest n hi [] (items_below path (items_in rest)) a e (λ x y head le inner f. omega (arith, le, f)) (λ c b f. items_climb rest path c hi b f)
+      block_step W R S Climbs climbs_law (header.Oneof h) i within j rest n hi [] (items_below path (items_in rest)) a e (λ x y head le inner f. omega (arith, le, f)) (λ c b f. items_climb rest path c hi b f)
   items_climb (Block (header.Method s) i within j rest) path n hi a e =
-      block_step W S Climbs climbs_law (header.Method s) i within j rest n hi [] (items_below path (items_in rest)) a e (λ x y head le inner f. omega (arith, le, f)) (λ c b f. items_climb rest path c hi b f)
+      block_step W R S Climbs climbs_law (header.Method s) i within j rest n hi [] (items_below path (items_in rest)) a e (λ x y head le inner f. omega (arith, le, f)) (λ c b f. items_climb rest path c hi b f)
 
   -- ---- the package
 
-  pub behind_words : (bs : List (Behind ℕ)) (n : ℕ) → Are W S n (flat_all (flat_behind class.Dot word) bs) → AllByRecursion W (map (λ b. b.item) bs)
+  pub behind_words : (bs : List (Behind ℕ)) (n : ℕ) → Are W R S n (flat_all (flat_behind class.Dot word) bs) → AllByRecursion R (map (λ b. b.item) bs)
   behind_words [] n a = tt
   behind_words (b ∷ bs) n a = (a.2.1, behind_words bs (n + 1 + 1) a.2.2)
 
-  pub dotted_words : (d : Separated ℕ) (n : ℕ) → Are W S n (flat_dotted d) → AllByRecursion W (dotted d)
+  pub dotted_words : (d : Separated ℕ) (n : ℕ) → Are W R S n (flat_dotted d) → AllByRecursion R (dotted d)
   dotted_words d n a = (a.1, behind_words d.rest (n + 1) a.2)
 
-  package_words : (t : Tree) (n : ℕ) → Are W S n (flat t) → AllByRecursion W (package_of (items_in t))
+  behind_names : (bs : List (Behind ℕ)) (n : ℕ) → Are W R S n (flat_all (flat_behind class.Dot name) bs) → AllByRecursion W (map (λ b. b.item) bs)
+  behind_names [] n a = tt
+  behind_names (b ∷ bs) n a = (a.2.1, behind_names bs (n + 1 + 1) a.2.2)
+
+  dotted_names : (d : Separated ℕ) (n : ℕ) → Are W R S n (flat_separated class.Dot name d) → AllByRecursion W (dotted d)
+  dotted_names d n a = (a.1, behind_names d.rest (n + 1) a.2)
+
+  package_words : (t : Tree) (n : ℕ) → Are W R S n (flat t) → AllByRecursion W (package_of (items_in t))
   package_words End n a = tt
-  package_words (Leaf s rest) n a = by s (are_left W S n (flat_statement s) (flat rest) a) (package_words rest (n + length (flat_statement s)) (are_right W S n (flat_statement s) (flat rest) a))
+  package_words (Leaf s rest) n a = by s (are_left W R S n (flat_statement s) (flat rest) a) (package_words rest (n + length (flat_statement s)) (are_right W R S n (flat_statement s) (flat rest) a))
     where
-      by : (s : Statement) → Are W S n (flat_statement s) → AllByRecursion W (package_of (items_in rest)) → AllByRecursion W (package_of (file_statement s (items_in rest)))
-      by (statement.Package p) b more = dotted_words p.name (n + 1) (are_left W S (n + 1) (flat_dotted p.name) (one class.Semicolon p.semicolon) b.2)
+      by : (s : Statement) → Are W R S n (flat_statement s) → AllByRecursion W (package_of (items_in rest)) → AllByRecursion W (package_of (file_statement s (items_in rest)))
+      by (statement.Package p) b more = dotted_names p.name (n + 1) (are_left W R S (n + 1) (flat_separated class.Dot name p.name) (one class.Semicolon p.semicolon) b.2)
       by _ b more = more
   package_words (Block h i within j rest) n a = by h (package_words rest (n + length (flat_header h ++ one class.Open i) + length (flat within) + 1) last.2)
     where
-      behind : Are W S (n + length (flat_header h ++ one class.Open i)) (flat within ++ (one class.Close j ++ flat rest))
-      behind = are_right W S n (flat_header h ++ one class.Open i) (flat within ++ (one class.Close j ++ flat rest)) a
+      behind : Are W R S (n + length (flat_header h ++ one class.Open i)) (flat within ++ (one class.Close j ++ flat rest))
+      behind = are_right W R S n (flat_header h ++ one class.Open i) (flat within ++ (one class.Close j ++ flat rest)) a
 
-      last : Are W S (n + length (flat_header h ++ one class.Open i) + length (flat within)) (one class.Close j ++ flat rest)
-      last = are_right W S (n + length (flat_header h ++ one class.Open i)) (flat within) (one class.Close j ++ flat rest) behind
+      last : Are W R S (n + length (flat_header h ++ one class.Open i) + length (flat within)) (one class.Close j ++ flat rest)
+      last = are_right W R S (n + length (flat_header h ++ one class.Open i)) (flat within) (one class.Close j ++ flat rest) behind
 
       by : (h : Header) → AllByRecursion W (package_of (items_in rest)) → AllByRecursion W (package_of (file_block h within (items_in rest)))
       by (header.Message g) more = more
@@ -309,7 +316,7 @@ module _ (W S : ℕ → Type 0) where
       (λ q h e. absurd (true≢false (sym (ap is_package e) ∙ h.0))) ps (climbs_all ps c.0 c.0 hi (omega arith) c.6))
       (no_package_pairs ps c.0 hi c.6)
 
-  module _ (t : Tree) (n : ℕ) (are : Are W S n (flat t)) where
+  module _ (t : Tree) (n : ℕ) (are : Are W R S n (flat t)) where
     -- the package's words
     abbrev ahead : List ℕ
     ahead = package_of (items_in t)

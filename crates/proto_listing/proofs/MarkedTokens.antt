@@ -14,11 +14,12 @@ use Rattle.proto_tree.specs.Tree.{Tree, Leaf, Block, flat}
 use Rattle.proto_text.proofs.Lists.{contains_head, contains_later, contains_cases}
 use Rattle.proto_meaning.proofs.RisingLists.{Spreads}
 
-module _ (W S : ℕ → Type 0) where
-  -- what is known of a token by what its place wants: W of a name, S of a string
+module _ (W R S : ℕ → Type 0) where
+  -- what is known of a token by what its place wants: W of a name, R of a word of a reference, S of a string
   abbrev pub Known : Want → ℕ → Type 0
-  Known (want.One class.Name) i = W i
-  Known want.Word i = W i
+  Known (want.One class.Name) i = R i
+  Known want.Word i = R i
+  Known want.Name i = W i
   Known want.ValueName i = W i
   Known want.Text i = S i
   Known _ i = Unit {0}
@@ -32,6 +33,10 @@ module _ (W S : ℕ → Type 0) where
   are_from n (m ∷ ms) num f =
       let e : suc n ≡ n + 1 = omega arith in
       (num.0, f m (contains_head m ms), subst (λ (k : ℕ). Are k ms) e (are_from (suc n) ms num.1 (λ x c. f x (contains_later m x ms c))))
+
+  pub are_numbered : (n : ℕ) (ms : List Mark) → Are n ms → Numbered n ms
+  are_numbered n [] a = tt
+  are_numbered n (m ∷ ms) a = let e : n + 1 ≡ suc n = omega arith in (a.0, subst (λ (k : ℕ). Numbered k ms) e (are_numbered (n + 1) ms a.2))
 
   pub are_left : (n : ℕ) (xs ys : List Mark) → Are n (xs ++ ys) → Are n xs
   are_left n [] ys a = tt
@@ -50,13 +55,13 @@ module _ (W S : ℕ → Type 0) where
 
   -- the name behind a keyword
   pub heading_at : (c : Class) (h : Heading) (n next : ℕ) → Are n (flat_heading c h) → n + length (flat_heading c h) ≤ next → (n ≤ h.name) × (h.name < next) × W h.name
-  heading_at c h n next a le = let r = are_at n (flat_heading c h) (mark want.Word h.name) a (1, omega arith, refl) in (r.0, omega (arith, r.1, le), r.2)
+  heading_at c h n next a le = let r = are_at n (flat_heading c h) (mark want.Name h.name) a (1, omega arith, refl) in (r.0, omega (arith, r.1, le), r.2)
 
   -- ---- a tree by its first statement or block
 
-  module _ {X : Type 0} (R : ℕ → ℕ → List X → Type 0) (law : Spreads R) where
+  module _ {X : Type 0} (Q : ℕ → ℕ → List X → Type 0) (law : Spreads Q) where
     pub leaf_step : (s : Statement) (rest : Tree) (n hi : ℕ) (xs ys : List X) → Are n (flat (Leaf s rest)) → hi ≡ n + length (flat (Leaf s rest))
-        → (Are n (flat_statement s) → R n (n + length (flat_statement s)) xs) → ((c : ℕ) → Are c (flat rest) → hi ≡ c + length (flat rest) → R c hi ys) → R n hi (xs ++ ys)
+        → (Are n (flat_statement s) → Q n (n + length (flat_statement s)) xs) → ((c : ℕ) → Are c (flat rest) → hi ≡ c + length (flat rest) → Q c hi ys) → Q n hi (xs ++ ys)
     leaf_step s rest n hi xs ys a e first more =
         let l = length-append (flat_statement s) (flat rest) in
         let c = n + length (flat_statement s) in
@@ -64,7 +69,7 @@ module _ (W S : ℕ → Type 0) where
 
     -- the header from n on, what is between the braces from a place behind it
     pub block_step : (h : Header) (opens : ℕ) (within : Tree) (closes : ℕ) (rest : Tree) (n hi : ℕ) (xs ys : List X) → Are n (flat (Block h opens within closes rest)) → hi ≡ n + length (flat (Block h opens within closes rest))
-        → ((a b : ℕ) → Are n (flat_header h) → n + length (flat_header h) ≤ a → Are a (flat within) → b ≡ a + length (flat within) → R n b xs) → ((c : ℕ) → Are c (flat rest) → hi ≡ c + length (flat rest) → R c hi ys) → R n hi (xs ++ ys)
+        → ((a b : ℕ) → Are n (flat_header h) → n + length (flat_header h) ≤ a → Are a (flat within) → b ≡ a + length (flat within) → Q n b xs) → ((c : ℕ) → Are c (flat rest) → hi ≡ c + length (flat rest) → Q c hi ys) → Q n hi (xs ++ ys)
     block_step h i within j rest n hi xs ys are e first more =
         let l1 = length-append (flat_header h) (one class.Open i) in
         let l2 = length-append (flat within) (one class.Close j ++ flat rest) in

@@ -35,7 +35,7 @@ use Rattle.proto_meaning.specs.Tree.{Placed, ItemsSpan, package_of, file_placed}
 use Rattle.proto_listing.proofs.FromTree.{tree_grown}
 use Rattle.proto_listing.proofs.MarkedNames.{declared_worded, declared_ascend, packages_before}
 use Rattle.proto_listing.proofs.MarkedTokens.{Are, are_from, Known}
-use Rattle.proto_listing.proofs.MarkedUses.{IsOfWords, Uses, items_rise, Imports, imports_rise}
+use Rattle.proto_listing.proofs.MarkedUses.{Uses, items_rise, Imports, imports_rise, uses_each, uses_firsts}
 use Rattle.proto_listing.proofs.PackageFirst.{same_declared}
 use Rattle.proto_meaning.proofs.RisingLists.{rising_each, rising_pairs}
 
@@ -118,18 +118,19 @@ module _ (text : List ℕ) (tokens : List Token) (tree : Tree) (reads : Reads te
     as_text : is_text (class_by l.kind l.text) ≡ true → S m.at
     as_text h = subst IsString (sym text_is) (subst (λ (k : TokenKind). IsLexeme (Solid k) l.text) (text_only l.kind l.text h) lexeme)
 
-    as_wanted : (w : Want) → fits w (class_by l.kind l.text) ≡ true → Known W S w m.at
+    as_wanted : (w : Want) → fits w (class_by l.kind l.text) ≡ true → Known W W S w m.at
     as_wanted (want.One class.Name) f = as_word (place_of_word (want.One class.Name) class.Name (class_by l.kind l.text) refl f refl)
     as_wanted want.Word f = as_word f
+    as_wanted want.Name f = as_word f
     as_wanted want.ValueName f = as_word (place_of_word want.ValueName class.Name (class_by l.kind l.text) refl f refl)
     as_wanted want.Text f = as_text f
     as_wanted _ f = tt
 
-    known : Known W S m.want m.at
+    known : Known W W S m.want m.at
     known = as_wanted m.want fit.1
 
-  are : Are W S 0 (flat tree)
-  are = are_from W S 0 (flat tree) (trees_are_numbered tree (map (lexeme_at text) tokens) reads.spells) (λ m. known m (record { kind = Word; text = [] }))
+  are : Are W W S 0 (flat tree)
+  are = are_from W W S 0 (flat tree) (trees_are_numbered tree (map (lexeme_at text) tokens) reads.spells) (λ m. known m (record { kind = Word; text = [] }))
 
   -- ---- declarations
 
@@ -138,34 +139,34 @@ module _ (text : List ℕ) (tokens : List Token) (tree : Tree) (reads : Reads te
 
   -- a declaration is named by a word
   pub names_plain : (p : Placed) → Contains (package_first (items_in tree)) p → (t : ℕ) → last_token (whole p) ≡ Some t → IsPlain (words text tokens t)
-  names_plain = declared_worded W S tree 0 are
+  names_plain = declared_worded W W S tree 0 are
 
   pub placed_plain : (p : Placed) → Contains (file_placed (items_in tree)) p → (t : ℕ) → last_token (whole p) ≡ Some t → IsPlain (words text tokens t)
   placed_plain p c = names_plain p ((same_declared (items_in tree) tree_span.0 tree_span.1 tree_span.2 p).1 c)
 
   pub declared_rising : AllPairs (λ p q. p.kind ≢ Package → (s t : ℕ) → last_token (whole p) ≡ Some s → last_token (whole q) ≡ Some t → s ≤ t) (package_first (items_in tree))
-  declared_rising = declared_ascend W S tree 0 are
+  declared_rising = declared_ascend W W S tree 0 are
 
   pub packages_first : AllPairs (λ p q. q.kind ≡ Package → p.kind ≡ Package) (package_first (items_in tree))
-  packages_first = packages_before W S tree 0 are
+  packages_first = packages_before W W S tree 0 are
 
   -- ---- references
 
-  used : Uses W S 0 (length (flat tree)) (file_names tree).used
-  used = items_rise W S tree (map (λ t. TokenOf t) (package_of (items_in tree))) 0 (length (flat tree)) are (omega arith)
+  used : Uses W W S 0 (length (flat tree)) (file_names tree).used
+  used = items_rise W W S tree (map (λ t. TokenOf t) (package_of (items_in tree))) 0 (length (flat tree)) are (omega arith)
 
   pub uses_plain : (u : Used ℕ) → Contains (file_names tree).used u → ArePlain (map (words text tokens) u.tokens) × (0 < length u.tokens)
   uses_plain u c =
-      let of = rising_each (λ u. u.first) (IsOfWords W S) (file_names tree).used 0 (length (flat tree)) used u c in
+      let of = uses_each W W S (file_names tree).used 0 (length (flat tree)) used u c in
       (plain_all (words text tokens) u.tokens of.0, of.1)
 
   pub uses_rising : AllPairs (λ a b. a.first < b.first) (file_names tree).used
-  uses_rising = rising_pairs (λ u. u.first) (IsOfWords W S) (file_names tree).used 0 (length (flat tree)) used
+  uses_rising = uses_firsts W W S (file_names tree).used 0 (length (flat tree)) used
 
   -- ---- imports
 
-  imported : Imports W S 0 (length (flat tree)) (imports_in tree)
-  imported = imports_rise W S tree 0 (length (flat tree)) are (omega arith)
+  imported : Imports W W S 0 (length (flat tree)) (imports_in tree)
+  imported = imports_rise W W S tree 0 (length (flat tree)) are (omega arith)
 
   pub imports_are_strings : (w : Wanted) → Contains (imports_in tree) w → IsString (words text tokens w.path)
   imports_are_strings = rising_each (λ w. w.path) (λ w. S w.path) (imports_in tree) 0 (length (flat tree)) imported

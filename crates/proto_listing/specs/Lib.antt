@@ -1,2 +1,3 @@
 pub mod FromTree
 pub mod Listing
+pub mod Roles

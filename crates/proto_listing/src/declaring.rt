@@ -6,6 +6,7 @@ ghost use Rattle.proto_text.specs.Tokens.{Lexeme};
 ghost use Rattle.proto_tree.specs.Tree.{Tree, Spells};
 ghost use Rattle.proto_tree.specs.Words.{classes};
 ghost use Rattle.proto_listing.specs.FromTree.{file_names};
+ghost use Rattle.proto_listing.specs.Roles.{DeclaredTokensAreNames, NamesAreNoUses, TokensAreUsedOnce, UsedTokensRefer, UsedWordsStandApart};
 ghost use Rattle.proto_meaning.specs.Names.{Import};
 ghost use Rattle.proto_meaning.specs.Linked.{holds, IsLinked, IsNested};
 ghost use Rattle.proto_meaning.specs.Skeleton.{Skeleton, Source, IsWoven, symbol_of, workspace_of};
@@ -49,4 +50,13 @@ pub fn links()
 /// The tokens of what a file declares are in order, and each of its references stands in one of its declarations.
 pub fn file_trees()
     ensures { (t : Tree) (ls : List Lexeme) → Spells t (classes 0 ls) → IsGrown (file_names t) }
+{}
+
+/// A token that names a declaration is no word of a reference. A token is one word of one reference, and these stand a dot apart.
+pub fn tokens()
+    ensures names { DeclaredTokensAreNames }
+    ensures uses { UsedTokensRefer }
+    ensures apart { NamesAreNoUses }
+    ensures once { TokensAreUsedOnce }
+    ensures words { UsedWordsStandApart }
 {}

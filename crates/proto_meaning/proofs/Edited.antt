@@ -136,8 +136,8 @@ module _ {X : Type 0} (text text_after : X → List ℕ) (entry : List ℕ → L
   mapped true h s cs p = refl
   mapped false h s cs p = absurd (h s cs p)
 
-  -- one word after the edit
-  word_after : (s : Declared X) → Contains k.declared s → (a : List (Source X)) (x : Source X) → s.path ≡ a ++ x ∷ [] → spell text_after entry x ≡ (if same_name (name_of text entry a) e.parent then turned e (spell text entry x) else spell text entry x)
+  -- one word of a declaration after the edit: right below the parent it is turned
+  pub word_after : (s : Declared X) → Contains k.declared s → (a : List (Source X)) (x : Source X) → s.path ≡ a ++ x ∷ [] → spell text_after entry x ≡ (if same_name (name_of text entry a) e.parent then turned e (spell text entry x) else spell text entry x)
   word_after s cs a (Token i) path = elim (spelled.others s cs a i path) [
     | inl it ↦
         let at = woven.tokens s aim cs is.within a above token (path ∙ ap (λ z. a ++ Token z ∷ []) it) is.path in

@@ -1,4 +1,4 @@
--- The names of many files nest, and their declarations are woven (for the crates above).
+-- The names of many files nest, and their declarations are woven; a declaration and a reference by the file that they are from (for the crates above).
 use Rattle.std.proofs.Common.{◌≡◌, ℕ, suc, ◌≤◌, List, [], ◌∷◌, ◌++◌, length, Some, refl, sym, ◌∙◌, ap, subst, inl, inr, ◌⊎◌, arith, map}
 use Rattle.std.specs.List.{Contains, All}
 use Rattle.std.proofs.lemmas.List.Elements.{Contains-append_left, Contains-append_right, Contains-append_cases, All-contains}
@@ -14,7 +14,7 @@ use Rattle.proto_meaning.proofs.Grown.{snoc_parts}
 use Rattle.proto_meaning.proofs.Items.{file_stands, file_one_place}
 
 -- which file has a number
-abbrev FileAt : ℕ → List FileNames → ℕ → FileNames → Type 0
+abbrev pub FileAt : ℕ → List FileNames → ℕ → FileNames → Type 0
 FileAt n [] i f = ⊥
 FileAt n (g ∷ gs) i f = ((n ≡ i) × (g ≡ f)) ⊎ FileAt (suc n) gs i f
 
@@ -23,37 +23,38 @@ file_from n [] i f h = absurd h
 file_from n (g ∷ gs) i f (inl h) = omega (arith, h.0)
 file_from n (g ∷ gs) i f (inr h) = omega (arith, file_from (suc n) gs i f h)
 
-one_file : (n : ℕ) (fs : List FileNames) (i : ℕ) (f g : FileNames) → FileAt n fs i f → FileAt n fs i g → f ≡ g
+pub one_file : (n : ℕ) (fs : List FileNames) (i : ℕ) (f g : FileNames) → FileAt n fs i f → FileAt n fs i g → f ≡ g
 one_file n [] i f g h k = absurd h
 one_file n (x ∷ xs) i f g (inl h) (inl k) = sym h.1 ∙ k.1
 one_file n (x ∷ xs) i f g (inl h) (inr k) = absurd (omega (arith, h.0, file_from (suc n) xs i g k))
 one_file n (x ∷ xs) i f g (inr h) (inl k) = absurd (omega (arith, k.0, file_from (suc n) xs i f h))
 one_file n (x ∷ xs) i f g (inr h) (inr k) = one_file (suc n) xs i f g h k
 
-file_within : (n : ℕ) (fs : List FileNames) (i : ℕ) (f : FileNames) → FileAt n fs i f → Contains fs f
+pub file_within : (n : ℕ) (fs : List FileNames) (i : ℕ) (f : FileNames) → FileAt n fs i f → Contains fs f
 file_within n [] i f h = absurd h
 file_within n (g ∷ gs) i f (inl h) = subst (λ z. Contains (g ∷ gs) z) h.1 (contains_head g gs)
 file_within n (g ∷ gs) i f (inr h) = contains_later g f gs (file_within (suc n) gs i f h)
 
-abbrev declares : ℕ → Placed → Declared At
+abbrev pub declares : ℕ → Placed → Declared At
 declares i p = shifted_declared (at i) (declared_of i p)
 
-record IsFrom (n : ℕ) (fs : List FileNames) (d : Declared At) : Type 0 where
-  file : ℕ
-  f : FileNames
-  p : Placed
-  there : FileAt n fs file f
-  within : Contains (file_placed f.items) p
-  is : declares file p ≡ d
+-- the file that a declaration is from, and what it is there
+pub record IsFrom (n : ℕ) (fs : List FileNames) (d : Declared At) : Type 0 where
+  pub file : ℕ
+  pub f : FileNames
+  pub p : Placed
+  pub there : FileAt n fs file f
+  pub within : Contains (file_placed f.items) p
+  pub is : declares file p ≡ d
 
-declared_from : (n : ℕ) (fs : List FileNames) (d : Declared At) → Contains (all_declared n fs) d → IsFrom n fs d
+pub declared_from : (n : ℕ) (fs : List FileNames) (d : Declared At) → Contains (all_declared n fs) d → IsFrom n fs d
 declared_from n [] d c = absurd (omega (arith, c.1))
 declared_from n (f ∷ fs) d c = elim (Contains-append_cases (file_declared n f) (all_declared (suc n) fs) d c) [
   | inl a ↦ let p = from_map (λ p. shifted_declared (at n) (declared_of n p)) (file_placed f.items) d a in record { file = n; f = f; p = p.0; there = inl (refl, refl); within = p.1; is = p.2 }
   | inr b ↦ let r = declared_from (suc n) fs d b in record { file = r.file; f = r.f; p = r.p; there = inr r.there; within = r.within; is = r.is }
 ]
 
-declared_to : (n : ℕ) (fs : List FileNames) (i : ℕ) (f : FileNames) → FileAt n fs i f → (p : Placed) → Contains (file_placed f.items) p → Contains (all_declared n fs) (declares i p)
+pub declared_to : (n : ℕ) (fs : List FileNames) (i : ℕ) (f : FileNames) → FileAt n fs i f → (p : Placed) → Contains (file_placed f.items) p → Contains (all_declared n fs) (declares i p)
 declared_to n [] i f h p c = absurd h
 declared_to n (g ∷ gs) i f (inl h) p c =
     subst (λ k. Contains (file_declared n g ++ all_declared (suc n) gs) (declares k p)) h.0
@@ -61,22 +62,23 @@ declared_to n (g ∷ gs) i f (inl h) p c =
     (contains_map (λ p. shifted_declared (at n) (declared_of n p)) (file_placed g.items) p (subst (λ z. Contains (file_placed z.items) p) (sym h.1) c)))
 declared_to n (g ∷ gs) i f (inr h) p c = Contains-append_right (file_declared n g) (all_declared (suc n) gs) (declares i p) (declared_to (suc n) gs i f h p c)
 
-record IsUsedFrom (n : ℕ) (fs : List FileNames) (u : Used At) : Type 0 where
-  file : ℕ
-  f : FileNames
-  use_of : Used ℕ
-  there : FileAt n fs file f
-  within : Contains f.used use_of
-  is : used_in file use_of ≡ u
+-- the file that a reference is from, and what it is there
+pub record IsUsedFrom (n : ℕ) (fs : List FileNames) (u : Used At) : Type 0 where
+  pub file : ℕ
+  pub f : FileNames
+  pub use_of : Used ℕ
+  pub there : FileAt n fs file f
+  pub within : Contains f.used use_of
+  pub is : used_in file use_of ≡ u
 
-used_from : (n : ℕ) (fs : List FileNames) (u : Used At) → Contains (all_used n fs) u → IsUsedFrom n fs u
+pub used_from : (n : ℕ) (fs : List FileNames) (u : Used At) → Contains (all_used n fs) u → IsUsedFrom n fs u
 used_from n [] u c = absurd (omega (arith, c.1))
 used_from n (f ∷ fs) u c = elim (Contains-append_cases (file_used n f) (all_used (suc n) fs) u c) [
   | inl a ↦ let p = from_map (used_in n) f.used u a in record { file = n; f = f; use_of = p.0; there = inl (refl, refl); within = p.1; is = p.2 }
   | inr b ↦ let r = used_from (suc n) fs u b in record { file = r.file; f = r.f; use_of = r.use_of; there = inr r.there; within = r.within; is = r.is }
 ]
 
-path_parts : (i : ℕ) (p : Placed) → (declares i p).path ≡ map (shifted_source (at i)) p.above ++ shifted_source (at i) p.last ∷ []
+pub path_parts : (i : ℕ) (p : Placed) → (declares i p).path ≡ map (shifted_source (at i)) p.above ++ shifted_source (at i) p.last ∷ []
 path_parts i p = map_append (shifted_source (at i)) p.above (p.last ∷ [])
 
 -- Each name of more than one word stands right below another one of its file.

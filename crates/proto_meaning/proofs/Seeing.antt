@@ -66,14 +66,14 @@ all_below a n ok f g (v ∷ vs) w l q h = elim (or_cases (eqb q f) (list_any (eq
   | inr z ↦ all_below a n ok v g vs w.5 (subst (λ x. x < n) w.4 (ok w.0 w.1)) q z
 ]
 
-reaches_all : (a : List Import) (n : ℕ) → ((i : Import) → Contains a i → i.to < n) → (f g : ℕ) → f < n → Reaches a f g → reaches a n f g ≡ true
+pub reaches_all : (a : List Import) (n : ℕ) → ((i : Import) → Contains a i → i.to < n) → (f g : ℕ) → f < n → Reaches a f g → reaches a n f g ≡ true
 reaches_all a n ok f g l r =
     let w = walk_of a r in
     let s = simple a f g w.0 w.1 in
     let b = length-le_from_distinct_below (f ∷ s.0) n (distinct (f ∷ s.0) s.2) (all_below a n ok f g s.0 s.1 l) in
     walk_reaches a n f g s.0 s.1 (omega (arith, b))
 
-reaches_only : (a : List Import) (n f g : ℕ) → reaches a n f g ≡ true → Reaches a f g
+pub reaches_only : (a : List Import) (n f g : ℕ) → reaches a n f g ≡ true → Reaches a f g
 reaches_only a zero f g h = subst (Reaches a f) (eqb-true f g h) here
 reaches_only a (suc n) f g h = elim (or_cases (f == g) (list_any (λ i. (i.from == f) && i.is_public && reaches a n i.to g) a) h) [
   | inl same ↦ subst (Reaches a f) (eqb-true f g same) here

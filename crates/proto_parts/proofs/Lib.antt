@@ -1,5 +1,4 @@
 mod Digits
 mod Means
 mod Statements
-mod Syntax
-mod Words
+mod Strings

@@ -1,19 +1,14 @@
 //! What is read of a file: its texts, strings and numbers, its version, and what its references mean.
 
-ghost use Rattle.std.specs.Prelude.{◌≡◌, ◌<◌, ◌==◌, All, AllPairs, Some, map, find, option_map, IfOk};
+ghost use Rattle.std.specs.Prelude.{◌≡◌, ◌<◌, ◌==◌, AllPairs, Some, map, find, option_map, IfOk};
 ghost use Rattle.std.specs.String.{string_bytes};
-ghost use Rattle.proto_text.specs.declared.kind.PieceKind.TheVariants.{Solid};
-ghost use Rattle.proto_text.specs.Pieces.{IsLexeme};
-ghost use Rattle.proto_text.specs.SourceFacts.{IsSpan, text_at};
-ghost use Rattle.proto_text.specs.Texts.{word_at};
-ghost use Rattle.proto_text.specs.Tokens.{AreTokens, lexeme_at};
 ghost use Rattle.proto_parts.specs.Numbers.{past};
-ghost use Rattle.proto_parts.specs.Scenes.{number_at, signed_at, meant_by, enum_meant, string_of, text, value, value_in};
+ghost use Rattle.proto_parts.specs.Scenes.{number_at, signed_at, meant_by, enum_meant, text, value};
 ghost use Rattle.proto_parts.specs.Views.{enum_of, meant_of};
 
 use crate::numbers::number_of;
 use proto_faults::NoMemory;
-use proto_text::{Source, Token, TokenKind, string_value};
+use proto_files::Words;
 use proto_tree::{Reference, Signed};
 use std::alloc::Global;
 use std::marker::Model;
@@ -38,62 +33,22 @@ pub struct MeantAt<'a> {
 /// A file as checks and descriptors read it.
 #[derive(Drop)]
 pub struct Scene<'a> {
-    source: &'a Source,
-    tokens: &'a [Token],
+    words: Words<'a>,
     is_proto3: bool,
     means: Vec<MeantAt<'a>>,
 }
 
 impl<'a> Model for Scene<'a> {
-    ghost use Rattle.std.specs.Prelude.{◌<◌, All, AllPairs, Some, map};
-    ghost use Rattle.proto_text.specs.SourceFacts.{IsSpan};
-    ghost use Rattle.proto_text.specs.Tokens.{AreTokens, lexeme_at};
+    ghost use Rattle.std.specs.Prelude.{◌<◌, AllPairs, Some, map};
     ghost use Rattle.proto_parts.specs.Numbers.{past};
     ghost use Rattle.proto_parts.specs.Scenes.{Scene as SceneOf};
     ghost use Rattle.proto_parts.specs.Views.{meant_of};
 
     ghost Value = { SceneOf };
 
-    ghost view = { λ s. record { lexemes = map (lexeme_at s.source.now) s.tokens.now; cap = Some past; is_proto3 = s.is_proto3; means = map meant_of s.means.items } };
+    ghost view = { λ s. record { lexemes = s.words; cap = Some past; is_proto3 = s.is_proto3; means = map meant_of s.means.items } };
 
-    ghost invariant = { λ s. AreTokens s.source.now s.tokens.now × All (λ t. IsSpan s.source.now t.span) s.tokens.now × AllPairs (λ m n. m.token < n.token) s.means.items };
-}
-
-fn text_in<'a>(source: &'a Source, tokens: &'a [Token], token: u32) -> &'a str
-    requires { All (λ t. IsSpan source.now t.span) tokens.now }
-    ensures { result.now ≡ word_at (map (lexeme_at source.now) tokens.now) token }
-{
-    match tokens.get(token as usize) {
-        Some(token) => source.text(token.span),
-        None => "",
-    }
-}
-
-fn token_value(alloc: Global, source: &Source, token: &Token) -> Result<String, NoMemory>
-    requires span { IsSpan source.now token.now.span }
-    requires lexeme { IsLexeme (Solid token.now.kind) (text_at source.now token.now.span) }
-    ensures { IfOk result (λ s. string_bytes s ≡ string_of (Some (lexeme_at source.now token.now))) }
-{
-    match token.kind {
-        TokenKind::Text => string_value(alloc, source.text(token.span)),
-        _ => Ok(String::new(alloc)),
-    }
-}
-
-fn string_in(
-    alloc: Global,
-    source: &Source,
-    tokens: &[Token],
-    token: u32,
-) -> Result<String, NoMemory>
-    requires tokens { AreTokens source.now tokens.now }
-    requires spans { All (λ t. IsSpan source.now t.span) tokens.now }
-    ensures { IfOk result (λ s. string_bytes s ≡ value_in (map (lexeme_at source.now) tokens.now) token) }
-{
-    match tokens.get(token as usize) {
-        Some(token) => token_value(alloc, source, token),
-        None => Ok(String::new(alloc)),
-    }
+    ghost invariant = { λ s. AllPairs (λ m n. m.token < n.token) s.means.items };
 }
 
 fn meant_at<'a>(means: &[MeantAt<'a>], token: u32) -> Option<MeantAt<'a>>
@@ -107,21 +62,13 @@ fn meant_at<'a>(means: &[MeantAt<'a>], token: u32) -> Option<MeantAt<'a>>
 }
 
 impl<'a> Scene<'a> {
-    /// A file by its text and tokens, its version, and what its references mean, in the order of their first tokens.
-    pub fn new(
-        source: &'a Source,
-        tokens: &'a [Token],
-        is_proto3: bool,
-        means: Vec<MeantAt<'a>>,
-    ) -> Scene<'a>
-        requires tokens { AreTokens source.now tokens.now }
-        requires spans { All (λ t. IsSpan source.now t.span) tokens.now }
+    /// A file by the texts of its tokens, its version, and what its references mean, in the order of their first tokens.
+    pub fn new(words: Words<'a>, is_proto3: bool, means: Vec<MeantAt<'a>>) -> Scene<'a>
         requires rising { AllPairs (λ m n. m.token < n.token) means.items }
-        ensures { result ≡ record { lexemes = map (lexeme_at source.entry.now) tokens.entry.now; cap = Some past; is_proto3 = is_proto3; means = map meant_of means.entry.items } }
+        ensures { result ≡ record { lexemes = words.entry; cap = Some past; is_proto3 = is_proto3; means = map meant_of means.entry.items } }
     {
         Scene {
-            source,
-            tokens,
+            words,
             is_proto3,
             means,
         }
@@ -131,21 +78,25 @@ impl<'a> Scene<'a> {
     pub fn text(&self, token: u32) -> &'a str
         ensures { result.now ≡ text self.now token }
     {
-        text_in(self.source, self.tokens, token)
+        self.words.get(token)
     }
 
     /// The value of the string token with this index; empty for another token.
     pub fn string(&self, alloc: Global, token: u32) -> Result<String, NoMemory>
         ensures { IfOk result (λ s. string_bytes s ≡ value self.now token) }
     {
-        string_in(alloc, self.source, self.tokens, token)
+        let value = self.words.string(alloc, token)?;
+        match value {
+            Some(found) => Ok(found),
+            None => Ok(String::new(alloc)),
+        }
     }
 
     /// What the number token with this index stands for, or 2^64 where that is less.
     pub fn number(&self, token: u32) -> i128
         ensures { result ≡ number_at self.now token }
     {
-        number_of(text_in(self.source, self.tokens, token)) as i128
+        number_of(self.words.get(token)) as i128
     }
 
     /// The same of a number with its sign.

@@ -85,14 +85,14 @@ trees_stay text tokens tree c reads want runs =
 
 -- ---- tokens apart
 
-no_number : (i : ℕ) → mark (want.One class.Number) i ≡ mark want.Word i → ⊥
-no_number i h = let w : ◌≡◌ {A = Want} (want.One class.Number) want.Word = ap (λ (z : Mark). z.want) h in cc
+no_number : (i : ℕ) → mark (want.One class.Number) i ≡ mark want.Name i → ⊥
+no_number i h = let w : ◌≡◌ {A = Want} (want.One class.Number) want.Name = ap (λ (z : Mark). z.want) h in cc
 
-no_syntax : (i : ℕ) → mark (want.One class.ProtoText) i ≡ mark want.Word i → ⊥
-no_syntax i h = let w : ◌≡◌ {A = Want} (want.One class.ProtoText) want.Word = ap (λ (z : Mark). z.want) h in cc
+no_syntax : (i : ℕ) → mark (want.One class.ProtoText) i ≡ mark want.Name i → ⊥
+no_syntax i h = let w : ◌≡◌ {A = Want} (want.One class.ProtoText) want.Name = ap (λ (z : Mark). z.want) h in cc
 
-no_type : (b : Bool) (i : ℕ) → mark (want.One (type_class b)) i ≡ mark want.Word i → ⊥
-no_type b i h = let w : ◌≡◌ {A = Want} (want.One (type_class b)) want.Word = ap (λ (z : Mark). z.want) h in cc
+no_type : (b : Bool) (i : ℕ) → mark (want.One (type_class b)) i ≡ mark want.Name i → ⊥
+no_type b i h = let w : ◌≡◌ {A = Want} (want.One (type_class b)) want.Name = ap (λ (z : Mark). z.want) h in cc
 
 module _ (text : List ℕ) (tokens : List Token) (tree : Tree) (to : List ℕ) (m : MessageAt) (f : FieldAt)
     (ok : Compiles text tokens tree) (cm : Contains (messages_of tree) m) (cf : Contains m.fields f) where
@@ -113,7 +113,7 @@ module _ (text : List ℕ) (tokens : List Token) (tree : Tree) (to : List ℕ) (
 
   pub below : f.name < length tokens
   below =
-      let at = numbered_at 0 (flat tree) (mark want.Word f.name) numbered marks.name in
+      let at = numbered_at 0 (flat tree) (mark want.Name f.name) numbered marks.name in
       let long = length_fit 0 (flat tree) (map (lexeme_at text) tokens) ok.reads.spells.fits in
       omega (arith, at, long, marks.name.1, length_map (lexeme_at text) tokens)
 

@@ -22,6 +22,7 @@ use Rattle.proto_rename.specs.declared.shape.FieldAt.{FieldAt}
 use Rattle.proto_rename.specs.declared.shape.MessageAt.{MessageAt}
 use Rattle.proto_rename.specs.Shape.{field_by, field_at, fields_by, fields_of, messages_by, messages_of, text_in, IsPlainType, IsPlainStatement, ArePlainFields, IsMessageHeader, ArePlainMessages, IsSyntax, IsFirstShape, syntax_text}
 use Rattle.proto_rename.specs.Renames.{change}
+use Rattle.proto_rename.specs.Laws.{wants_word}
 use Rattle.proto_rename.proofs.TreeWords.{Wanted, wanted_all, Numbered, one_mark}
 
 -- ---- what a file of the first language is made of
@@ -71,12 +72,12 @@ type_class true = class.Name
 type_class false = class.Scalar
 
 pub record FieldMarks (ms : List Mark) (f : FieldAt) : Type 0 where
-  pub name : Contains ms (mark want.Word f.name)
+  pub name : Contains ms (mark want.Name f.name)
   pub number : Contains ms (mark (want.One class.Number) f.number)
   pub type : Contains ms (mark (want.One (type_class f.is_reference)) f.kind)
 
 abbrev behind : Field → List Mark
-behind f = word f.name ++ (one class.Equals f.equals ++ (one class.Number f.number ++ (flat_option flat_settings f.settings ++ one class.Semicolon f.semicolon)))
+behind f = only want.Name f.name ++ (one class.Equals f.equals ++ (one class.Number f.number ++ (flat_option flat_settings f.settings ++ one class.Semicolon f.semicolon)))
 
 marks_by : (before : List Mark) (kind : FieldType) (f : Field) → IsPlainType kind → FieldMarks (before ++ (flat_type kind ++ behind f)) (field_by kind f)
 marks_by before (Scalar i) f p = record {
@@ -167,4 +168,4 @@ pub change_self : (f : FieldAt) (to : List ℕ) → change f to f.name ≡ Some 
 change_self f to = cond-true (f.name == f.name) (Some to) None (eq-eqb f.name f.name refl)
 
 pub change_wanted : (ms : List Mark) (f : FieldAt) (to : List ℕ) → Numbered 0 ms → FieldMarks ms f → Wanted (change f to) ms
-change_wanted ms f to n h = wanted_all (change f to) ms (λ x k w e. ap (λ (z : Mark). z.want) (one_mark 0 ms x (mark want.Word f.name) n k h.name (change_is f to w x.at e).0))
+change_wanted ms f to n h = wanted_all (change f to) ms (λ x k w e. ap (λ (z : Mark). wants_word z.want) (one_mark 0 ms x (mark want.Name f.name) n k h.name (change_is f to w x.at e).0))

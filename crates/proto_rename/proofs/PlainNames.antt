@@ -58,11 +58,11 @@ word_is [] i other lt = absurd (omega (arith, lt))
 word_is (l ∷ ls) zero other lt = refl
 word_is (l ∷ ls) (suc i) other lt = word_is ls i other (omega (arith, lt))
 
-plain_at : (text : List ℕ) (tokens : List Token) (tree : Tree) (i : ℕ) → Reads text tokens tree → Contains (flat tree) (mark want.Word i) → IsPlain (words text tokens i)
+plain_at : (text : List ℕ) (tokens : List Token) (tree : Tree) (i : ℕ) → Reads text tokens tree → Contains (flat tree) (mark want.Name i) → IsPlain (words text tokens i)
 plain_at text tokens tree i reads c =
     let ls : List Lexeme = map (lexeme_at text) tokens in
     let other : Lexeme = record { kind = Word; text = [] } in
-    let fit = marks_fit tree ls (mark want.Word i) other reads.spells c in
+    let fit = marks_fit tree ls (mark want.Name i) other reads.spells c in
     let l : Lexeme = get_or ls i other in
     let is = words_only l.kind l.text fit.1 in
     let run = subst (λ (k : TokenKind). IsLexeme (Solid k) l.text) is (tokens_are_lexemes text tokens reads.tokens_are i other fit.0) in
@@ -98,7 +98,7 @@ file_headed (Block h i within j rest) m p c = absurd p
 pub message_is_plain : (text : List ℕ) (tokens : List Token) (tree : Tree) (m : MessageAt) → Compiles text tokens tree → Contains (messages_of tree) m → IsPlain (words text tokens m.name)
 message_is_plain text tokens tree m ok c =
     let h = file_headed tree m ok.language.0 c in
-    let has = headers_have_marks (header.Message h.0) tree (mark want.Word h.0.name) h.1 (1, omega arith, refl) in
+    let has = headers_have_marks (header.Message h.0) tree (mark want.Name h.0.name) h.1 (1, omega arith, refl) in
     subst (λ (i : ℕ). IsPlain (words text tokens i)) h.2 (plain_at text tokens tree h.0.name ok.reads has)
 
 pub field_is_plain : (text : List ℕ) (tokens : List Token) (tree : Tree) (m : MessageAt) (f : FieldAt) → Compiles text tokens tree → Contains (messages_of tree) m → Contains m.fields f → IsPlain (words text tokens f.name)

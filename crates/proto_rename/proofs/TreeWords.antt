@@ -21,6 +21,7 @@ use Rattle.proto_tree.specs.Tree.{Tree, flat, Spells}
 use Rattle.proto_tree.specs.Place.{open_after, open_from, IsShallow}
 use Rattle.proto_tree.specs.Words.{Listed, class_in, listed, marks, class_by, classes}
 use Rattle.proto_text.proofs.Lists.{contains_head, contains_later}
+use Rattle.proto_rename.specs.Laws.{wants_word}
 
 abbrev Change : Type 0
 Change = ℕ → Option (List ℕ)
@@ -67,11 +68,18 @@ words_only Punctuation w h = absurd (differ (sym (class_is false marks class.Oth
 -- what stands at a changed index wants any word
 abbrev pub Wanted : Change → List Mark → Type 0
 Wanted c [] = Unit {0}
-Wanted c (m ∷ ms) = ((w : List ℕ) → c m.at ≡ Some w → m.want ≡ want.Word) × Wanted c ms
+Wanted c (m ∷ ms) = ((w : List ℕ) → c m.at ≡ Some w → wants_word m.want ≡ true) × Wanted c ms
 
-pub wanted_all : (c : ℕ → Option (List ℕ)) (ms : List Mark) → ((x : Mark) → Contains ms x → (w : List ℕ) → c x.at ≡ Some w → x.want ≡ want.Word) → Wanted c ms
+pub wanted_all : (c : ℕ → Option (List ℕ)) (ms : List Mark) → ((x : Mark) → Contains ms x → (w : List ℕ) → c x.at ≡ Some w → wants_word x.want ≡ true) → Wanted c ms
 wanted_all c [] h = tt
 wanted_all c (m ∷ ms) h = (h m (contains_head m ms), wanted_all c ms (λ x k. h x (contains_later m x ms k)))
+
+fits_is_word : (w : Want) → wants_word w ≡ true → (c : Class) → fits w c ≡ is_word c
+fits_is_word want.Word h c = refl
+fits_is_word want.Name h c = refl
+fits_is_word want.OptionName h c = refl
+fits_is_word want.Constant h c = refl
+fits_is_word _ h c = absurd (differ h)
 
 fits_words : (c : Change) (n : ℕ) (ms : List Mark) (ls : List Lexeme) → AreWords c n ls → Wanted c ms → Fit ms (classes n ls) → Fit ms (classes n (changed c n ls))
 fits_words c n [] [] w g h = tt
@@ -84,7 +92,7 @@ fits_words c n (m ∷ ms) (l ∷ ls) w g h = (by (c n) refl, h.1, fits_words c (
     by (Some v) e =
         let it = w.0 v e in
         let wanted = g.0 v (ap c (sym h.1) ∙ e) in
-        subst (λ (x : Want). fits x (class_by l.kind v) ≡ true) (sym wanted) (word_is_word l.kind v it.0)
+        fits_is_word m.want wanted (class_by l.kind v) ∙ word_is_word l.kind v it.0
 
 pub spells_words : (c : Change) (t : Tree) (ls : List Lexeme) → AreWords c 0 ls → Wanted c (flat t) → Spells t (classes 0 ls) → Spells t (classes 0 (changed c 0 ls))
 spells_words c t ls w g h = record { well_formed = h.well_formed; fits = fits_words c 0 (flat t) ls w g h.fits }
@@ -95,7 +103,7 @@ are_words c run n [] [] g h = tt
 are_words c run n [] (l ∷ ls) g h = absurd h
 are_words c run n (m ∷ ms) [] g h = tt
 are_words c run n (m ∷ ms) (l ∷ ls) g h =
-    ((λ w e. (words_only l.kind l.text (subst (λ (x : Want). fits x (class_by l.kind l.text) ≡ true) (g.0 w (ap c (sym h.1) ∙ e)) h.0), run n w e)), are_words c run (suc n) ms ls g.1 h.2)
+    ((λ w e. (words_only l.kind l.text (sym (fits_is_word m.want (g.0 w (ap c (sym h.1) ∙ e)) (class_by l.kind l.text)) ∙ h.0), run n w e)), are_words c run (suc n) ms ls g.1 h.2)
 
 -- ---- braces
 

@@ -1,11 +1,12 @@
 -- The laws of a rename in one file.
-use Rattle.std.specs.Prelude.{◌≡◌, ◌≢◌, ◌↔◌, ℕ, List, [], ◌∷◌, length, Option, Some, None}
+use Rattle.std.specs.Prelude.{◌≡◌, ◌≢◌, ◌↔◌, ℕ, Bool, true, false, List, [], ◌∷◌, length, Option, Some, None}
 use Rattle.std.specs.List.{Contains}
 use Rattle.proto_text.specs.declared.class.Class.TheVariants.{Letter}
 use Rattle.proto_text.specs.declared.lexer.Token.{Token}
 use Rattle.proto_text.specs.Pieces.{IsRun}
 use Rattle.proto_text.specs.Edits.{Puts}
 use Rattle.proto_text.specs.Texts.{offset_at, words, IsReworded}
+use Rattle.proto_tree.specs.declared.class.Want.{Want}
 use Rattle.proto_tree.specs.declared.class.Want.TheVariants as want
 use Rattle.proto_tree.specs.Flat.{Mark}
 use Rattle.proto_tree.specs.Tree.{Tree, flat}
@@ -27,9 +28,16 @@ use Rattle.proto_rename.specs.Renames.{Compiles, TextCompilesTo, absent, no_fiel
 
 -- ---- one file
 
+abbrev pub wants_word : Want → Bool
+wants_word want.Word = true
+wants_word want.Name = true
+wants_word want.OptionName = true
+wants_word want.Constant = true
+wants_word _ = false
+
 -- what stands at a changed index may be any word
 abbrev pub WantWords : (ℕ → Option (List ℕ)) → List Mark → Type 0
-WantWords c marks = (x : Mark) → Contains marks x → (w : List ℕ) → c x.at ≡ Some w → x.want ≡ want.Word
+WantWords c marks = (x : Mark) → Contains marks x → (w : List ℕ) → c x.at ≡ Some w → wants_word x.want ≡ true
 
 -- Words put in the places of words leave the tokens by index and the very same tree.
 abbrev pub TreesStay : Type 0

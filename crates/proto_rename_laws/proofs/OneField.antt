@@ -6,7 +6,7 @@ use Rattle.proto_text.proofs.Lists.{contains_cases, contains_head, contains_late
 use Rattle.proto_tree.specs.declared.piece.Statement.{Statement}
 use Rattle.proto_tree.specs.declared.tree.Field.{Field}
 use Rattle.proto_tree.specs.declared.tree.MapField.{MapField}
-use Rattle.proto_tree.specs.Flat.{Mark, mark, one, only, word, flat_field, flat_header, flat_map_field, flat_option, flat_settings, flat_statement, flat_type}
+use Rattle.proto_tree.specs.Flat.{Mark, mark, name, one, only, flat_field, flat_header, flat_map_field, flat_option, flat_settings, flat_statement, flat_type}
 use Rattle.proto_tree.specs.Laws.{Numbered}
 use Rattle.proto_tree.specs.Tree.{Tree, End, Leaf, Block, flat}
 use Rattle.proto_tree.proofs.MarkLaws.{numbered_append, numbered_at}
@@ -127,10 +127,10 @@ field_statement n (Block (header.Method h) opens within closes rest) f c = let r
 abbrev field_tail : Field → List Mark
 field_tail f = one class.Equals f.equals ++ (one class.Number f.number ++ (flat_option flat_settings f.settings ++ one class.Semicolon f.semicolon))
 
-field_mark : (f : Field) → Contains (flat_field f) (mark want.Word f.name)
+field_mark : (f : Field) → Contains (flat_field f) (mark want.Name f.name)
 field_mark f =
-    Contains-append_right (flat_option (only want.Label) f.label) (flat_type f.kind ++ (word f.name ++ field_tail f)) (mark want.Word f.name)
-    (Contains-append_right (flat_type f.kind) (word f.name ++ field_tail f) (mark want.Word f.name) (contains_head (mark want.Word f.name) (field_tail f)))
+    Contains-append_right (flat_option (only want.Label) f.label) (flat_type f.kind ++ (name f.name ++ field_tail f)) (mark want.Name f.name)
+    (Contains-append_right (flat_type f.kind) (name f.name ++ field_tail f) (mark want.Name f.name) (contains_head (mark want.Name f.name) (field_tail f)))
 
 abbrev map_tail : MapField → List Mark
 map_tail f = one class.Equals f.equals ++ (one class.Number f.number ++ (flat_option flat_settings f.settings ++ one class.Semicolon f.semicolon))
@@ -138,15 +138,15 @@ map_tail f = one class.Equals f.equals ++ (one class.Number f.number ++ (flat_op
 abbrev map_front : MapField → List Mark
 map_front f = mark (want.One class.Map) f.keyword ∷ mark (want.One class.Less) f.open ∷ mark (want.One class.Scalar) f.key ∷ mark (want.One class.Comma) f.comma ∷ []
 
-map_mark : (f : MapField) → Contains (flat_map_field f) (mark want.Word f.name)
+map_mark : (f : MapField) → Contains (flat_map_field f) (mark want.Name f.name)
 map_mark f =
-    Contains-append_right (map_front f) (flat_type f.value ++ (one class.Greater f.close ++ (word f.name ++ map_tail f))) (mark want.Word f.name)
-    (Contains-append_right (flat_type f.value) (one class.Greater f.close ++ (word f.name ++ map_tail f)) (mark want.Word f.name)
-    (Contains-append_right (one class.Greater f.close) (word f.name ++ map_tail f) (mark want.Word f.name) (contains_head (mark want.Word f.name) (map_tail f))))
+    Contains-append_right (map_front f) (flat_type f.value ++ (one class.Greater f.close ++ (name f.name ++ map_tail f))) (mark want.Name f.name)
+    (Contains-append_right (flat_type f.value) (one class.Greater f.close ++ (name f.name ++ map_tail f)) (mark want.Name f.name)
+    (Contains-append_right (one class.Greater f.close) (name f.name ++ map_tail f) (mark want.Name f.name) (contains_head (mark want.Name f.name) (map_tail f))))
 
 name_mark : (o : Option ℕ) (s : Statement) (f : FieldOf) → Contains (statement_fields o s) f → (m : Mark) × Contains (flat_statement s) m × (m.at ≡ f.name)
-name_mark o (statement.Field x) f c = elim (contains_cases (plain_field o x) f [] c) [ inl q ↦ (mark want.Word x.name, field_mark x, ap (λ (z : FieldOf). z.name) q) | inr d ↦ absurd (omega (arith, d.1)) ]
-name_mark o (statement.MapField x) f c = elim (contains_cases (map_field x) f [] c) [ inl q ↦ (mark want.Word x.name, map_mark x, ap (λ (z : FieldOf). z.name) q) | inr d ↦ absurd (omega (arith, d.1)) ]
+name_mark o (statement.Field x) f c = elim (contains_cases (plain_field o x) f [] c) [ inl q ↦ (mark want.Name x.name, field_mark x, ap (λ (z : FieldOf). z.name) q) | inr d ↦ absurd (omega (arith, d.1)) ]
+name_mark o (statement.MapField x) f c = elim (contains_cases (map_field x) f [] c) [ inl q ↦ (mark want.Name x.name, map_mark x, ap (λ (z : FieldOf). z.name) q) | inr d ↦ absurd (omega (arith, d.1)) ]
 name_mark o _ f c = absurd (omega (arith, c.1))
 
 options_same : (o p : Option ℕ) (s : Statement) (f g : FieldOf) → Contains (statement_fields o s) f → Contains (statement_fields p s) g → f.options ≡ g.options

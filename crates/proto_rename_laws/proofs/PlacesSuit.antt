@@ -148,13 +148,13 @@ module _ (files : List FileOf) (reads : List ReadOf) (name to : List ℕ) (t : T
     abbrev used_places : List At
     used_places = flat_map (standing (text_of files reads) (link_skeleton files reads) (name_map files reads t to)) (link_skeleton files reads).used
 
-    any_word : (v : Want) → v ≡ want.Word → fits v (class_by Word to) ≡ true
-    any_word v h = ap (λ z. fits z (class_by Word to)) h ∙ word_is_word to
+    fits_as : (u v : Want) → fits u (class_by Word to) ≡ true → v ≡ u → fits v (class_by Word to) ≡ true
+    fits_as u v f h = ap (λ z. fits z (class_by Word to)) h ∙ f
 
     place_fits : (k : ℕ) (m : Mark) → Contains (flat (read_at reads k).tree) m → Contains places (at k m.at) → fits m.want (class_by Word to) ≡ true
     place_fits k m cm c = elim (contains_cases t.token (at k m.at) (used_places ++ renamed_defaults files reads t.enum (name_map files reads t to).old) c) [
       | inl same ↦ elim (wants.name k m cm (sym same)) [
-        | inl x ↦ any_word m.want x
+        | inl x ↦ fits_as want.Name m.want (word_is_word to) x
         | inr x ↦ ap (λ z. fits z (class_by Word to)) x.0 ∙ unreserved to (λ h. free (ap (λ z. is_keyword_of z to) x.1 ∙ h))
       ]
       | inr d ↦ elim (Contains-append_cases used_places (renamed_defaults files reads t.enum (name_map files reads t to).old) (at k m.at) d) [
@@ -164,10 +164,10 @@ module _ (files : List FileOf) (reads : List ReadOf) (name to : List ℕ) (t : T
             let inside = subst (λ z. Contains z (at k m.at)) (sym st.parts) (Contains-append_right st.before (at k m.at ∷ st.behind) (at k m.at) (contains_head (at k m.at) st.behind)) in
             let is = outer_keyword t.aim.kind to (stands_for_outer u.0 u.1 (at k m.at) u.2) named.kind in
             elim (wants.uses k m cm (u.0, u.1, inside)) [
-              | inl x ↦ any_word m.want x
+              | inl x ↦ fits_as want.Word m.want (word_is_word to) x
               | inr x ↦ ap (λ z. fits z (class_by Word to)) x ∙ unlisted to (λ h. free (is ∙ h))
             ])
-        | inr h ↦ any_word m.want (wants.defaults k m cm h)
+        | inr h ↦ fits_as want.Constant m.want (word_is_word to) (wants.defaults k m cm h)
       ]
     ]
 

@@ -45,9 +45,9 @@ pub record AreApart (k : Skeleton At) (defaults : List At) : Type 0 where
 -- what is wanted where the target is named, where a word of a reference stands, and where a default that means it stands
 -- (To be proved: a declared name, a word of a reference and a constant each stand where the tree has a mark that wants one.)
 pub record HasWants (files : List FileOf) (reads : List ReadOf) (t : Target) (to : List ℕ) : Type 0 where
-  pub name : (k : ℕ) (m : Mark) → Contains (flat (read_at reads k).tree) m → at k m.at ≡ t.token → (m.want ≡ want.Word) ⊎ ((m.want ≡ want.ValueName) × (t.aim.kind ≡ kind.Value))
+  pub name : (k : ℕ) (m : Mark) → Contains (flat (read_at reads k).tree) m → at k m.at ≡ t.token → (m.want ≡ want.Name) ⊎ ((m.want ≡ want.ValueName) × (t.aim.kind ≡ kind.Value))
   pub uses : (k : ℕ) (m : Mark) → Contains (flat (read_at reads k).tree) m → Uses (link_skeleton files reads) (at k m.at) → (m.want ≡ want.Word) ⊎ (m.want ≡ want.One class.Name)
-  pub defaults : (k : ℕ) (m : Mark) → Contains (flat (read_at reads k).tree) m → Contains (renamed_defaults files reads t.enum (name_map files reads t to).old) (at k m.at) → m.want ≡ want.Word
+  pub defaults : (k : ℕ) (m : Mark) → Contains (flat (read_at reads k).tree) m → Contains (renamed_defaults files reads t.enum (name_map files reads t to).old) (at k m.at) → m.want ≡ want.Constant
 
 -- ---- tokens that checks read
 

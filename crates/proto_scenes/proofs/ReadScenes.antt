@@ -3,13 +3,13 @@ use Rattle.std.proofs.Common.{◌≡◌, ℕ, ◌<◌, Bool, List, length, map, 
 use Rattle.std.specs.List.{find}
 use Rattle.indexmap.specs.IndexMap.{IndexMap}
 use Rattle.proto_text.specs.declared.lexer.Token.{Token}
-use Rattle.proto_text.specs.Tokens.{AreTokens, Lexeme, lexeme_at}
+use Rattle.proto_text.specs.Tokens.{Lexeme, lexeme_at}
 use Rattle.proto_tree.specs.Tree.{Tree}
 use Rattle.proto_files.specs.GivenFiles.{FileOf, file_at}
 use Rattle.proto_meaning.specs.Grown.{at}
-use Rattle.proto_files.specs.FilesRead.{ReadOf, AreRead}
+use Rattle.proto_files.specs.FileTokens.{AreTokensOf}
+use Rattle.proto_files.specs.FilesRead.{ReadOf, AreRead, read_at}
 use Rattle.proto_files.proofs.OneReading.{IsTreeOf, same_tree}
-use Rattle.proto_files.proofs.ReadOnce.{tokens_at}
 use Rattle.proto_parts.specs.Numbers.{past}
 use Rattle.proto_parts.specs.Parts.{blocks_in}
 use Rattle.proto_parts.specs.Scenes.{MeantOf, Scene, is_proto3, value_in}
@@ -17,29 +17,26 @@ use Rattle.proto_scenes.specs.Enums.{AreEnumsOf, row_at}
 use Rattle.proto_scenes.specs.SceneOf.{enum_at, enum_within, is_enum_at, is_proto3_file, lexemes_of, means_of, scene_of}
 use Rattle.proto_scenes.specs.declared.enum_table.EnumRow.{EnumRow}
 
-module _ (files : List FileOf) (file : ℕ) (within : file < length files) (text : List ℕ) (source : text ≡ (file_at files file).bytes) (tokens : List Token) (lexed : AreTokens (file_at files file).bytes tokens) (tree : Tree) (of_file : IsTreeOf (file_at files file).bytes tree) (reads : List ReadOf) (are : AreRead files reads) where
-  abbrev lexemes : List Lexeme
-  lexemes = map (lexeme_at text) tokens
+module _ (files : List FileOf) (file : ℕ) (within : file < length files) (words : List Lexeme) (spelled : (tokens : List Token) → AreTokensOf files file tokens → words ≡ map (lexeme_at (file_at files file).bytes) tokens) (tree : Tree) (of_file : IsTreeOf (file_at files file).bytes tree) (reads : List ReadOf) (are : AreRead files reads) where
+  words_are : words ≡ lexemes_of files reads file
+  words_are = spelled (read_at reads file).tokens (are.tokens file within)
 
-  lexemes_are : lexemes ≡ lexemes_of files reads file
-  lexemes_are = ap (λ (b : List ℕ). map (lexeme_at b) tokens) source ∙ ap (map (lexeme_at (file_at files file).bytes)) (tokens_at files reads are file tokens within lexed)
-
-  proto3_is : is_proto3 (value_in lexemes) tree ≡ is_proto3_file files reads file
+  proto3_is : is_proto3 (value_in words) tree ≡ is_proto3_file files reads file
   proto3_is =
-      ap (λ (ls : List Lexeme). is_proto3 (value_in ls) tree) lexemes_are
+      ap (λ (ls : List Lexeme). is_proto3 (value_in ls) tree) words_are
       ∙ ap (λ (t : Tree). is_proto3 (value_in (lexemes_of files reads file)) t) (sym (same_tree files reads file tree are within of_file))
 
-  pub scene_is : (proto3 : Bool) → proto3 ≡ is_proto3 (value_in lexemes) tree → (means : List MeantOf) → means ≡ means_of files reads file
-      → (scene : Scene) → scene ≡ (let s : Scene = record { lexemes = lexemes; cap = Some past; is_proto3 = proto3; means = means } in s) → scene ≡ scene_of (Some past) files reads file
+  pub scene_is : (proto3 : Bool) → proto3 ≡ is_proto3 (value_in words) tree → (means : List MeantOf) → means ≡ means_of files reads file
+      → (scene : Scene) → scene ≡ (let s : Scene = record { lexemes = words; cap = Some past; is_proto3 = proto3; means = means } in s) → scene ≡ scene_of (Some past) files reads file
   scene_is proto3 p means m scene is =
       is
-      ∙ ap (λ (ls : List Lexeme). let s : Scene = record { lexemes = ls; cap = Some past; is_proto3 = proto3; means = means } in s) lexemes_are
+      ∙ ap (λ (ls : List Lexeme). let s : Scene = record { lexemes = ls; cap = Some past; is_proto3 = proto3; means = means } in s) words_are
       ∙ ap (λ (b : Bool). let s : Scene = record { lexemes = lexemes_of files reads file; cap = Some past; is_proto3 = b; means = means } in s) (p ∙ proto3_is)
       ∙ ap (λ (ms : List MeantOf). let s : Scene = record { lexemes = lexemes_of files reads file; cap = Some past; is_proto3 = is_proto3_file files reads file; means = ms } in s) m
 
-  pub rows_are : {S : Type 0} (proto3 : Bool) → proto3 ≡ is_proto3 (value_in lexemes) tree → (rows : IndexMap ℕ EnumRow S) → AreEnumsOf lexemes proto3 (blocks_in tree) rows → (token : ℕ) → row_at rows token ≡ enum_at files reads (at file token)
+  pub rows_are : {S : Type 0} (proto3 : Bool) → proto3 ≡ is_proto3 (value_in words) tree → (rows : IndexMap ℕ EnumRow S) → AreEnumsOf words proto3 (blocks_in tree) rows → (token : ℕ) → row_at rows token ≡ enum_at files reads (at file token)
   rows_are proto3 p rows h token =
       h token
-      ∙ ap (λ (ls : List Lexeme). option_map (λ b. enum_within ls proto3 b.within) (find (λ b. is_enum_at token b.header) (blocks_in tree))) lexemes_are
+      ∙ ap (λ (ls : List Lexeme). option_map (λ b. enum_within ls proto3 b.within) (find (λ b. is_enum_at token b.header) (blocks_in tree))) words_are
       ∙ ap (λ (q : Bool). option_map (λ b. enum_within (lexemes_of files reads file) q b.within) (find (λ b. is_enum_at token b.header) (blocks_in tree))) (p ∙ proto3_is)
       ∙ ap (λ (t : Tree). option_map (λ b. enum_within (lexemes_of files reads file) (is_proto3_file files reads file) b.within) (find (λ b. is_enum_at token b.header) (blocks_in t))) (sym (same_tree files reads file tree are within of_file))

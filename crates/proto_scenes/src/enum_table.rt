@@ -116,11 +116,9 @@ pub fn enum_table<'a>(
 {
     let mut table = Vec::new(alloc);
     for file in 0..files.len() {
-        let source = files.source(file);
-        let tokens = files.tokens(file);
-        let tree = files.tree(file);
-        let is_proto3 = is_proto3(source, tokens, tree);
         let words = Words::new(files, file);
+        let tree = files.tree(file);
+        let is_proto3 = is_proto3(&words, tree);
         table.push(file_enums(alloc, &words, is_proto3, tree)?)?;
     }
     Ok(table)

@@ -11,7 +11,7 @@ ghost use Rattle.proto_scenes.specs.Meanings.{enum_of_name, meant_in_table};
 use crate::enum_table::{EnumRow, enum_at};
 use indexmap::IndexMap;
 use proto_faults::NoMemory;
-use proto_files::Files;
+use proto_files::{Files, Words};
 use proto_names::{Link, Meant, SymbolId};
 use proto_parts::{EnumAt, MeantAt, Scene, is_proto3};
 use std::alloc::Global;
@@ -73,11 +73,10 @@ fn scene<'a>(
     ensures { IfOk result (IsSceneOf files.now file) }
 {
     let place = file as usize;
-    let source = files.source(place);
-    let tokens = files.tokens(place);
-    let is_proto3 = is_proto3(source, tokens, files.tree(place));
+    let words = Words::new(files, place);
+    let is_proto3 = is_proto3(&words, files.tree(place));
     let means = means(alloc, link, table, file)?;
-    Ok(Scene::new(source, tokens, is_proto3, means))
+    Ok(Scene::new(words, is_proto3, means))
 }
 
 /// Each file as checks and descriptors read it, in the order of their paths. The link is that of the files, and the

@@ -1,5 +1,5 @@
 -- Declarations with their last words have the names that their paths spell (for the crates above).
-use Rattle.std.proofs.Common.{◌≡◌, ◌≢◌, ℕ, zero, suc, ◌-◌, ◌<◌, ◌≤◌, Bool, true, false, ◌||◌, List, [], ◌∷◌, ◌++◌, length, get_or, map, refl, sym, ◌∙◌, ap, subst, inl, inr, arith, append_assoc, string_bytes, if◌then◌else◌, Option, Some, None}
+use Rattle.std.proofs.Common.{◌≡◌, ◌≢◌, ℕ, zero, suc, ◌-◌, ◌<◌, ◌≤◌, Bool, true, false, ◌||◌, List, [], ◌∷◌, ◌++◌, length, get_or, map, refl, sym, ◌∙◌, ap, subst, inl, inr, arith, append_assoc, string_bytes, if◌then◌else◌, Option, Some}
 use Rattle.std.specs.Prelude.{◌&&◌, ◌==◌, nat_le}
 use Rattle.std.specs.List.{list_any}
 use Rattle.std.proofs.lemmas.Bool.{cases_Bool, cond-true, cond-false, false_from_ne_true, and_parts, or_parts, eqb-true, leb-true}
@@ -12,8 +12,8 @@ use Rattle.proto_meaning.specs.Faults.{place_from}
 use Rattle.proto_meaning.specs.Grown.{at}
 use Rattle.proto_meaning.specs.Joined.{IsPlain}
 use Rattle.proto_table.specs.LastWords.{AreListed, IsKept, last_word, named_as}
-use Rattle.proto_listing.specs.Listing.{later, last_token, needs, path_at, read, read_on, seen, source_of, whole}
-use Rattle.proto_meaning.specs.Skeleton.{Source, Token, EntryOf, Given, name_of, spell}
+use Rattle.proto_listing.specs.Listing.{last_token, needs, path_at, read, read_on, seen, source_of, whole}
+use Rattle.proto_meaning.specs.Skeleton.{name_of, spell}
 use Rattle.proto_table.specs.Spelled.{Named, AreSpelled, name_above, named_by, named_on, named_in}
 use Rattle.proto_meaning.specs.Tree.{Placed}
 use Rattle.proto_listing.specs.declared.listing.Above.{Above}
@@ -21,6 +21,7 @@ use Rattle.proto_listing.specs.declared.listing.Above.TheVariants.{Outermost, Be
 use Rattle.proto_listing.specs.declared.listing.LastWord.{LastWord}
 use Rattle.proto_listing.specs.declared.listing.LastWord.TheVariants.{Text, EntryName, Key, Value}
 use Rattle.proto_listing.specs.declared.listing.Listed.{Listed}
+use Rattle.proto_listing.proofs.InTokens.{or_at, place_is}
 use Rattle.proto_table.specs.declared.spelled.Spelled.{Spelled}
 
 -- ---- plain words
@@ -74,26 +75,6 @@ last_plain text Text t h = h
 last_plain text EntryName t h = entry_plain (text t) h
 last_plain text Key t h = (refl, λ e. cc)
 last_plain text Value t h = (refl, λ e. cc)
-
--- ---- places
-
-abbrev or_at : ℕ → Option ℕ → ℕ
-or_at x None = x
-or_at x (Some t) = t
-
-or_later : (x t : ℕ) (o : Option ℕ) → or_at t o ≡ or_at x (later o (Some t))
-or_later x t None = refl
-or_later x t (Some u) = refl
-
-or_none : (x : ℕ) (o : Option ℕ) → or_at x o ≡ or_at x (later o None)
-or_none x None = refl
-or_none x (Some u) = refl
-
-place_is : (x : ℕ) (path : List (Source ℕ)) → place_from x path ≡ or_at x (last_token path)
-place_is x [] = refl
-place_is x (Token t ∷ rest) = place_is t rest ∙ or_later x t (last_token rest)
-place_is x (EntryOf t ∷ rest) = place_is t rest ∙ or_later x t (last_token rest)
-place_is x (Given w ∷ rest) = place_is x rest ∙ or_none x (last_token rest)
 
 -- ---- names
 

@@ -11,7 +11,9 @@ mod OneFault
 mod PieceRules
 pub mod Places
 mod ReplaceLaws
+pub mod Roles
 mod Rules
+pub mod SpacedWords
 mod Table
 pub mod Walks
 pub mod WordLaws

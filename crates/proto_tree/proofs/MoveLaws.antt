@@ -19,7 +19,7 @@ use Rattle.proto_tree.specs.declared.piece.Statement.TheVariants as statement
 use Rattle.proto_tree.specs.declared.piece.Header.{Header}
 use Rattle.proto_tree.specs.declared.piece.Header.TheVariants as header
 use Rattle.proto_tree.specs.declared.context.Context.{Context}
-use Rattle.proto_tree.specs.Flat.{Mark, only, one, flat_option, flat_all, flat_behind, flat_from, flat_dotted, flat_words, flat_reference, flat_type, flat_signed, flat_joined, flat_constant, flat_setting, flat_settings, flat_option_statement, flat_syntax, flat_import, flat_package, flat_field, flat_map_field, flat_range_end, flat_up_to, flat_range, flat_ranges, flat_reserved_list, flat_reserved, flat_extensions, flat_value, flat_method_type, flat_signature, flat_statement, flat_header}
+use Rattle.proto_tree.specs.Flat.{Mark, only, one, flat_option, flat_all, flat_behind, flat_from, flat_separated, flat_dotted, flat_words, flat_reference, flat_type, flat_signed, flat_joined, flat_constant, flat_setting, flat_settings, flat_option_statement, flat_syntax, flat_import, flat_package, flat_field, flat_map_field, flat_range_end, flat_up_to, flat_range, flat_ranges, flat_reserved_list, flat_reserved, flat_extensions, flat_value, flat_method_type, flat_signature, flat_statement, flat_header}
 use Rattle.proto_tree.specs.Tree.{Tree, End, Leaf, Block, flat, field_kind, statement_kind, header_kind, allows, after, inside, IsWellFormed}
 use Rattle.proto_tree.specs.Moved.{Move, move_option, move_behind, move_separated, move_reference, move_type, move_signed, move_joined, move_constant, move_setting, move_settings, move_option_statement, move_syntax, move_import, move_package, move_field, move_map_field, move_range_end, move_up_to, move_range, move_reserved_list, move_reserved, move_extensions, move_value, move_method_type, move_signature, move_statement, move_header, move_tree, shift}
 
@@ -69,6 +69,9 @@ module _ (g : Move) where
   dotted : IsMoved flat_dotted (move_separated g g)
   dotted = from class.Dot (tok want.Word) (tok want.Word)
 
+  package_name : IsMoved (flat_separated class.Dot (only want.Name)) (move_separated g g)
+  package_name = from class.Dot (tok want.Name) (tok want.Name)
+
   words_law : (dot : Option ℕ) (words : Separated ℕ) → flat_words (move_option g dot) (move_separated g g words) ≡ map (shift g) (flat_words dot words)
   words_law None words = (from class.Dot (the class.Name) (tok want.Word)).law words
   words_law (Some i) words = both (one class.Dot i) (flat_dotted words) (one class.Dot (g i)) (flat_dotted (move_separated g g words)) refl (dotted.law words)
@@ -98,14 +101,14 @@ module _ (g : Move) where
   value_of = record { law = constant_law }
 
   setting : IsMoved flat_setting (move_setting g)
-  setting = seen_moved flat_setting (move_setting g) (λ s. (s.name, (s.equals, s.value))) (λ s. refl) (λ s. refl) (then_moved (tok want.Word) (then_moved (the class.Equals) value_of))
+  setting = seen_moved flat_setting (move_setting g) (λ s. (s.name, (s.equals, s.value))) (λ s. refl) (λ s. refl) (then_moved (tok want.OptionName) (then_moved (the class.Equals) value_of))
 
   settings : IsMoved flat_settings (move_settings g)
   settings = seen_moved flat_settings (move_settings g) (λ s. (s.«open», (s.list, s.close))) (λ s. refl) (λ s. refl) (then_moved (the class.LeftBracket) (then_moved (from class.Comma setting setting) (the class.RightBracket)))
 
   option_statement : IsMoved flat_option_statement (move_option_statement g)
   option_statement = seen_moved flat_option_statement (move_option_statement g) (λ o. (o.keyword, (o.name, (o.equals, (o.value, o.semicolon))))) (λ o. refl) (λ o. refl)
-      (then_moved (the class.Option) (then_moved (tok want.Word) (then_moved (the class.Equals) (then_moved value_of (the class.Semicolon)))))
+      (then_moved (the class.Option) (then_moved (tok want.OptionName) (then_moved (the class.Equals) (then_moved value_of (the class.Semicolon)))))
 
   syntax_statement : IsMoved flat_syntax (move_syntax g)
   syntax_statement = record { law = λ s. refl }
@@ -115,20 +118,20 @@ module _ (g : Move) where
       (then_moved (the class.Import) (then_moved (maybe (the class.Public)) (then_moved (tok want.Text) (the class.Semicolon))))
 
   package_statement : IsMoved flat_package (move_package g)
-  package_statement = seen_moved flat_package (move_package g) (λ p. (p.keyword, (p.name, p.semicolon))) (λ p. refl) (λ p. refl) (then_moved (the class.Package) (then_moved dotted (the class.Semicolon)))
+  package_statement = seen_moved flat_package (move_package g) (λ p. (p.keyword, (p.name, p.semicolon))) (λ p. refl) (λ p. refl) (then_moved (the class.Package) (then_moved package_name (the class.Semicolon)))
 
   ended : IsMoved (λ (x : Option Settings × ℕ). flat_option flat_settings x.0 ++ one class.Semicolon x.1) (λ x. (move_option (move_settings g) x.0, g x.1))
   ended = then_moved (maybe settings) (the class.Semicolon)
 
   field : IsMoved flat_field (move_field g)
   field = seen_moved flat_field (move_field g) (λ f. (f.label, (f.kind, (f.name, (f.equals, (f.number, (f.settings, f.semicolon))))))) (λ f. refl) (λ f. refl)
-      (then_moved (maybe (tok want.Label)) (then_moved type (then_moved (tok want.Word) (then_moved (the class.Equals) (then_moved (the class.Number) ended)))))
+      (then_moved (maybe (tok want.Label)) (then_moved type (then_moved (tok want.Name) (then_moved (the class.Equals) (then_moved (the class.Number) ended)))))
 
   map_field : IsMoved flat_map_field (move_map_field g)
   map_field = seen_moved flat_map_field (move_map_field g)
       (λ f. (f.keyword, (f.«open», (f.key, (f.comma, (f.value, (f.close, (f.name, (f.equals, (f.number, (f.settings, f.semicolon))))))))))) (λ f. refl) (λ f. refl)
       (then_moved (the class.Map) (then_moved (the class.Less) (then_moved (the class.Scalar) (then_moved (the class.Comma) (then_moved type (then_moved (the class.Greater)
-      (then_moved (tok want.Word) (then_moved (the class.Equals) (then_moved (the class.Number) ended)))))))))
+      (then_moved (tok want.Name) (then_moved (the class.Equals) (then_moved (the class.Number) ended)))))))))
 
   module _ {N : Type 0} {flat_n : N → List Mark} {f : N → N} (n : IsMoved flat_n f) where
     range_end_law : (e : RangeEnd N) → flat_range_end flat_n (move_range_end g f e) ≡ map (shift g) (flat_range_end flat_n e)
@@ -169,7 +172,7 @@ module _ (g : Move) where
 
   signature : IsMoved flat_signature (move_signature g)
   signature = seen_moved flat_signature (move_signature g) (λ s. (s.keyword, (s.name, (s.input, (s.returns, s.output))))) (λ s. refl) (λ s. refl)
-      (then_moved (the class.Rpc) (then_moved (tok want.Word) (then_moved method_type (then_moved (the class.Returns) method_type))))
+      (then_moved (the class.Rpc) (then_moved (tok want.Name) (then_moved method_type (then_moved (the class.Returns) method_type))))
 
   statement_law : (s : Statement) → flat_statement (move_statement g s) ≡ map (shift g) (flat_statement s)
   statement_law (statement.Syntax s) = syntax_statement.law s

@@ -274,7 +274,7 @@ opening flat_h i text calm fit =
 
 heading_calm : (c : Class) → apart (fits (want.One c)) is_brace ≡ true → (h : Heading) (t : List Lexeme) → Fit (flat_heading c h) t → Calm is_brace t
 heading_calm c e h t fit =
-    let rule : IsExact is_brace true (fits (want.One c)) never (λ x. one c x.0 ++ mark want.Word x.1 ∷ []) (token (want.One c) then token want.Word) = next (tok (want.One c) e) (tok want.Word refl) refl in
+    let rule : IsExact is_brace true (fits (want.One c)) never (λ x. one c x.0 ++ mark want.Name x.1 ∷ []) (token (want.One c) then token want.Name) = next (tok (want.One c) e) (tok want.Name refl) refl in
     rule.calm (h.keyword, h.name) t fit
 
 -- ---- the readers
@@ -287,7 +287,7 @@ close_on = made_on is_close piece.Close (quiet (want.One class.Close)) (λ x. re
 
 heading-exact : (c : Class) → IsExact never true (fits (want.One c)) never (λ x. flat_heading c x.0 ++ one class.Open x.1) (heading_at c)
 heading-exact c = renamed (λ x. flat_heading c x.0 ++ one class.Open x.1) (λ x. (record { keyword = x.0; name = x.1.0 }, x.1.1)) (λ x. (x.0.keyword, (x.0.name, x.1))) (λ x. refl)
-    (token_then (quiet (want.One c)) (token_then (quiet want.Word) (quiet (want.One class.Open))))
+    (token_then (quiet (want.One c)) (token_then (quiet want.Name) (quiet (want.One class.Open))))
 
 opened_on : (c : Class) (make : Heading → Header) (P : Piece → Bool) → apart (fits (want.One c)) is_brace ≡ true → ((h : Heading) → flat_heading c h ≡ flat_header (make h)) → ((h : Heading) (i : ℕ) → P (piece.Open (make h) i) ≡ true)
     → ((u : Piece) → P u ≡ true → (x : Heading × ℕ) × (piece.Open (make x.0) x.1 ≡ u)) → IsOn P (fits (want.One c)) (opened make c)

@@ -17,8 +17,8 @@ use Rattle.proto_tree.specs.declared.tree.ReservedList.{ReservedList}
 use Rattle.proto_tree.specs.declared.tree.ReservedList.TheVariants as reserved_list
 use Rattle.proto_tree.specs.declared.tree.Settings.{Settings}
 use Rattle.proto_tree.specs.Classes.{fits, is_brace}
-use Rattle.proto_tree.specs.Flat.{Mark, one, word, text, flat_from, flat_dotted, flat_reference, flat_type, flat_number, flat_signed, flat_joined, flat_constant, flat_setting, flat_settings, flat_option, flat_option_statement, flat_syntax, flat_import, flat_package, flat_field, flat_map_field, flat_range_end, flat_up_to, flat_range, flat_ranges, flat_reserved_list, flat_reserved, flat_extensions, flat_value, flat_method_type, flat_signature}
-use Rattle.proto_tree.specs.Reading.{Reader, ◌then◌, made, token, either, dotted_at, named_at, reference_at, type_at, signed_at, joined_at, constant_at, setting_at, settings_at, option_at, syntax_at, import_at, package_at, field_at, map_field_at, range_end_at, up_to_at, range_at, ranges_at, reserved_list_at, reserved_at, extensions_at, value_at, method_type_at, signature_at, maybe_settings, numbered_at}
+use Rattle.proto_tree.specs.Flat.{Mark, only, one, word, name, text, flat_from, flat_separated, flat_dotted, flat_reference, flat_type, flat_number, flat_signed, flat_joined, flat_constant, flat_setting, flat_settings, flat_option, flat_option_statement, flat_syntax, flat_import, flat_package, flat_field, flat_map_field, flat_range_end, flat_up_to, flat_range, flat_ranges, flat_reserved_list, flat_reserved, flat_extensions, flat_value, flat_method_type, flat_signature}
+use Rattle.proto_tree.specs.Reading.{Reader, ◌then◌, made, token, either, dotted_at, named_at, package_name_at, reference_at, type_at, signed_at, joined_at, constant_at, setting_at, settings_at, option_at, syntax_at, import_at, package_at, field_at, map_field_at, range_end_at, up_to_at, range_at, ranges_at, reserved_list_at, reserved_at, extensions_at, value_at, method_type_at, signature_at, maybe_settings, numbered_at}
 use Rattle.proto_tree.proofs.Exact.{IsExact, never, any_of, next, or_next, token_then, renamed, one_of, if_any, all, tok, apart, IsMade, Left, Right, after_token, from-exact, separated-exact, made_either}
 
 abbrev is : Class → Class → Bool
@@ -29,6 +29,15 @@ the c e = tok (want.One c) e
 
 a_word : IsExact is_brace true (fits want.Word) never word (token want.Word)
 a_word = tok want.Word refl
+
+a_name : IsExact is_brace true (fits want.Name) never name (token want.Name)
+a_name = tok want.Name refl
+
+an_option_name : IsExact is_brace true (fits want.OptionName) never (only want.OptionName) (token want.OptionName)
+an_option_name = tok want.OptionName refl
+
+a_constant : IsExact is_brace true (fits want.Constant) never (only want.Constant) (token want.Constant)
+a_constant = tok want.Constant refl
 
 a_text : IsExact is_brace true (fits want.Text) never text (token want.Text)
 a_text = tok want.Text refl
@@ -43,6 +52,9 @@ dots = any_of (is class.Dot) never
 
 dotted-exact : IsExact is_brace true (fits want.Word) dots flat_dotted dotted_at
 dotted-exact = separated-exact class.Dot refl refl a_word
+
+package_name-exact : IsExact is_brace true (fits want.Name) dots (flat_separated class.Dot name) package_name_at
+package_name-exact = separated-exact class.Dot refl refl a_name
 
 named-exact : IsExact is_brace true (is class.Name) dots (flat_from class.Dot (one class.Name) word) named_at
 named-exact = from-exact class.Dot refl (the class.Name refl) a_word refl (after_token false (is class.Dot) dots)
@@ -114,7 +126,7 @@ constant_made (constant.Text t) = Right (inl t)
 constant_made (constant.Number n) = Right (inr n)
 
 abbrev pub starts_constant : Class → Bool
-starts_constant = any_of (fits want.Word) (any_of (fits want.Text) starts_signed)
+starts_constant = any_of (fits want.Constant) (any_of (fits want.Text) starts_signed)
 
 abbrev pub after_constant : Class → Bool
 after_constant = any_of never (any_of more_text never)
@@ -125,12 +137,12 @@ text_or_number-exact = one_of want.Text flat_either inl inr sum_made joined-exac
 constant-exact : IsExact is_brace true starts_constant after_constant flat_constant constant_at
 unfolding constant_at
 constant-exact =
-    subst (λ r. IsExact is_brace true starts_constant after_constant flat_constant (either want.Word (made constant.Word (token want.Word)) r)) (made_either text_or_number inl inr want.Text joined_at signed_at)
-    (one_of want.Word flat_constant constant.Word text_or_number constant_made a_word text_or_number-exact refl refl)
+    subst (λ r. IsExact is_brace true starts_constant after_constant flat_constant (either want.Constant (made constant.Word (token want.Constant)) r)) (made_either text_or_number inl inr want.Text joined_at signed_at)
+    (one_of want.Constant flat_constant constant.Word text_or_number constant_made a_constant text_or_number-exact refl refl)
 
-setting-exact : IsExact is_brace true (fits want.Word) after_constant flat_setting setting_at
+setting-exact : IsExact is_brace true (fits want.OptionName) after_constant flat_setting setting_at
 unfolding setting_at
-setting-exact = renamed flat_setting (λ x. record { name = x.0; equals = x.1.0; value = x.1.1 }) (λ s. (s.name, (s.equals, s.value))) (λ s. refl) (token_then a_word (token_then (the class.Equals refl) constant-exact))
+setting-exact = renamed flat_setting (λ x. record { name = x.0; equals = x.1.0; value = x.1.1 }) (λ s. (s.name, (s.equals, s.value))) (λ s. refl) (token_then an_option_name (token_then (the class.Equals refl) constant-exact))
 
 settings-exact : IsExact is_brace true (is class.LeftBracket) never flat_settings settings_at
 unfolding settings_at
@@ -141,7 +153,7 @@ pub option-exact : IsExact is_brace true (is class.Option) never flat_option_sta
 unfolding option_at
 option-exact = renamed flat_option_statement
     (λ x. record { keyword = x.0; name = x.1.0; equals = x.1.1.0; value = x.1.1.1.0; semicolon = x.1.1.1.1 }) (λ o. (o.keyword, (o.name, (o.equals, (o.value, o.semicolon))))) (λ o. refl)
-    (token_then (the class.Option refl) (token_then a_word (token_then (the class.Equals refl) (next constant-exact the_semicolon refl))))
+    (token_then (the class.Option refl) (token_then an_option_name (token_then (the class.Equals refl) (next constant-exact the_semicolon refl))))
 
 -- ---- statements of a file
 
@@ -161,7 +173,7 @@ pub package-exact : IsExact is_brace true (is class.Package) never flat_package 
 unfolding package_at
 package-exact = renamed flat_package
     (λ x. record { keyword = x.0; name = x.1.0; semicolon = x.1.1 }) (λ f. (f.keyword, (f.name, f.semicolon))) (λ f. refl)
-    (token_then (the class.Package refl) (next dotted-exact the_semicolon refl))
+    (token_then (the class.Package refl) (next package_name-exact the_semicolon refl))
 
 -- ---- statements of a message
 
@@ -175,10 +187,10 @@ ended-exact : IsExact is_brace true starts_ended never flat_ended (maybe_setting
 ended-exact = or_next (if_any (want.One class.LeftBracket) settings-exact refl) the_semicolon refl
 
 abbrev flat_numbered : ℕ × (ℕ × (ℕ × (Option Settings × ℕ))) → List Mark
-flat_numbered x = word x.0 ++ (one class.Equals x.1.0 ++ (one class.Number x.1.1.0 ++ flat_ended x.1.1.1))
+flat_numbered x = name x.0 ++ (one class.Equals x.1.0 ++ (one class.Number x.1.1.0 ++ flat_ended x.1.1.1))
 
-numbered-exact : IsExact is_brace true (fits want.Word) never flat_numbered numbered_at
-numbered-exact = token_then a_word (token_then (the class.Equals refl) (token_then a_number ended-exact))
+numbered-exact : IsExact is_brace true (fits want.Name) never flat_numbered numbered_at
+numbered-exact = token_then a_name (token_then (the class.Equals refl) (token_then a_number ended-exact))
 
 abbrev pub starts_field : Class → Bool
 starts_field = any_of (fits want.Label) starts_type
@@ -272,4 +284,4 @@ pub signature-exact : IsExact is_brace true (is class.Rpc) never flat_signature 
 unfolding signature_at
 signature-exact = renamed flat_signature
     (λ x. record { keyword = x.0; name = x.1.0; input = x.1.1.0; returns = x.1.1.1.0; output = x.1.1.1.1 }) (λ s. (s.keyword, (s.name, (s.input, (s.returns, s.output))))) (λ s. refl)
-    (token_then (the class.Rpc refl) (token_then a_word (token_then method_type-exact (token_then (the class.Returns refl) method_type-exact))))
+    (token_then (the class.Rpc refl) (token_then a_name (token_then method_type-exact (token_then (the class.Returns refl) method_type-exact))))

@@ -102,6 +102,9 @@ one_word w c d e f h =
 pub place_of_word : (w : Want) (c d : Class) → fits w c ≡ true → fits w d ≡ true → is_word c ≡ true → is_word d ≡ true
 place_of_word (want.One x) c d e f h = one_word x c d e f h
 place_of_word want.Word c d e f h = f
+place_of_word want.Name c d e f h = f
+place_of_word want.OptionName c d e f h = f
+place_of_word want.Constant c d e f h = f
 place_of_word want.ValueName c d e f h = value_is_word d f
 place_of_word want.Label c d e f h = label_is_word d f
 place_of_word want.Text c d e f h = absurd (text_no_word c e h)

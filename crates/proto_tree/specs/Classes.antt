@@ -90,6 +90,9 @@ is_text _ = false
 abbrev pub fits : Want → Class → Bool
 fits (want.One wanted) c = code wanted == code c
 fits want.Word c = is_word c
+fits want.Name c = is_word c
+fits want.OptionName c = is_word c
+fits want.Constant c = is_word c
 fits want.ValueName c = is_value_name c
 fits want.Label c = is_label c
 fits want.Text c = is_text c

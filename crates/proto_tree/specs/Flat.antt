@@ -58,6 +58,9 @@ one c i = only (want.One c) i
 abbrev pub word : ℕ → List Mark
 word i = only want.Word i
 
+abbrev pub name : ℕ → List Mark
+name i = only want.Name i
+
 abbrev pub text : ℕ → List Mark
 text i = only want.Text i
 
@@ -117,18 +120,18 @@ abbrev pub flat_joined : Joined → List Mark
 flat_joined t = text t.first ++ flat_all text t.rest
 
 abbrev pub flat_constant : Constant → List Mark
-flat_constant (constant.Word i) = word i
+flat_constant (constant.Word i) = only want.Constant i
 flat_constant (constant.Number n) = flat_signed n
 flat_constant (constant.Text t) = flat_joined t
 
 abbrev pub flat_setting : Setting → List Mark
-flat_setting s = word s.name ++ (one class.Equals s.equals ++ flat_constant s.value)
+flat_setting s = only want.OptionName s.name ++ (one class.Equals s.equals ++ flat_constant s.value)
 
 abbrev pub flat_settings : Settings → List Mark
 flat_settings s = one class.LeftBracket s.open ++ (flat_separated class.Comma flat_setting s.list ++ one class.RightBracket s.close)
 
 abbrev pub flat_option_statement : Option_ → List Mark
-flat_option_statement o = one class.Option o.keyword ++ (word o.name ++ (one class.Equals o.equals ++ (flat_constant o.value ++ one class.Semicolon o.semicolon)))
+flat_option_statement o = one class.Option o.keyword ++ (only want.OptionName o.name ++ (one class.Equals o.equals ++ (flat_constant o.value ++ one class.Semicolon o.semicolon)))
 
 -- ---- statements of a file
 
@@ -139,20 +142,20 @@ abbrev pub flat_import : Import → List Mark
 flat_import i = one class.Import i.keyword ++ (flat_option (one class.Public) i.public ++ (text i.path ++ one class.Semicolon i.semicolon))
 
 abbrev pub flat_package : Package → List Mark
-flat_package p = one class.Package p.keyword ++ (flat_dotted p.name ++ one class.Semicolon p.semicolon)
+flat_package p = one class.Package p.keyword ++ (flat_separated class.Dot name p.name ++ one class.Semicolon p.semicolon)
 
 -- ---- statements of a message
 
 abbrev pub flat_field : Field → List Mark
 flat_field f =
     flat_option (only want.Label) f.label
-    ++ (flat_type f.kind ++ (word f.name ++ (one class.Equals f.equals ++ (one class.Number f.number ++ (flat_option flat_settings f.settings ++ one class.Semicolon f.semicolon)))))
+    ++ (flat_type f.kind ++ (name f.name ++ (one class.Equals f.equals ++ (one class.Number f.number ++ (flat_option flat_settings f.settings ++ one class.Semicolon f.semicolon)))))
 
 abbrev pub flat_map_field : MapField → List Mark
 flat_map_field f =
     one class.Map f.keyword
     ++ (one class.Less f.open ++ (one class.Scalar f.key ++ (one class.Comma f.comma ++ (flat_type f.value ++ (one class.Greater f.close
-    ++ (word f.name ++ (one class.Equals f.equals ++ (one class.Number f.number ++ (flat_option flat_settings f.settings ++ one class.Semicolon f.semicolon)))))))))
+    ++ (name f.name ++ (one class.Equals f.equals ++ (one class.Number f.number ++ (flat_option flat_settings f.settings ++ one class.Semicolon f.semicolon)))))))))
 
 abbrev pub flat_range_end : {N : Type 0} → (N → List Mark) → RangeEnd N → List Mark
 flat_range_end flat (range_end.Number n) = flat n
@@ -187,7 +190,7 @@ abbrev pub flat_method_type : MethodType → List Mark
 flat_method_type t = one class.LeftParenthesis t.open ++ (flat_option (one class.Stream) t.stream ++ (flat_reference t.reference ++ one class.RightParenthesis t.close))
 
 abbrev pub flat_signature : Signature → List Mark
-flat_signature s = one class.Rpc s.keyword ++ (word s.name ++ (flat_method_type s.input ++ (one class.Returns s.returns ++ flat_method_type s.output)))
+flat_signature s = one class.Rpc s.keyword ++ (name s.name ++ (flat_method_type s.input ++ (one class.Returns s.returns ++ flat_method_type s.output)))
 
 -- ---- pieces
 
@@ -206,7 +209,7 @@ flat_statement (statement.Method s i) = flat_signature s ++ one class.Semicolon 
 flat_statement (statement.Empty i) = one class.Semicolon i
 
 abbrev pub flat_heading : Class → Heading → List Mark
-flat_heading c h = one c h.keyword ++ word h.name
+flat_heading c h = one c h.keyword ++ name h.name
 
 abbrev pub flat_header : Header → List Mark
 flat_header (header.Message h) = flat_heading class.Message h

@@ -1,5 +1,5 @@
 -- Laws of trees, for the layers above.
-use Rattle.std.specs.Prelude.{◌≡◌, ℕ, suc, ◌<◌, true, List, [], ◌∷◌, ◌⊎◌, length, get_or, Option, Some}
+use Rattle.std.specs.Prelude.{◌≡◌, ℕ, suc, ◌<◌, true, List, [], ◌∷◌, ◌⊎◌, length, get_or, Option, Some, is_some}
 use Rattle.std.specs.List.{Contains}
 use Rattle.proto_text.specs.declared.class.Class.TheVariants.{Letter}
 use Rattle.proto_text.specs.declared.kind.TokenKind.{TokenKind}
@@ -8,15 +8,17 @@ use Rattle.proto_text.specs.declared.lexer.Token.{Token}
 use Rattle.proto_text.specs.Pieces.{IsRun}
 use Rattle.proto_text.specs.Texts.{changed, AreWords, IsReworded}
 use Rattle.proto_text.specs.Tokens.{Lexeme}
+use Rattle.proto_tree.specs.declared.tree.Reference.{Reference}
 use Rattle.proto_tree.specs.declared.piece.Statement.{Statement}
 use Rattle.proto_tree.specs.declared.piece.Header.{Header}
 use Rattle.proto_tree.specs.declared.parsing.ParseFault.{ParseFault}
 use Rattle.proto_tree.specs.Classes.{is_word, fits}
-use Rattle.proto_tree.specs.Flat.{Mark, flat_statement, flat_header}
+use Rattle.proto_tree.specs.Flat.{Mark, flat_reference, flat_statement, flat_header}
 use Rattle.proto_tree.specs.Tree.{Tree, End, Leaf, Block, flat, Spells}
 use Rattle.proto_tree.specs.Place.{IsShallow}
 use Rattle.proto_tree.specs.Words.{class_by, classes}
 use Rattle.proto_tree.specs.Reads.{Reads, IsFault}
+use Rattle.proto_tree.specs.References.{dotted, first_of, word_token}
 
 -- ---- one tree, or one fault
 
@@ -79,6 +81,11 @@ MarksFit = (t : Tree) (ls : List Lexeme) (m : Mark) (other : Lexeme) → Spells 
 -- Each token has its mark.
 abbrev pub EachTokenIsMarked : Type 0
 EachTokenIsMarked = (t : Tree) (ls : List Lexeme) (i : ℕ) → Spells t (classes 0 ls) → i < length ls → (m : Mark) × Contains (flat t) m × (m.at ≡ i)
+
+-- A reference from a token on begins there, and each of its words stands at the token of its number.
+abbrev pub WordsStandApart : Type 0
+WordsStandApart = (r : Reference) (first : ℕ) → Numbered first (flat_reference r)
+    → (first_of r.dot r.words ≡ first) × ((number other : ℕ) → number < length (dotted r.words) → get_or (dotted r.words) number other ≡ word_token first (is_some r.dot) number)
 
 -- the statement stands in the tree, at any depth
 abbrev pub HasStatement : Statement → Tree → Type 0

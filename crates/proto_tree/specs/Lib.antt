@@ -9,6 +9,7 @@ pub mod Reading
 pub mod Reads
 pub mod References
 pub mod Replaced
+pub mod Roles
 pub mod Tree
 pub mod Walk
 pub mod Words

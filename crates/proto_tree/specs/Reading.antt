@@ -120,6 +120,9 @@ separated_at c p = from_at c p p
 abbrev pub dotted_at : Reader (Separated ℕ)
 dotted_at = separated_at class.Dot (token want.Word)
 
+abbrev pub package_name_at : Reader (Separated ℕ)
+package_name_at = separated_at class.Dot (token want.Name)
+
 abbrev pub named_at : Reader (Separated ℕ)
 named_at = from_at class.Dot (one_token class.Name) (token want.Word)
 
@@ -140,11 +143,11 @@ unfoldable pub joined_at : Reader Joined
 joined_at = made (λ x. record { first = x.0; rest = x.1 }) (token want.Text then many want.Text (token want.Text))
 
 unfoldable pub constant_at : Reader Constant
-constant_at = either want.Word (made constant.Word (token want.Word))
+constant_at = either want.Constant (made constant.Word (token want.Constant))
     (either want.Text (made constant.Text joined_at) (made constant.Number signed_at))
 
 unfoldable pub setting_at : Reader Setting
-setting_at = made (λ x. record { name = x.0; equals = x.1.0; value = x.1.1 }) (token want.Word then one_token class.Equals then constant_at)
+setting_at = made (λ x. record { name = x.0; equals = x.1.0; value = x.1.1 }) (token want.OptionName then one_token class.Equals then constant_at)
 
 unfoldable pub settings_at : Reader Settings
 settings_at = made (λ x. record { «open» = x.0; list = x.1.0; close = x.1.1 })
@@ -155,7 +158,7 @@ maybe_settings = maybe (want.One class.LeftBracket) settings_at
 
 unfoldable pub option_at : Reader Option_
 option_at = made (λ x. record { keyword = x.0; name = x.1.0; equals = x.1.1.0; value = x.1.1.1.0; semicolon = x.1.1.1.1 })
-    (one_token class.Option then token want.Word then one_token class.Equals then constant_at then one_token class.Semicolon)
+    (one_token class.Option then token want.OptionName then one_token class.Equals then constant_at then one_token class.Semicolon)
 
 -- ---- statements of a file
 
@@ -169,18 +172,18 @@ import_at = made (λ x. record { keyword = x.0; public = x.1.0; path = x.1.1.0; 
 
 unfoldable pub package_at : Reader Package
 package_at = made (λ x. record { keyword = x.0; name = x.1.0; semicolon = x.1.1 })
-    (one_token class.Package then dotted_at then one_token class.Semicolon)
+    (one_token class.Package then package_name_at then one_token class.Semicolon)
 
 -- ---- statements of a message
 
 unfoldable pub field_at : Reader Field
 field_at = made
     (λ x. record { label = x.0; kind = x.1.0; name = x.1.1.0; equals = x.1.1.1.0; number = x.1.1.1.1.0; settings = x.1.1.1.1.1.0; semicolon = x.1.1.1.1.1.1 })
-    (maybe_token want.Label then type_at then token want.Word then one_token class.Equals then one_token class.Number then maybe_settings then one_token class.Semicolon)
+    (maybe_token want.Label then type_at then token want.Name then one_token class.Equals then one_token class.Number then maybe_settings then one_token class.Semicolon)
 
 -- the name, the number and the settings of a map field
 abbrev pub numbered_at : Reader (ℕ × (ℕ × (ℕ × (Option Settings × ℕ))))
-numbered_at = token want.Word then one_token class.Equals then one_token class.Number then maybe_settings then one_token class.Semicolon
+numbered_at = token want.Name then one_token class.Equals then one_token class.Number then maybe_settings then one_token class.Semicolon
 
 unfoldable pub map_field_at : Reader MapField
 map_field_at = made
@@ -234,7 +237,7 @@ method_type_at = made (λ x. record { «open» = x.0; stream = x.1.0; reference 
 
 unfoldable pub signature_at : Reader Signature
 signature_at = made (λ x. record { keyword = x.0; name = x.1.0; input = x.1.1.0; returns = x.1.1.1.0; output = x.1.1.1.1 })
-    (one_token class.Rpc then token want.Word then method_type_at then one_token class.Returns then method_type_at)
+    (one_token class.Rpc then token want.Name then method_type_at then one_token class.Returns then method_type_at)
 
 unfoldable pub ending_at : Reader Ending
 ending_at = either (want.One class.Semicolon) (made ending.Semicolon (one_token class.Semicolon)) (made ending.Open (one_token class.Open))
@@ -250,7 +253,7 @@ method_at = made (λ x. method_piece x.0 x.1) (signature_at then ending_at)
 
 -- a keyword, a name and a brace
 abbrev pub heading_at : Class → Reader (Heading × ℕ)
-heading_at c = made (λ x. (record { keyword = x.0; name = x.1.0 }, x.1.1)) (one_token c then token want.Word then one_token class.Open)
+heading_at c = made (λ x. (record { keyword = x.0; name = x.1.0 }, x.1.1)) (one_token c then token want.Name then one_token class.Open)
 
 abbrev pub opened : (Heading → Header) → Class → Reader Piece
 opened make c = made (λ x. piece.Open (make x.0) x.1) (heading_at c)

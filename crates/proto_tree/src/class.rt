@@ -64,7 +64,14 @@ pub struct Lexeme {
 #[derive(Clone, Copy)]
 pub enum Want {
     One(Class),
+    /// A word of a reference.
     Word,
+    /// A word that names what is declared.
+    Name,
+    /// A word that names an option.
+    OptionName,
+    /// A word that is an option's value.
+    Constant,
     /// A word that may name an enum value.
     ValueName,
     Label,
@@ -120,7 +127,7 @@ impl Want {
     {
         match self {
             Want::One(wanted) => wanted as u8 == class as u8,
-            Want::Word => class.is_word(),
+            Want::Word | Want::Name | Want::OptionName | Want::Constant => class.is_word(),
             Want::ValueName => class.is_value_name(),
             Want::Label => class.is_label(),
             Want::Text => class.is_text(),

@@ -1,7 +1,8 @@
 //! Laws of trees, for the layers above. None of these does anything.
 
-ghost use Rattle.proto_tree.specs.Laws.{OneTree, OneFault, NoFaultWithTree, WordsKeepTrees, WordsComeForWords, EditsKeepTrees, TreesAreNumbered, OneMark, MarksFit, EachTokenIsMarked, StatementsHaveMarks, HeadersHaveMarks, WordsHaveWordClasses};
+ghost use Rattle.proto_tree.specs.Laws.{OneTree, OneFault, NoFaultWithTree, WordsKeepTrees, WordsComeForWords, EditsKeepTrees, TreesAreNumbered, OneMark, MarksFit, EachTokenIsMarked, WordsStandApart, StatementsHaveMarks, HeadersHaveMarks, WordsHaveWordClasses};
 ghost use Rattle.proto_tree.specs.Replaced.{StatementsAreReplaced};
+ghost use Rattle.proto_tree.specs.Roles.{RolesAreOfTokens, RolesAreOne, TokensHaveRoles};
 
 /// A file has one tree at most, or one fault, and not both.
 pub fn trees_are_one()
@@ -23,6 +24,18 @@ pub fn places_are_numbered()
     ensures one { OneMark }
     ensures fit { MarksFit }
     ensures each { EachTokenIsMarked }
+{}
+
+/// Each token has one role: it names what is declared, is a word of a reference, names an option, or what else there is.
+pub fn tokens_have_one_role()
+    ensures there { RolesAreOfTokens }
+    ensures each { TokensHaveRoles }
+    ensures one { RolesAreOne }
+{}
+
+/// A reference's words stand a dot apart.
+pub fn words_stand_apart()
+    ensures { WordsStandApart }
 {}
 
 /// The places of a statement or of a block's beginning are places of the tree.

@@ -34,7 +34,7 @@ fn signature(alloc: Global, rest: &[Lexeme]) -> Result<(Signature, &[Lexeme]), S
     ensures { Gives (λ x. (x.0, x.1.now)) result (signature_at rest.now) }
 {
     let (keyword, rest) = one(rest, Class::Rpc)?;
-    let (name, rest) = take(rest, Want::Word)?;
+    let (name, rest) = take(rest, Want::Name)?;
     let (input, rest) = method_type(alloc, rest)?;
     let (returns, rest) = one(rest, Class::Returns)?;
     let (output, rest) = method_type(alloc, rest)?;

@@ -1,7 +1,7 @@
 //! Reading names and types.
 
 ghost use Rattle.std.specs.Prelude.{◌≡◌};
-ghost use Rattle.proto_tree.specs.Reading.{Gives, dotted_at, named_at, reference_at, type_at};
+ghost use Rattle.proto_tree.specs.Reading.{Gives, dotted_at, named_at, package_name_at, reference_at, type_at};
 
 use crate::class::{Class, Lexeme, Want};
 use crate::reading::{Stop, one, separated, starts};
@@ -12,6 +12,13 @@ pub fn dotted(alloc: Global, rest: &[Lexeme]) -> Result<(Dotted, &[Lexeme]), Sto
     ensures { Gives (λ x. (x.0, x.1.now)) result (dotted_at rest.now) }
 {
     separated(alloc, rest, Class::Dot, Want::Word, Want::Word)
+}
+
+/// The words that name a package.
+pub fn package_name(alloc: Global, rest: &[Lexeme]) -> Result<(Dotted, &[Lexeme]), Stop>
+    ensures { Gives (λ x. (x.0, x.1.now)) result (package_name_at rest.now) }
+{
+    separated(alloc, rest, Class::Dot, Want::Name, Want::Name)
 }
 
 fn named(alloc: Global, rest: &[Lexeme]) -> Result<(Dotted, &[Lexeme]), Stop>

@@ -47,8 +47,8 @@ fn joined(alloc: Global, rest: &[Lexeme]) -> Result<(Joined, &[Lexeme]), Stop>
 fn constant(alloc: Global, rest: &[Lexeme]) -> Result<(Constant, &[Lexeme]), Stop>
     ensures { Gives (λ x. (x.0, x.1.now)) result (constant_at rest.now) }
 {
-    if starts(rest, Want::Word) {
-        let (word, rest) = take(rest, Want::Word)?;
+    if starts(rest, Want::Constant) {
+        let (word, rest) = take(rest, Want::Constant)?;
         return Ok((Constant::Word(word), rest));
     }
     if starts(rest, Want::Text) {
@@ -63,7 +63,7 @@ fn constant(alloc: Global, rest: &[Lexeme]) -> Result<(Constant, &[Lexeme]), Sto
 fn setting(alloc: Global, rest: &[Lexeme]) -> Result<(Setting, &[Lexeme]), Stop>
     ensures { Gives (λ x. (x.0, x.1.now)) result (setting_at rest.now) }
 {
-    let (name, rest) = take(rest, Want::Word)?;
+    let (name, rest) = take(rest, Want::OptionName)?;
     let (equals, rest) = one(rest, Class::Equals)?;
     let (value, rest) = constant(alloc, rest)?;
     Ok((
@@ -139,7 +139,7 @@ pub fn option_statement(alloc: Global, rest: &[Lexeme]) -> Result<(Option_, &[Le
     ensures { Gives (λ x. (x.0, x.1.now)) result (option_at rest.now) }
 {
     let (keyword, rest) = one(rest, Class::Option)?;
-    let (name, rest) = take(rest, Want::Word)?;
+    let (name, rest) = take(rest, Want::OptionName)?;
     let (equals, rest) = one(rest, Class::Equals)?;
     let (value, rest) = constant(alloc, rest)?;
     let (semicolon, rest) = one(rest, Class::Semicolon)?;

@@ -19,7 +19,7 @@ fn heading(rest: &[Lexeme], class: Class) -> Result<((Heading, u32), &[Lexeme]),
     ensures { Gives (λ x. (x.0, x.1.now)) result (heading_at class rest.now) }
 {
     let (keyword, rest) = one(rest, class)?;
-    let (name, rest) = take(rest, Want::Word)?;
+    let (name, rest) = take(rest, Want::Name)?;
     let (open, rest) = one(rest, Class::Open)?;
     Ok(((Heading { keyword, name }, open), rest))
 }

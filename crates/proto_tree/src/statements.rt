@@ -4,7 +4,7 @@ ghost use Rattle.std.specs.Prelude.{◌≡◌};
 ghost use Rattle.proto_tree.specs.Reading.{Gives, syntax_at, import_at, package_at, field_at, map_field_at, value_at};
 
 use crate::class::{Class, Lexeme, Want};
-use crate::names::{dotted, field_type};
+use crate::names::{field_type, package_name};
 use crate::options::{settings, signed};
 use crate::reading::{Stop, one, option, take};
 use crate::tree::{Field, Import, MapField, Package, Syntax, Value};
@@ -53,7 +53,7 @@ pub fn package(alloc: Global, rest: &[Lexeme]) -> Result<(Package, &[Lexeme]), S
     ensures { Gives (λ x. (x.0, x.1.now)) result (package_at rest.now) }
 {
     let (keyword, rest) = one(rest, Class::Package)?;
-    let (name, rest) = dotted(alloc, rest)?;
+    let (name, rest) = package_name(alloc, rest)?;
     let (semicolon, rest) = one(rest, Class::Semicolon)?;
     Ok((
         Package {
@@ -71,7 +71,7 @@ pub fn field(alloc: Global, rest: &[Lexeme]) -> Result<(Field, &[Lexeme]), Stop>
 {
     let (label, rest) = option(rest, Want::Label)?;
     let (kind, rest) = field_type(alloc, rest)?;
-    let (name, rest) = take(rest, Want::Word)?;
+    let (name, rest) = take(rest, Want::Name)?;
     let (equals, rest) = one(rest, Class::Equals)?;
     let (number, rest) = one(rest, Class::Number)?;
     let (settings, rest) = settings(alloc, rest)?;
@@ -100,7 +100,7 @@ pub fn map_field(alloc: Global, rest: &[Lexeme]) -> Result<(MapField, &[Lexeme])
     let (comma, rest) = one(rest, Class::Comma)?;
     let (value, rest) = field_type(alloc, rest)?;
     let (close, rest) = one(rest, Class::Greater)?;
-    let (name, rest) = take(rest, Want::Word)?;
+    let (name, rest) = take(rest, Want::Name)?;
     let (equals, rest) = one(rest, Class::Equals)?;
     let (number, rest) = one(rest, Class::Number)?;
     let (settings, rest) = settings(alloc, rest)?;

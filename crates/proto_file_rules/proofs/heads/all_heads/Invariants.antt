@@ -1,7 +1,10 @@
-use Rattle.std.proofs.Common.{◌≡◌, List, take}
+use Rattle.std.proofs.Common.{◌≡◌, List, length, take}
 use Rattle.proto_files.specs.FilesRead.{ReadOf, AreRead}
 use Rattle.proto_file_rules.specs.Heads.{heads}
 use Rattle.proto_file_rules.proofs.heads.all_heads.Given as goal
 
 abbrev pub invariant-loop-file : goal.invariant-loop-file
-invariant-loop-file l = (reads : List ReadOf) → AreRead l.files reads → l.all.items ≡ take l.file (heads l.files reads)
+invariant-loop-file l = record {
+  len : length l.all.items ≡ l.file;
+  heads : (reads : List ReadOf) → AreRead l.files reads → l.all.items ≡ take l.file (heads l.files reads);
+}

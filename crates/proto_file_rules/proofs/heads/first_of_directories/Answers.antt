@@ -1,7 +1,14 @@
-use Rattle.std.proofs.Common.{List, ℕ, map, ◌∙◌, ap, subst, arith, take_all, IfOk}
+use Rattle.std.proofs.Common.{List, ℕ, length, map, ◌∙◌, ap, subst, arith, take_all, IfOk}
+use Rattle.std.proofs.lemmas.List.{length-map}
 use Rattle.proto_imports.specs.ImportSteps.{IsFileIndex}
 use Rattle.proto_file_rules.specs.Packages.{directory}
 use Rattle.proto_file_rules.proofs.heads.first_of_directories.Goals as goal
+
+pub first_places-requires : goal.first_places-requires
+first_places-requires c =
+    let done = take_all c.loop-head.head-index c.args.heads.now (omega (arith, c.loop-head-test.false)) in
+    let same = ap length (c.loop-head.invariant ∙ ap (map directory) done) in
+    omega (arith, same, ap length c.deref.ensures.value, length-map c.loop-head.directories.items (λ t. t.now), length-map c.args.heads.now directory, c.requires)
 
 pub returns : goal.returns
 returns c =

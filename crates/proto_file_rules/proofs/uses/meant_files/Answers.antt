@@ -1,7 +1,7 @@
 use Rattle.std.proofs.Common.{List, length, ◌∙◌, ap, subst, arith, take_all}
 use Rattle.proto_names.specs.declared.references.Meant.{Meant}
 use Rattle.proto_file_rules.specs.ImportTables.{MarksMeant}
-use Rattle.proto_file_rules.proofs.MarkedWalks.{marks_more, with_mark_length}
+use Rattle.proto_file_rules.proofs.MeantMarks.{marks_more, with_mark_length}
 use Rattle.proto_file_rules.proofs.uses.meant_files.Goals as goal
 
 -- a reference for no place

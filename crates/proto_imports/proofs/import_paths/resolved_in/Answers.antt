@@ -9,8 +9,8 @@ use Rattle.proto_imports.proofs.import_paths.resolved_in.Goals.{in-Some+in_ok-pu
 
 pub loop-import-preserved : goal.loop-import-preserved
 loop-import-preserved c = λ paths index file.
-    (let asked : file_of paths (string_bytes c.import-item.result.path) ≡ c.file_with.result = sym (index (string_bytes c.import-item.result.path)) ∙ ap (get_by_text c.args.index.now) (sym c.as_str.ensures.value) ∙ sym c.file_with.ensures in
-    elim c.match-file_with.branch [
+    (let asked : file_of paths (string_bytes c.import-item.result.path) ≡ c.place_of.result = sym (index (string_bytes c.import-item.result.path)) ∙ ap (get_by_text c.args.index.now) (sym c.as_str.ensures.value) ∙ sym c.place_of.ensures in
+    elim c.match-place_of.branch [
       | in-Some+in_ok-push w ↦
           let new : FileImport = record { to = w.in-Some.to; is_public = c.import-item.result.is_public } in
           ap (λ v. map (import_from file) v.items) w.imports-is ∙ ap (map (import_from file)) w.in_ok-push.ensures.items

@@ -1,10 +1,8 @@
-use Rattle.std.proofs.Common.{◌≡◌, ℕ, ◌<◌, List, [], ◌∷◌, length, length-append, map, sym, ◌∙◌, ap, subst, arith}
-use Rattle.proto_text.specs.Tokens.{Lexeme, lexeme_at}
+use Rattle.std.proofs.Common.{◌≡◌, ℕ, ◌<◌, [], ◌∷◌, length, length-append, ap, arith}
 use Rattle.proto_tree.specs.File.{tree_of_file}
 use Rattle.proto_files.proofs.FilesAreRead.{each_pushed}
 use Rattle.proto_meaning.specs.Grown.{at}
-use Rattle.proto_parts.specs.Parts.{blocks_in}
-use Rattle.proto_scenes.specs.Enums.{AreEnumsOf, row_at}
+use Rattle.proto_scenes.specs.Enums.{row_at}
 use Rattle.proto_scenes.specs.SceneOf.{enum_at}
 use Rattle.proto_scenes.proofs.EnumRows.{is_enum_table}
 use Rattle.proto_scenes.proofs.ReadScenes.{rows_are}
@@ -18,13 +16,11 @@ loop-file-preserved c =
     let tree = tree_of_file c.tree-tree.result.now in
     let proto3 = c.is_proto3-is_proto3.result in
     let rows = c.in_ok-file_enums.field-0 in
-    let own = subst (λ (ls : List Lexeme). AreEnumsOf ls proto3 (blocks_in tree) rows)
-    (c.new-words.ensures.words c.tokens-tokens.result.now c.tokens-tokens.ensures.tokens ∙ ap (λ (s : List ℕ). map (lexeme_at s) c.tokens-tokens.result.now) (sym c.source-source.ensures)) c.in_ok-file_enums.ensures in
     record {
       len = omega (arith, ap length c.in_ok-push.ensures.items, length-append c.loop-file.table.items (rows ∷ []), c.loop-file.invariant.len);
       each = λ reads are.
           each_pushed (λ k m. (token : ℕ) → row_at m token ≡ enum_at files reads (at k token)) c.loop-file.table.items c.push.new.self.items rows file c.in_ok-push.ensures.items c.loop-file.invariant.len (c.loop-file.invariant.each reads are)
-          (rows_are files file l c.source-source.result.now c.source-source.ensures c.tokens-tokens.result.now c.tokens-tokens.ensures.tokens tree c.tree-tree.ensures reads are proto3 c.is_proto3-is_proto3.ensures rows own);
+          (rows_are files file l c.new-words.result c.new-words.ensures.words tree c.tree-tree.ensures reads are proto3 c.is_proto3-is_proto3.ensures rows c.in_ok-file_enums.ensures);
     }
 
 pub returns : goal.returns

@@ -10,5 +10,5 @@ pub returns : goal.returns
 returns c = λ reads are.
     (let files = c.args.files.now in
     let means = c.in_ok-means.ensures.means ∙ means_are files reads c.args.link.now (c.requires.link reads are) (enum_in c.args.table.now) (c.requires.table reads are) c.args.file c.requires.file in
-    scene_is files c.args.file c.requires.file c.source-source.result.now c.source-source.ensures c.tokens-tokens.result.now c.tokens-tokens.ensures.tokens (tree_of_file c.tree.result.now) c.tree.ensures reads are
+    scene_is files c.args.file c.requires.file c.new-words.result c.new-words.ensures.words (tree_of_file c.tree.result.now) c.tree.ensures reads are
     c.is_proto3-is_proto3.result c.is_proto3-is_proto3.ensures (map meant_of c.in_ok-means.means.items) means c.new.result c.new.ensures)

@@ -1,4 +1,4 @@
-use Rattle.std.proofs.Common.{◌≡◌, ◌<◌, List, [], length, get_or, map, sym, ◌∙◌, ap, subst, arith}
+use Rattle.std.proofs.Common.{◌≡◌, ◌<◌, List, [], length, get_or, map, sym, ◌∙◌, subst, arith}
 use Rattle.std.specs.List.{All}
 use Rattle.std.proofs.lemmas.List.{get_or-map, length-map}
 use Rattle.proto_files.specs.GivenFiles.{paths_of}
@@ -18,7 +18,7 @@ returns c =
     let paths = paths_of files in
     let some = length-map files (λ f. f.path) in
     let count : length public ≡ length files = c.in_ok-public.ensures.len in
-    let index : IsFileIndex c.in_ok-index.index paths = subst (IsFileIndex c.in_ok-index.index) (ap (map (λ p. p.now)) c.deref.ensures.value ∙ c.in_ok-paths.ensures) c.in_ok-index.ensures in
+    let index : IsFileIndex c.in_ok-index.index paths = c.in_ok-index.ensures in
     let reads : List ReadOf = c.are_read.ensures.0 in
     record {
       index = index;

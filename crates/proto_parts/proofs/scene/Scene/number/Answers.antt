@@ -10,4 +10,4 @@ use Rattle.proto_parts.proofs.scene.Scene.number.Goals as goal
 pub returns : goal.returns
 returns c =
     let low : c.number_of.result ≤ past = min_bound _ _ _ c.number_of.ensures in
-    to_z_pos w128 c.number_of.result (omega (arith, low)) ∙ ap pos c.number_of.ensures ∙ ap (λ w. pos (min past (number_of w))) c.text_in.ensures ∙ ap (λ (s : Scene). number_at s c.args.token) c.self.view_is
+    to_z_pos w128 c.number_of.result (omega (arith, low)) ∙ ap pos c.number_of.ensures ∙ ap (λ w. pos (min past (number_of w))) c.get.ensures ∙ ap (λ (s : Scene). number_at s c.args.token) c.self.view_is

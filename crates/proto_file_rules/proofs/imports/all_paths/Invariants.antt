@@ -1,6 +1,0 @@
-use Rattle.std.proofs.Common.{◌≡◌, map, take}
-use Rattle.proto_files.specs.GivenFiles.{paths_of}
-use Rattle.proto_file_rules.proofs.imports.all_paths.Given as goal
-
-abbrev pub invariant-loop-file : goal.invariant-loop-file
-invariant-loop-file l = map (λ p. p.now) l.paths.items ≡ take l.file (paths_of l.files)

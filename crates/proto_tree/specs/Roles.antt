@@ -1,0 +1,49 @@
+-- What a token is to the grammar, by what its place in the tree wants.
+use Rattle.std.specs.Prelude.{◌≡◌, ℕ, ◌<◌, List, length}
+use Rattle.std.specs.List.{Contains}
+use Rattle.proto_text.specs.Tokens.{Lexeme}
+use Rattle.proto_tree.specs.declared.class.Class.TheVariants as class
+use Rattle.proto_tree.specs.declared.class.Want.{Want}
+use Rattle.proto_tree.specs.declared.class.Want.TheVariants as want
+use Rattle.proto_tree.specs.Flat.{Mark}
+use Rattle.proto_tree.specs.Tree.{Tree, Spells, flat}
+use Rattle.proto_tree.specs.Words.{classes}
+
+-- A token names what is declared, is a word of a reference, names an option, is a word that is an option's value,
+-- a label, a scalar type, a number, or something else.
+pub data Role : Type 0 where
+  names : Role
+  refers : Role
+  names_option : Role
+  is_value : Role
+  labels : Role
+  is_scalar : Role
+  is_number : Role
+  is_other : Role
+
+abbrev pub role_of : Want → Role
+role_of want.Name = names
+role_of want.ValueName = names
+role_of (want.One class.Name) = refers
+role_of want.Word = refers
+role_of want.OptionName = names_option
+role_of want.Constant = is_value
+role_of want.Label = labels
+role_of (want.One class.Scalar) = is_scalar
+role_of (want.One class.Number) = is_number
+role_of _ = is_other
+
+-- the token stands in the tree where one of this role is wanted
+abbrev pub HasRole : Tree → Role → ℕ → Type 0
+HasRole tree role token = (m : Mark) × Contains (flat tree) m × (m.at ≡ token) × (role_of m.want ≡ role)
+
+-- A token of a tree is one of the text, and each token of the text has a role,
+abbrev pub RolesAreOfTokens : Type 0
+RolesAreOfTokens = (tree : Tree) (ls : List Lexeme) (role : Role) (token : ℕ) → Spells tree (classes 0 ls) → HasRole tree role token → token < length ls
+
+abbrev pub TokensHaveRoles : Type 0
+TokensHaveRoles = (tree : Tree) (ls : List Lexeme) (token : ℕ) → Spells tree (classes 0 ls) → token < length ls → (role : Role) × HasRole tree role token
+
+-- and no other one.
+abbrev pub RolesAreOne : Type 0
+RolesAreOne = (tree : Tree) (ls : List Lexeme) (a b : Role) (token : ℕ) → Spells tree (classes 0 ls) → HasRole tree a token → HasRole tree b token → a ≡ b
