@@ -25,7 +25,7 @@ use Rattle.proto_meaning.specs.Edits.{IsCaptured}
 use Rattle.proto_meaning.specs.Grown.{At, at}
 use Rattle.proto_meaning.specs.Skeleton.{reference_of}
 use Rattle.proto_meaning.specs.declared.kind.Kind.TheVariants.{Package, Entry}
-use Rattle.proto_imports.specs.Links.{text_of, link_skeleton, names_of_files}
+use Rattle.proto_imports.specs.Links.{LinkFaults, text_of, link_skeleton, names_of_files}
 use Rattle.proto_parts.specs.Options.{is_named, value_named, text_of as text_value}
 use Rattle.proto_parts.specs.Parts.{BlockOf, FieldOf, OptionOf, blocks_in, fields_in, reserved_names_in, values_in}
 use Rattle.proto_parts.specs.Scenes.{Scene, text, value}
@@ -33,13 +33,16 @@ use Rattle.proto_parts.specs.JsonNames.{json_name_of, json_word}
 use Rattle.proto_numbers.specs.declared.flaw.Flaw.{Flaw}
 use Rattle.proto_checks.specs.FieldFlaws.{default_flaws}
 use Rattle.proto_checks.specs.FileFlaws.{file_flaws, json_clashes, name_flaws}
+use Rattle.proto_checks_laws.specs.NamedFlaws.{flaws_of_block}
 use Rattle.proto_checks_laws.specs.Renamed.{is_of_names}
+use Rattle.proto_checks_laws.proofs.NamedFlaws.{flaws_of_names, no_flaw_comes_in}
 use Rattle.proto_checks_laws.proofs.RenamedFlaws.{names_decide_three_kinds}
 use Rattle.proto_scenes.specs.SceneOf.{scene_of}
 use Rattle.proto_desc.specs.Checked.{CheckFaults, of_flaw, fault_of, flaws_of}
 use Rattle.proto_rename_laws.specs.Cases.{collision, captured, name_reserved, json_clash, keyword_name, not_an_identifier}
 use Rattle.proto_rename_laws.specs.Rewording.{AreReworded, SuitFiles}
 use Rattle.proto_rename_laws.specs.Places.{Names, Uses}
+use Rattle.proto_rename_laws.specs.Roles.{TokensHaveRoles}
 use Rattle.proto_rename_laws.specs.Scenes.{IsRename}
 use Rattle.proto_rename_laws.specs.Targets.{Target, may_rename, name_map, renamed_words}
 use Rattle.proto_rename_laws.proofs.PlacesSuit.{places_are_suited}
@@ -47,11 +50,10 @@ use Rattle.proto_rename_laws.proofs.Inside.{tokens_are_inside}
 use Rattle.proto_rename_laws.proofs.NoLinkFault.{files_are_linked, files_are_woven, no_link_fault}
 use Rattle.proto_rename_laws.proofs.Rewording.{other_texts_stay, texts_are_changed}
 use Rattle.proto_rename_laws.proofs.Places.{places_respelled}
+use Rattle.proto_rename_roles.proofs.TokenRoles.{tokens_have_roles}
 use Rattle.proto_rename_laws.proofs.Scenes.{find_agree, scenes_are_apart, trees_at, values_stay, version_stays}
-use Rattle.proto_rename_described.specs.Allowed.{DefaultsFit, IsAllowed, RenamesLeaveNoFault}
-use Rattle.proto_rename_described.specs.NamedFlaws.{names_of_block}
+use Rattle.proto_rename_described.specs.Allowed.{DefaultsFit, IsAllowed}
 use Rattle.proto_rename_described.specs.NamesKept.{AreKept, written}
-use Rattle.proto_rename_described.proofs.NamedFlaws.{flaws_of_names, no_flaw_comes_in}
 use Rattle.proto_rename_described.proofs.NamesKept.{empty_parts, json_names_stay, reserved_names_stay}
 
 none_listed : (fs : List Flaw) → ((f : Flaw) → Contains fs f → ⊥) → fs ≡ []
@@ -91,10 +93,14 @@ may_is_no_package k h = ((λ e. differ (sym h ∙ ap may_rename e)), λ e. diffe
     differ : true ≡ false → ⊥
     differ z = cc
 
+-- the tokens have their roles
+pub allowed_roles : (files : List FileOf) (reads : List ReadOf) (name to : List ℕ) (t : Target) → IsAllowed files reads name to t → TokensHaveRoles files reads t to
+allowed_roles files reads name to t a = tokens_have_roles files reads name to t a.read a.link a.named
+
 -- The new word suits its places, since neither case 3 nor case 4 refuses it.
 pub words_suit : (files : List FileOf) (reads : List ReadOf) (name to : List ℕ) (t : Target) → IsAllowed files reads name to t → SuitFiles (renamed_words files reads t to) reads
 words_suit files reads name to t a =
-    places_are_suited files reads name to t (files_are_linked files reads a.read a.link) a.named a.roles.wants (run_is to word) (λ h. a.admissible 4 (keyword_name t a.named h))
+    places_are_suited files reads name to t (files_are_linked files reads a.read a.link) a.named (allowed_roles files reads name to t a).tokens.wants (run_is to word) (λ h. a.admissible 4 (keyword_name t a.named h))
   where
     word : is_run to ≡ true
     word = elim (cases_Bool (is_run to)) [ inl y ↦ y | inr n ↦ absurd (a.admissible 3 (not_an_identifier n)) ]
@@ -119,14 +125,14 @@ module _ (files : List FileOf) (reads : List ReadOf) (name to : List ℕ) (t : T
         woven = files_are_woven files reads a.read;
         is = record { within = a.named.within; path = a.named.path; no_package = kinds.0; no_entry = kinds.1 };
         entry = a.named.entry;
-        respelled = places_respelled (text_of files reads) (text_of after seen) (link_skeleton files reads) t.token t.above t.aim t.is_map to _ (record { within = a.named.within; path = a.named.path; no_package = kinds.0; no_entry = kinds.1 }) a.roles.apart texts;
+        respelled = places_respelled (text_of files reads) (text_of after seen) (link_skeleton files reads) t.token t.above t.aim t.is_map to _ (record { within = a.named.within; path = a.named.path; no_package = kinds.0; no_entry = kinds.1 }) (allowed_roles files reads name to t a).tokens.apart texts;
         free = record {
           no_collision = λ h. a.admissible 6 (collision t a.named h);
           no_capture = λ r cr h. (
               let u = from_map (reference_of (text_of files reads) entry_name) (link_skeleton files reads).used r cr in
               a.admissible 7 (captured t u.0 a.named (record { used = u.1; captured = subst (λ x. IsCaptured (name_map files reads t to) (names_of_files files reads) x) (sym u.2) h })));
         };
-        numbers = a.roles.numbers;
+        numbers = (allowed_roles files reads name to t a).tokens.numbers;
       }
 
   pub same_length : length after ≡ length files
@@ -194,7 +200,7 @@ module _ (files : List FileOf) (reads : List ReadOf) (name to : List ℕ) (t : T
       names = map (λ (f : FieldOf). f.name) (fields_in b.within)
 
       field_roles : (i : ℕ) → Contains names i → Names (link_skeleton files reads) (at file i)
-      field_roles i ci = let f = from_map (λ (f : FieldOf). f.name) (fields_in b.within) i ci in subst (λ z. Names (link_skeleton files reads) (at file z)) f.2 (a.roles.field_names file b f.0 l cb f.1)
+      field_roles i ci = let f = from_map (λ (f : FieldOf). f.name) (fields_in b.within) i ci in subst (λ z. Names (link_skeleton files reads) (at file z)) f.2 ((allowed_roles files reads name to t a).tokens.field_names file b f.0 l cb f.1)
 
       -- case 8
       reserved_at : (f : ℕ) → f ≡ t.token.file → Contains (blocks_in (read_at reads f).tree) b → (Contains (map (λ (x : FieldOf). x.name) (fields_in b.within)) t.token.token ⊎ Contains (map (λ v. v.name) (values_in b.within)) t.token.token)
@@ -222,7 +228,7 @@ module _ (files : List FileOf) (reads : List ReadOf) (name to : List ℕ) (t : T
       written_stays f cf =
           let same : value_named (text old) (codes "json_name") f.options ≡ value_named (text new) (codes "json_name") f.options =
           ap (option_map (λ (o : OptionOf). o.value)) (find_agree (is_named (text old) (codes "json_name")) (is_named (text new) (codes "json_name")) f.options (λ o co.
-          ap (λ v. bytes_eq v (codes "json_name")) (sym (other_texts_stay c files reads after seen a.read w (at file o.name) l (a.roles.option_names file b f o cb cf co))))) in
+          ap (λ v. bytes_eq v (codes "json_name")) (sym (other_texts_stay c files reads after seen a.read w (at file o.name) l ((allowed_roles files reads name to t a).tokens.option_names file b f o cb cf co))))) in
           ap (option_and_then (text_value (value old))) same ∙ option_agrees (value old) (value new) strings (value_named (text new) (codes "json_name") f.options)
 
       message_clean : ((f : FieldOf) → Contains (fields_in b.within) f → default_flaws new f ≡ [])
@@ -236,18 +242,18 @@ module _ (files : List FileOf) (reads : List ReadOf) (name to : List ℕ) (t : T
           (ap₂ (λ (x y : List Flaw). x ++ y)
           (reserved_names_stay old new here to (reserved_names_in b.within) (map (λ (f : FieldOf). f.name) (fields_in b.within)) strings ks
           (λ is word. let o = own (field_roles here is) in reserved_at file o.0 cb (inl (subst (λ z. Contains (map (λ (f : FieldOf). f.name) (fields_in b.within)) z) o.1 is)) word) q.0)
-          (json_names_stay old new here to (fields_in b.within) (version_stays files reads c after seen t.token t.above t.aim t.is_map to is_rename file l) written_stays ks (a.roles.fields file b cb)
+          (json_names_stay old new here to (fields_in b.within) (version_stays files reads c after seen t.token t.above t.aim t.is_map to is_rename file l) written_stays ks ((allowed_roles files reads name to t a).tokens.fields file b cb)
           (λ f other cf n co ne p3 none same. (
-          let role = subst (λ z. Names (link_skeleton files reads) (at file z)) n (a.roles.field_names file b f l cb cf) in
+          let role = subst (λ z. Names (link_skeleton files reads) (at file z)) n ((allowed_roles files reads name to t a).tokens.field_names file b f l cb cf) in
           let o = own role in
           clash_at file o.0 cb f other cf (n ∙ o.1) co ne p3 none same)) q.1))
 
       enum_clean : name_flaws old (reserved_names_in b.within) (map (λ v. v.name) (values_in b.within)) ≡ [] → name_flaws new (reserved_names_in b.within) (map (λ v. v.name) (values_in b.within)) ≡ []
       enum_clean e =
-          reserved_names_stay old new here to (reserved_names_in b.within) (map (λ v. v.name) (values_in b.within)) strings (kept (map (λ v. v.name) (values_in b.within)) (a.roles.value_names file b l cb))
-          (λ is word. let o = own (a.roles.value_names file b l cb here is) in reserved_at file o.0 cb (inr (subst (λ z. Contains (map (λ v. v.name) (values_in b.within)) z) o.1 is)) word) e
+          reserved_names_stay old new here to (reserved_names_in b.within) (map (λ v. v.name) (values_in b.within)) strings (kept (map (λ v. v.name) (values_in b.within)) ((allowed_roles files reads name to t a).tokens.value_names file b l cb))
+          (λ is word. let o = own ((allowed_roles files reads name to t a).tokens.value_names file b l cb here is) in reserved_at file o.0 cb (inr (subst (λ z. Contains (map (λ v. v.name) (values_in b.within)) z) o.1 is)) word) e
 
-      block_clean : (h : Header) → ((g : Heading) → h ≡ header.Message g → (f : FieldOf) → Contains (fields_in b.within) f → default_flaws new f ≡ []) → names_of_block old h b.within ≡ [] → names_of_block new h b.within ≡ []
+      block_clean : (h : Header) → ((g : Heading) → h ≡ header.Message g → (f : FieldOf) → Contains (fields_in b.within) f → default_flaws new f ≡ []) → flaws_of_block old h b.within ≡ [] → flaws_of_block new h b.within ≡ []
       block_clean (header.Message h) defaults e = message_clean (defaults h refl) e
       block_clean (header.Enum h) defaults e = enum_clean e
       block_clean (header.Oneof h) defaults e = refl
@@ -257,11 +263,11 @@ module _ (files : List FileOf) (reads : List ReadOf) (name to : List ℕ) (t : T
     file_clean : DefaultsFit after seen → file_flaws new tree ≡ []
     file_clean fit =
         let differ = scenes_are_apart files reads c after seen t.token t.above t.aim t.is_map to is_rename file l in
-        let same = names_decide_three_kinds (λ i. is_some (c (at file i))) old new tree differ (a.roles.asked file l) in
-        let none : flat_map (λ (x : BlockOf). names_of_block old x.header x.within) (blocks_in tree) ≡ [] = sym (flaws_of_names old tree) ∙ ap (filter (λ (f : Flaw). is_of_names f.kind)) clean in
+        let same = names_decide_three_kinds (λ i. is_some (c (at file i))) old new tree differ ((allowed_roles files reads name to t a).tokens.asked file l) in
+        let none : flat_map (λ (x : BlockOf). flaws_of_block old x.header x.within) (blocks_in tree) ≡ [] = sym (flaws_of_names old tree) ∙ ap (filter (λ (f : Flaw). is_of_names f.kind)) clean in
         no_flaw_comes_in old new tree clean same (λ x cx.
         block_clean x cx x.header (λ g is f cf. fit file x g f (omega (arith, l, same_length)) (subst (λ z. Contains (blocks_in z) x) (sym (trees_at files reads c after seen t.token t.above t.aim t.is_map to is_rename file)) cx) is cf)
-        (empty_each (λ (x : BlockOf). names_of_block old x.header x.within) (blocks_in tree) none x cx))
+        (empty_each (λ (x : BlockOf). flaws_of_block old x.header x.within) (blocks_in tree) none x cx))
 
   checks_clean : DefaultsFit after seen → HasNoFault (CheckFaults after)
   checks_clean fit x (of_flaw others file f are l h) =
@@ -273,8 +279,10 @@ module _ (files : List FileOf) (reads : List ReadOf) (name to : List ℕ) (t : T
       let none = subst (λ fs. Contains fs f) empty there in
       absurd (omega (arith, none.1))
 
-pub renames_leave_no_fault : RenamesLeaveNoFault
-renames_leave_no_fault files reads name to t after seen a w fit = (
+-- no fault comes in where the defaults fit
+pub no_fault_beside_defaults : (files : List FileOf) (reads : List ReadOf) (name to : List ℕ) (t : Target) (after : List FileOf) (seen : List ReadOf)
+    → IsAllowed files reads name to t → AreReworded (renamed_words files reads t to) files reads after seen → DefaultsFit after seen → HasNoFault (LinkFaults after) × HasNoFault (CheckFaults after)
+no_fault_beside_defaults files reads name to t after seen a w fit = (
   no_link_fault files reads (renamed_words files reads t to) after seen t.token t.above t.aim t.is_map to (is_rename files reads name to t after seen a w) a.link,
   checks_clean files reads name to t after seen a w fit,
 )

@@ -1,4 +1,4 @@
--- No default is wrong after a rename, from what is known of the words of defaults (for the crates above).
+-- Each field keeps its label, type and numbers after a rename, and its defaults go with the value that they mean (for the crates above).
 use Rattle.std.proofs.Common.{◌≡◌, ℕ, zero, suc, ◌+◌, ◌<◌, ◌&&◌, Bool, true, false, if◌then◌else◌, List, [], ◌∷◌, ◌++◌, length, map, flat_map, Option, Some, None, codes, sym, ap, subst, ◌∙◌, inl, inr, arith}
 use Rattle.std.specs.List.{Contains, list_any}
 use Rattle.std.specs.Str.{bytes_eq}
@@ -34,8 +34,8 @@ use Rattle.proto_rename_laws.proofs.PlainNames.{names_are_plain}
 use Rattle.proto_rename_laws.proofs.Rewording.{other_texts_stay, texts_are_changed}
 use Rattle.proto_rename_laws.proofs.Places.{listed, to_flat_map}
 use Rattle.proto_rename_described.specs.Allowed.{IsAllowed}
-use Rattle.proto_rename_described.specs.DefaultWords.{DefaultWordsGiveRoles, DefaultWordsSuffice}
-use Rattle.proto_rename_described.proofs.DefaultsFit.{all_defaults_fit}
+use Rattle.proto_rename_described.specs.DefaultsFit.{FieldsHaveRoles}
+use Rattle.proto_rename_described.proofs.Allowed.{allowed_roles}
 use Rattle.proto_rename_described.proofs.OtherTokens.{labels_and_scalars_stay, other_tokens_stay}
 
 no_meaning : (enum : Option (List (List ℕ))) (old word : List ℕ) → means_value enum old None word ≡ true → ⊥
@@ -70,7 +70,10 @@ in_defaults files reads enum old n (suc k) w (r ∷ rs) f l cf c =
     (in_defaults files reads enum old (suc n) k w rs f (omega (arith, l)) cf (subst (λ m. Contains (renamed_default files reads enum old m f) w) e c)))
 
 module _ (files : List FileOf) (reads : List ReadOf) (name to : List ℕ) (t : Target) (after : List FileOf) (seen : List ReadOf) (a : IsAllowed files reads name to t) (w : AreReworded (renamed_words files reads t to) files reads after seen)
-    (file : ℕ) (b : BlockOf) (h : Heading) (f : FieldOf) (l : file < length files) (cb : Contains (blocks_in (read_at reads file).tree) b) (is : b.header ≡ header.Message h) (cf : Contains (fields_in b.within) f) (words : HasDefaultWords files reads t to file f) where
+    (file : ℕ) (b : BlockOf) (h : Heading) (f : FieldOf) (l : file < length files) (cb : Contains (blocks_in (read_at reads file).tree) b) (is : b.header ≡ header.Message h) (cf : Contains (fields_in b.within) f) where
+  words : HasDefaultWords files reads t to file f
+  words = (allowed_roles files reads name to t a).defaults file b h f l cb is cf
+
   -- the target is named by a word
   named_plain : IsPlain (text_of files reads t.token)
   named_plain =
@@ -119,8 +122,5 @@ module _ (files : List FileOf) (reads : List ReadOf) (name to : List ℕ) (t : T
         ]);
   }
 
-pub default_words_give_roles : DefaultWordsGiveRoles
-default_words_give_roles files reads name to t after seen a w words = record { defaults = λ file b h f l cb is cf. roles files reads name to t after seen a w file b h f l cb is cf (words file b h f l cb is cf) }
-
-pub default_words_suffice : DefaultWordsSuffice
-default_words_suffice files reads name to t after seen a w enums words = all_defaults_fit files reads name to t after seen a w enums (default_words_give_roles files reads name to t after seen a w words)
+pub fields_have_roles : FieldsHaveRoles
+fields_have_roles files reads name to t after seen a w = record { defaults = λ file b h f l cb is cf. roles files reads name to t after seen a w file b h f l cb is cf }

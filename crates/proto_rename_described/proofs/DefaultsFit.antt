@@ -5,6 +5,8 @@ use Rattle.std.specs.Str.{bytes_eq}
 use Rattle.proto_tree.specs.declared.tree.Constant.{Constant}
 use Rattle.proto_tree.specs.declared.tree.FieldType.{FieldType}
 use Rattle.proto_tree.specs.declared.piece.Header.{Header}
+use Rattle.proto_tree.specs.declared.piece.Heading.{Heading}
+use Rattle.proto_tree.specs.declared.piece.Header.TheVariants as header
 use Rattle.proto_tree.specs.declared.tree.Constant.TheVariants as constant
 use Rattle.proto_tree.specs.declared.tree.FieldType.TheVariants as field_type
 use Rattle.proto_files.specs.GivenFiles.{FileOf}
@@ -18,20 +20,21 @@ use Rattle.proto_parts.specs.Scenes.{EnumOf, Scene, enum_meant, signed_at, text}
 use Rattle.proto_parts.specs.Labels.{has_label, is_label}
 use Rattle.proto_numbers.specs.declared.flaw.Flaw.{Flaw}
 use Rattle.proto_checks.specs.FieldFlaws.{default_flaws, holds_number, is_default_of, is_value_of, may_default, wrong_default}
+use Rattle.proto_checks_laws.specs.NamedFlaws.{flaws_of_block}
 use Rattle.proto_checks_laws.specs.Renamed.{is_of_names}
+use Rattle.proto_checks_laws.proofs.NamedFlaws.{flaws_of_names}
 use Rattle.proto_scenes.specs.SceneOf.{scene_of}
 use Rattle.proto_rename_laws.specs.Defaults.{meaning_from}
-use Rattle.proto_rename_laws.specs.Roles.{HasDefaultRoles, HasEnumRoles}
+use Rattle.proto_rename_laws.specs.Roles.{HasDefaultRoles}
 use Rattle.proto_rename_laws.specs.Rewording.{AreReworded}
 use Rattle.proto_rename_laws.specs.Targets.{Target, renamed_words}
 use Rattle.proto_rename_laws.proofs.Rewording.{other_texts_stay}
 use Rattle.proto_rename_laws.proofs.Scenes.{find_agree, find_there, trees_at, version_stays}
-use Rattle.proto_rename_described.specs.Allowed.{IsAllowed}
+use Rattle.proto_rename_described.specs.Allowed.{IsAllowed, RenamesLeaveNoFault}
 use Rattle.proto_rename_described.specs.DefaultsFit.{AllDefaultsFit}
-use Rattle.proto_rename_described.specs.NamedFlaws.{names_of_block}
-use Rattle.proto_rename_described.proofs.Allowed.{clean, empty_each, is_rename, same_length}
+use Rattle.proto_rename_described.proofs.Allowed.{allowed_roles, clean, empty_each, is_rename, no_fault_beside_defaults, same_length}
+use Rattle.proto_rename_described.proofs.DefaultWords.{fields_have_roles}
 use Rattle.proto_rename_described.proofs.EnumDefaults.{enum_defaults_fit}
-use Rattle.proto_rename_described.proofs.NamedFlaws.{flaws_of_names}
 use Rattle.proto_rename_described.proofs.NamesKept.{empty_parts, none_flawed, not_flawed}
 
 no_value : (o : Option EnumOf) → is_value_of o None ≡ true → ⊥
@@ -48,14 +51,16 @@ is_true true h = refl
 is_true false h = absurd cc
 
 module _ (files : List FileOf) (reads : List ReadOf) (name to : List ℕ) (t : Target) (after : List FileOf) (seen : List ReadOf)
-    (a : IsAllowed files reads name to t) (w : AreReworded (renamed_words files reads t to) files reads after seen) (enums : HasEnumRoles files reads t)
-    (file : ℕ) (l : file < length files) (b : BlockOf) (f : FieldOf) (cb : Contains (blocks_in (read_at reads file).tree) b) (cf : Contains (fields_in b.within) f)
-    (roles : HasDefaultRoles (renamed_words files reads t to) (text_of files reads) (text_of after seen) (meaning_from files reads file) t.enum (text_of files reads t.token) to file f) where
+    (a : IsAllowed files reads name to t) (w : AreReworded (renamed_words files reads t to) files reads after seen)
+    (file : ℕ) (l : file < length files) (b : BlockOf) (h : Heading) (f : FieldOf) (cb : Contains (blocks_in (read_at reads file).tree) b) (is : b.header ≡ header.Message h) (cf : Contains (fields_in b.within) f) where
   abbrev old : Scene
   old = scene_of None files reads file
 
   abbrev new : Scene
   new = scene_of None after seen file
+
+  roles : HasDefaultRoles (renamed_words files reads t to) (text_of files reads) (text_of after seen) (meaning_from files reads file) t.enum (text_of files reads t.token) to file f
+  roles = (fields_have_roles files reads name to t after seen a w).defaults file b h f l cb is cf
 
   stays : (i : ℕ) → renamed_words files reads t to (at file i) ≡ None → text new i ≡ text old i
   stays i h = other_texts_stay (renamed_words files reads t to) files reads after seen a.read w (at file i) l h
@@ -74,7 +79,7 @@ module _ (files : List FileOf) (reads : List ReadOf) (name to : List ℕ) (t : T
   value_fits o co n (field_type.Scalar i) qk (constant.Text j) qc h = ap (λ v. bytes_eq v (codes "string")) (stays i (roles.scalar i qk)) ∙ h
   value_fits o co n (field_type.Reference r) qk (constant.Number m) qc h = absurd (no_value (enum_meant old r) h)
   value_fits o co n (field_type.Reference r) qk (constant.Text j) qc h = absurd (no_value (enum_meant old r) h)
-  value_fits o co n (field_type.Reference r) qk (constant.Word x) qc h = enum_defaults_fit files reads name to t after seen a w enums file x r l (roles.enum_word o r x co qk qc n) h
+  value_fits o co n (field_type.Reference r) qk (constant.Word x) qc h = enum_defaults_fit files reads name to t after seen a w file x r l (roles.enum_word o r x co qk qc n) h
 
   found_fits : (o : Option OptionOf) → find (is_named (text old) (codes "default")) f.options ≡ o → wrong_default old f o ≡ [] → wrong_default new f o ≡ []
   found_fits None q h = refl
@@ -95,18 +100,21 @@ module _ (files : List FileOf) (reads : List ReadOf) (name to : List ℕ) (t : T
       by false q =
           let before : wrong_default old f (find (is_named (text old) (codes "default")) f.options) ≡ [] = ap (λ v. if v then [] else wrong_default old f (find (is_named (text old) (codes "default")) f.options)) q ∙ h in
           let same : find (is_named (text new) (codes "default")) f.options ≡ find (is_named (text old) (codes "default")) f.options =
-          find_agree (is_named (text new) (codes "default")) (is_named (text old) (codes "default")) f.options (λ o co. ap (λ v. bytes_eq v (codes "default")) (stays o.name (a.roles.option_names file b f o cb cf co))) in
+          find_agree (is_named (text new) (codes "default")) (is_named (text old) (codes "default")) f.options (λ o co. ap (λ v. bytes_eq v (codes "default")) (stays o.name ((allowed_roles files reads name to t a).tokens.option_names file b f o cb cf co))) in
           ap (wrong_default new f) same ∙ found_fits (find (is_named (text old) (codes "default")) f.options) refl before
 
 pub all_defaults_fit : AllDefaultsFit
-all_defaults_fit files reads name to t after seen a w enums roles file b h f la cb is cf =
+all_defaults_fit files reads name to t after seen a w file b h f la cb is cf =
     let l : file < length files = omega (arith, la, same_length files reads name to t after seen a w) in
     let c = renamed_words files reads t to in
     let tree = trees_at files reads c after seen t.token t.above t.aim t.is_map to (is_rename files reads name to t after seen a w) file in
     let block : Contains (blocks_in (read_at reads file).tree) b = subst (λ z. Contains (blocks_in z) b) tree cb in
     let old = scene_of None files reads file in
-    let none : flat_map (λ (x : BlockOf). names_of_block old x.header x.within) (blocks_in (read_at reads file).tree) ≡ [] =
+    let none : flat_map (λ (x : BlockOf). flaws_of_block old x.header x.within) (blocks_in (read_at reads file).tree) ≡ [] =
     sym (flaws_of_names old (read_at reads file).tree) ∙ ap (filter (λ (x : Flaw). is_of_names x.kind)) (clean files reads name to t after seen a w file l) in
-    let mine : names_of_block old b.header b.within ≡ [] = empty_each (λ (x : BlockOf). names_of_block old x.header x.within) (blocks_in (read_at reads file).tree) none b block in
-    let parts = empty_parts (flat_map (default_flaws old) (fields_in b.within)) _ (sym (ap (λ (z : Header). names_of_block old z b.within) is) ∙ mine) in
-    field_fits files reads name to t after seen a w enums file l b f block cf (roles.defaults file b h f l block is cf) (empty_each (default_flaws old) (fields_in b.within) parts.0 f cf)
+    let mine : flaws_of_block old b.header b.within ≡ [] = empty_each (λ (x : BlockOf). flaws_of_block old x.header x.within) (blocks_in (read_at reads file).tree) none b block in
+    let parts = empty_parts (flat_map (default_flaws old) (fields_in b.within)) _ (sym (ap (λ (z : Header). flaws_of_block old z b.within) is) ∙ mine) in
+    field_fits files reads name to t after seen a w file l b h f block is cf (empty_each (default_flaws old) (fields_in b.within) parts.0 f cf)
+
+pub renames_leave_no_fault : RenamesLeaveNoFault
+renames_leave_no_fault files reads name to t after seen a w = no_fault_beside_defaults files reads name to t after seen a w (all_defaults_fit files reads name to t after seen a w)

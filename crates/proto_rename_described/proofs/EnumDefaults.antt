@@ -35,7 +35,7 @@ use Rattle.proto_rename_laws.specs.Scenes.{IsRename}
 use Rattle.proto_rename_laws.proofs.Scenes.{declared_stays, find_agree, find_there, meaning_after, trees_at, used_here, uses_stay}
 use Rattle.proto_rename_described.specs.Allowed.{IsAllowed}
 use Rattle.proto_rename_described.specs.EnumDefaults.{EnumDefaultsFit}
-use Rattle.proto_rename_described.proofs.Allowed.{is_rename}
+use Rattle.proto_rename_described.proofs.Allowed.{allowed_roles, is_rename}
 
 pub find_map : {A B : Type 0} (p : B → Bool) (f : A → B) (xs : List A) → find p (map f xs) ≡ option_map f (find (λ x. p (f x)) xs)
 find_map p f [] = refl
@@ -63,7 +63,10 @@ meant_by_first files reads file first us =
     through (Some u) = refl
 
 module _ (files : List FileOf) (reads : List ReadOf) (name to : List ℕ) (t : Target) (after : List FileOf) (seen : List ReadOf)
-    (a : IsAllowed files reads name to t) (re : AreReworded (renamed_words files reads t to) files reads after seen) (roles : HasEnumRoles files reads t) where
+    (a : IsAllowed files reads name to t) (re : AreReworded (renamed_words files reads t to) files reads after seen) where
+  roles : HasEnumRoles files reads t
+  roles = (allowed_roles files reads name to t a).enums
+
   abbrev e : Renaming
   e = name_map files reads t to
 
@@ -178,4 +181,4 @@ module _ (files : List FileOf) (reads : List ReadOf) (name to : List ℕ) (t : T
               ap (λ x. is_value_of x (Some (text_of after seen (at file w)))) (new ∙ ap (option_and_then (λ (x : Declared At). enum_at after seen (place_of x))) (sym stays ∙ is_d)) ∙ now
 
 pub enum_defaults_fit : EnumDefaultsFit
-enum_defaults_fit files reads name to t after seen a re roles file w r l = defaults_fit files reads name to t after seen a re roles file w r l
+enum_defaults_fit files reads name to t after seen a re file w r l = defaults_fit files reads name to t after seen a re file w r l

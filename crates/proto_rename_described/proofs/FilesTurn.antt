@@ -1,14 +1,14 @@
 -- Each file of an allowed rename turns, and its descriptor goes under the name map (for the crates above).
-use Rattle.std.proofs.Common.{◌≡◌, ◌≢◌, ◌⊎◌, ℕ, suc, ◌+◌, ◌<◌, ◌==◌, Bool, true, false, not, ◌&&◌, if◌then◌else◌, List, [], ◌∷◌, ◌++◌, length, map, flat_map, find, Option, Some, None, option_map, option_and_then, is_some, is_none, codes, refl, sym, ◌∙◌, ap, ap₂, subst, inl, inr, arith}
+use Rattle.std.proofs.Common.{◌≡◌, ◌≢◌, ℕ, suc, ◌+◌, ◌<◌, ◌==◌, Bool, true, false, not, ◌&&◌, if◌then◌else◌, List, [], ◌∷◌, ◌++◌, length, map, flat_map, find, Option, Some, None, option_map, option_and_then, is_some, is_none, codes, refl, sym, ◌∙◌, ap, ap₂, subst, inl, inr, arith}
 use Rattle.std.specs.Fmt.{signed_decimal}
 use Rattle.std.specs.List.{Contains}
 use Rattle.std.specs.Str.{bytes_eq}
-use Rattle.std.proofs.lemmas.Bool.{cases_eq, cond-false, false_from_ne_true}
+use Rattle.std.proofs.lemmas.Bool.{cond-false, false_from_ne_true}
 use Rattle.std.proofs.lemmas.List.Elements.{All-contains, Contains-append_left}
 use Rattle.std.proofs.lemmas.Option.{same_Some}
 use Rattle.proto_case.specs.Camel.{entry_name}
 use Rattle.proto_case.proofs.EntryNames.{entry_differs}
-use Rattle.proto_text.proofs.Lists.{contains_cases, contains_head, contains_later, contains_map, from_map}
+use Rattle.proto_text.proofs.Lists.{contains_map, from_map}
 use Rattle.proto_text.specs.Tokens.{lexeme_at}
 use Rattle.proto_tree.specs.declared.piece.Heading.{Heading}
 use Rattle.proto_tree.specs.declared.tree.Constant.{Constant}
@@ -16,7 +16,6 @@ use Rattle.proto_tree.specs.declared.tree.FieldType.{FieldType}
 use Rattle.proto_tree.specs.declared.tree.Reference.{Reference}
 use Rattle.proto_tree.specs.Tree.{Tree}
 use Rattle.proto_tree.specs.References.{first_of}
-use Rattle.proto_tree.proofs.MarkLaws.{trees_are_numbered}
 use Rattle.proto_tree.specs.declared.piece.Header.TheVariants as header
 use Rattle.proto_tree.specs.declared.tree.Constant.TheVariants as constant
 use Rattle.proto_tree.specs.declared.tree.FieldType.TheVariants as field_type
@@ -46,13 +45,14 @@ use Rattle.proto_parts.specs.Labels.{has_label}
 use Rattle.proto_parts.specs.declared.options.Element.TheVariants as element
 use Rattle.proto_checks.specs.FieldFlaws.{default_flaws, field_flaws, is_default_of, is_value_of, may_default, option_flaws, packed_flaws, proto3_defaults, type_flaws, wrong_default}
 use Rattle.proto_checks.specs.FileFlaws.{block_flaws, flaws_in_blocks}
+use Rattle.proto_checks_laws.proofs.OneField.{names_are_of_one_field}
 use Rattle.proto_checks_laws.specs.Renamed.{DifferInNames, asked_tokens, block_tokens, option_tokens}
 use Rattle.proto_described.specs.Described.{absolute, default_number, default_text, field_type_name, file_described, is_map, type_name_of}
 use Rattle.proto_scenes.specs.SceneOf.{meaning_of, meant_as, scene_of}
 use Rattle.proto_desc.specs.Checked.{described_from}
 use Rattle.proto_rename_laws.proofs.PlainNames.{name_in, names_are_plain}
 use Rattle.proto_rename_laws.specs.Defaults.{meaning_from, means_value}
-use Rattle.proto_rename_laws.specs.Roles.{HasDefaultRoles, HasFieldRoles}
+use Rattle.proto_rename_laws.specs.Roles.{HasDefaultRoles}
 use Rattle.proto_rename_laws.specs.Rewording.{AreReworded}
 use Rattle.proto_rename_laws.specs.Scenes.{IsRename}
 use Rattle.proto_rename_laws.specs.Targets.{Target, may_rename, name_map, renamed_words}
@@ -63,14 +63,15 @@ use Rattle.proto_rename_described.specs.FilesTurn.{AllAreMapped, FilesTurn, Rena
 use Rattle.proto_rename_described.specs.Mapped.{Taken, dotted, is_name_of, mapped, mapped_default, mapped_file, words_of}
 use Rattle.proto_rename_described.specs.Workspaces.{WritesJson, of_another, of_field}
 use Rattle.proto_rename_described.specs.Turns.{FileTurns, is_target, written_json}
-use Rattle.proto_rename_described.proofs.Allowed.{clean, empty_each, is_rename}
+use Rattle.proto_rename_described.proofs.Allowed.{allowed_roles, clean, empty_each, is_rename}
+use Rattle.proto_rename_described.proofs.DefaultWords.{fields_have_roles}
 use Rattle.proto_rename_described.proofs.EnumDefaults.{find_map, meant_token}
 use Rattle.proto_rename_described.proofs.FileStays.{file_options_stay, signed_stays, values_agree}
 use Rattle.proto_rename_described.proofs.Mapped.{descriptors_are_mapped, joined_dotted, words_of_dotted}
-use Rattle.proto_rename_laws.proofs.OneField.{one_field}
 use Rattle.proto_rename_described.proofs.NamesKept.{empty_parts, none_flawed}
 use Rattle.proto_rename_described.proofs.ScenesTurn.{meanings_are_turned, named_some, names_are_turned, some_path, there}
 use Rattle.proto_rename_described.proofs.TreeTurns.{FieldNames, block_of, tree_turns}
+use Rattle.proto_rename_described.proofs.WrittenJson.{writes_json}
 
 -- ---- lists, tests and tokens
 
@@ -128,7 +129,7 @@ means_none None old word = refl
 means_none (Some n) old word = refl
 
 module _ (files : List FileOf) (reads : List ReadOf) (name to : List ℕ) (t : Target) (after : List FileOf) (seen : List ReadOf)
-    (al : IsAllowed files reads name to t) (w : AreReworded (renamed_words files reads t to) files reads after seen) (roles : HasFieldRoles files reads t to after seen)
+    (al : IsAllowed files reads name to t) (w : AreReworded (renamed_words files reads t to) files reads after seen)
     (written : Bool) (writes : WritesJson files reads t written) where
   abbrev e : Renaming
   e = name_map files reads t to
@@ -168,7 +169,7 @@ module _ (files : List FileOf) (reads : List ReadOf) (name to : List ℕ) (t : T
     differ = scenes_are_apart files reads c after seen t.token t.above t.aim t.is_map to is file l
 
     asked : (i : ℕ) → Contains (asked_tokens (scene_of None files reads file) (read_at reads file).tree) i → is_some (renamed_words files reads t to (at file i)) ≡ false
-    asked i ci = All-contains (λ i. is_some (c (at file i)) ≡ false) (asked_tokens a tree) i (al.roles.asked file l) ci
+    asked i ci = All-contains (λ i. is_some (c (at file i)) ≡ false) (asked_tokens a tree) i ((allowed_roles files reads name to t al).tokens.asked file l) ci
 
     stays : (i : ℕ) → renamed_words files reads t to (at file i) ≡ None → text (scene_of None after seen file) i ≡ text (scene_of None files reads file) i
     stays i h = other_texts_stay c files reads after seen al.read w (at file i) l h
@@ -286,7 +287,7 @@ module _ (files : List FileOf) (reads : List ReadOf) (name to : List ℕ) (t : T
       json_is v (of_field d g i) q =
           let same_file : file ≡ t.token.file = ap (λ (x : At). x.file) q in
           let same_name : f.name ≡ g.name = ap (λ (x : At). x.token) q ∙ sym i.name in
-          let options : f.options ≡ g.options = one_field tree (trees_are_numbered tree (map (lexeme_at (file_at files file).bytes) (read_at reads file).tokens) (al.read.trees file l).spells) (block_of (header.Message h) within) d f g cb (subst (λ k. Contains (blocks_in (read_at reads k).tree) d) (sym same_file) i.block) cf i.field same_name in
+          let options : f.options ≡ g.options = (names_are_of_one_field tree (map (lexeme_at (file_at files file).bytes) (read_at reads file).tokens) (al.read.trees file l).spells (block_of (header.Message h) within) d f g cb (subst (λ k. Contains (blocks_in (read_at reads k).tree) d) (sym same_file) i.block) cf i.field same_name).options in
           ap₂ json_at same_file options
       json_is v (of_another none) q =
           let same_file : file ≡ t.token.file = ap (λ (x : At). x.file) q in
@@ -308,7 +309,7 @@ module _ (files : List FileOf) (reads : List ReadOf) (name to : List ℕ) (t : T
           empty_parts (default_flaws a f) (proto3_defaults a f) r
 
       field_roles : HasDefaultRoles (renamed_words files reads t to) (text_of files reads) (text_of after seen) (meaning_from files reads file) t.enum (text_of files reads t.token) to file f
-      field_roles = roles.defaults file (block_of (header.Message h) within) h f l cb refl cf
+      field_roles = (fields_have_roles files reads name to t after seen al w).defaults file (block_of (header.Message h) within) h f l cb refl cf
 
       -- by the field's type, where it is no map
       default_by : (o : OptionOf) → Contains f.options o → is_named (text (scene_of None files reads file)) (codes "default") o ≡ true → (k : FieldType) → f.kind ≡ k → (x : Constant) → o.value ≡ x → is_default_of (scene_of None files reads file) k x ≡ true
@@ -393,7 +394,7 @@ module _ (files : List FileOf) (reads : List ReadOf) (name to : List ℕ) (t : T
         }
 
 pub files_turn : FilesTurn
-files_turn files reads name to t after seen al w roles written writes file l = file_turns files reads name to t after seen al w roles written writes file l
+files_turn files reads name to t after seen al w written writes file l = file_turns files reads name to t after seen al w written writes file l
 
 -- ---- the descriptors of all files
 
@@ -417,7 +418,7 @@ each_described e taken files after reads seen n (r ∷ rs) (s ∷ ss) h each =
     subst (λ m. file_described (scene_of None after seen m) (file_at after m).path (read_at rs k).tree ≡ mapped_file e taken (file_described (scene_of None files reads m) (file_at files m).path (read_at rs k).tree)) more (each (suc k) (omega (arith, l)))))
 
 pub all_are_mapped : AllAreMapped
-all_are_mapped files reads name to t after seen al w roles written writes =
+all_are_mapped files reads name to t after seen al w written writes =
     let e = name_map files reads t to in
     let taken : Taken = record { written = written; enum = t.enum } in
     each_described (name_map files reads t to) (record { written = written; enum = t.enum }) files after reads seen 0 reads seen w.trees (λ k l.
@@ -425,45 +426,17 @@ all_are_mapped files reads name to t after seen al w roles written writes =
     let none : k ≡ 0 + k = omega arith in
     let mine : file_described (scene_of None after seen k) (file_at after k).path (read_at reads k).tree ≡ mapped_file e taken (file_described (scene_of None files reads k) (file_at files k).path (read_at reads k).tree) =
     ap (λ p. file_described (scene_of None after seen k) p (read_at reads k).tree) (file_paths after files k w.paths)
-    ∙ descriptors_are_mapped e taken (scene_of None files reads k) (scene_of None after seen k) (file_at files k).path (read_at reads k).tree (files_turn files reads name to t after seen al w roles written writes k lf) in
+    ∙ descriptors_are_mapped e taken (scene_of None files reads k) (scene_of None after seen k) (file_at files k).path (read_at reads k).tree (files_turn files reads name to t after seen al w written writes k lf) in
     subst (λ m. file_described (scene_of None after seen m) (file_at after m).path (read_at reads k).tree ≡ mapped_file e taken (file_described (scene_of None files reads m) (file_at files m).path (read_at reads k).tree)) none mine)
 
--- ---- whether a JSON name is written is found
-
-search_fields : (token : ℕ) (fs : List FieldOf) → ((f : FieldOf) × Contains fs f × (f.name ≡ token)) ⊎ ((f : FieldOf) → Contains fs f → f.name ≡ token → ⊥)
-search_fields token [] = inr (λ f c q. absurd (omega (arith, c.1)))
-search_fields token (g ∷ fs) = elim (cases_eq g.name token) [
-  | inl q ↦ inl (g, contains_head g fs, q)
-  | inr n ↦ elim (search_fields token fs) [
-    | inl r ↦ inl (r.0, contains_later g r.0 fs r.1, r.2)
-    | inr none ↦ inr (λ f c q. elim (contains_cases g f fs c) [ inl s ↦ n (ap (λ (z : FieldOf). z.name) s ∙ q) | inr d ↦ none f d q ])
-  ]
-]
-
-search_blocks : (token : ℕ) (bs : List BlockOf) → ((b : BlockOf) × (f : FieldOf) × Contains bs b × Contains (fields_in b.within) f × (f.name ≡ token)) ⊎ ((b : BlockOf) (f : FieldOf) → Contains bs b → Contains (fields_in b.within) f → f.name ≡ token → ⊥)
-search_blocks token [] = inr (λ b f c d q. absurd (omega (arith, c.1)))
-search_blocks token (x ∷ bs) = elim (search_fields token (fields_in x.within)) [
-  | inl r ↦ inl (x, r.0, contains_head x bs, r.1, r.2)
-  | inr n ↦ elim (search_blocks token bs) [
-    | inl r ↦ inl (r.0, r.1, contains_later x r.0 bs r.2, r.3, r.4)
-    | inr none ↦ inr (λ b f c d q. elim (contains_cases x b bs c) [ inl s ↦ n f (subst (λ (z : BlockOf). Contains (fields_in z.within) f) (sym s) d) q | inr g ↦ none b f g d q ])
-  ]
-]
-
-writes_json : (files : List FileOf) (reads : List ReadOf) (t : Target) → (written : Bool) × WritesJson files reads t written
-writes_json files reads t = elim (search_blocks t.token.token (blocks_in (read_at reads t.token.file).tree)) [
-  | inl r ↦ (is_some (text_option (text (scene_of None files reads t.token.file)) (value (scene_of None files reads t.token.file)) (codes "json_name") r.1.options), of_field r.0 r.1 (record { block = r.2; field = r.3; name = r.4 }))
-  | inr none ↦ (false, of_another (λ b f i. none b f i.block i.field i.name))
-]
-
 pub renames_are_mapped : RenamesAreMapped
-renames_are_mapped files reads name to t after seen al w roles ds new old later =
+renames_are_mapped files reads name to t after seen al w ds new old later =
     let j = writes_json files reads t in (
       reads,
       al.read,
       (
         t,
         al.named,
-        (j.0, j.1, later seen w.read ∙ all_are_mapped files reads name to t after seen al w roles j.0 j.1 ∙ ap (mapped (name_map files reads t to) (record { written = j.0; enum = t.enum })) (sym (old reads al.read))),
+        (j.0, j.1, later seen w.read ∙ all_are_mapped files reads name to t after seen al w j.0 j.1 ∙ ap (mapped (name_map files reads t to) (record { written = j.0; enum = t.enum })) (sym (old reads al.read))),
       ),
     )

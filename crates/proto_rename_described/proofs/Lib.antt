@@ -1,4 +1,5 @@
 pub mod Allowed
+pub mod CleanFiles
 pub mod DefaultWords
 pub mod DefaultsFit
 mod DefaultsKept
@@ -8,8 +9,8 @@ mod FileStays
 pub mod FilesTurn
 pub mod Mapped
 pub mod MappedSteps
-pub mod NamedFlaws
 pub mod NamesKept
 pub mod OtherTokens
 pub mod ScenesTurn
 mod TreeTurns
+pub mod WrittenJson

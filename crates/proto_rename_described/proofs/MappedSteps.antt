@@ -1,15 +1,11 @@
 -- A rename that no case refuses is a mapped step (for the crates above).
-use Rattle.std.proofs.Common.{◌≢◌, ℕ, ◌<◌, ◌≤◌, List, [], length, slice_index_or, refl, subst, inl, inr}
-use Rattle.std.specs.List.{AllPairs, Contains}
-use Rattle.std.specs.Str.{IsUtf8, is_utf8}
-use Rattle.std.proofs.lemmas.Bool.{cases_lt, cases_Bool, both_ways}
-use Rattle.std.proofs.lemmas.Str.{IsUtf8-from_is_utf8, is_utf8-from_IsUtf8}
+use Rattle.std.proofs.Common.{◌≢◌, ℕ, ◌<◌, List, [], length, slice_index_or, refl, subst, inl}
+use Rattle.std.specs.List.{AllPairs}
 use Rattle.std.proofs.lemmas.List.Elements.{Contains-get_or}
-use Rattle.proto_faults.specs.declared.fault.FaultKind.TheVariants as kind
-use Rattle.proto_files.specs.Faults.{FaultAt, HasNoFault}
+use Rattle.proto_files.specs.Faults.{FaultAt}
 use Rattle.proto_files.specs.FilesRead.{ReadOf, AreRead, read_at}
 use Rattle.proto_files.specs.GivenFiles.{FileOf, file_at}
-use Rattle.proto_files.specs.ReadFaults.{IsText, ReadFaults}
+use Rattle.proto_files.specs.ReadFaults.{IsText}
 use Rattle.proto_files.specs.WorkspacePaths.{IsBefore}
 use Rattle.proto_files.proofs.PathOrder.{never_before_itself}
 use Rattle.proto_schema.specs.Whole.{FileFaults, of_read, of_link, of_check}
@@ -20,58 +16,39 @@ use Rattle.proto_rename_laws.specs.Cases.{RenameCase}
 use Rattle.proto_rename_laws.specs.Changes.{changes_of_words}
 use Rattle.proto_rename_laws.specs.ChangesEntry.{IsPutIn}
 use Rattle.proto_rename_laws.specs.Rewording.{AreReworded}
-use Rattle.proto_rename_laws.specs.Roles.{HasFieldRoles, TokensHaveRoles}
 use Rattle.proto_rename_laws.specs.Targets.{Target, IsNamed, renamed_words}
 use Rattle.proto_rename_laws.proofs.Inside.{tokens_are_inside}
 use Rattle.proto_rename_laws.proofs.ChangesEntry.{changes_are_entry, texts_after}
 use Rattle.proto_rename_laws.proofs.ChangesPut.{changes_are_put}
+use Rattle.proto_rename_described.proofs.CleanFiles.{file_is_text}
 use Rattle.proto_rename_laws.proofs.NoLinkFault.{read_files_are_clean}
 use Rattle.proto_rename_laws.proofs.Rewording.{files_are_reworded}
 use Rattle.proto_rename_laws.proofs.TargetThere.{targets_are_there}
-use Rattle.proto_rename_described.specs.Allowed.{DefaultsFit, IsAllowed}
+use Rattle.proto_rename_described.specs.Allowed.{IsAllowed}
 use Rattle.proto_rename_described.specs.MappedSteps.{AdmissibleRenamesStep, RenamesAreSteps}
 use Rattle.proto_rename_described.specs.Workspaces.{AreCompiled, IsAdmissible, IsMappedStep, rename}
-use Rattle.proto_rename_described.proofs.Allowed.{renames_leave_no_fault, words_suit}
-use Rattle.proto_rename_described.proofs.DefaultWords.{default_words_give_roles, default_words_suffice}
+use Rattle.proto_rename_described.proofs.Allowed.{words_suit}
+use Rattle.proto_rename_described.proofs.DefaultsFit.{renames_leave_no_fault}
 use Rattle.proto_rename_described.proofs.FilesTurn.{renames_are_mapped}
-
--- ---- files without a fault are texts
-
-module _ (files : List FileOf) (clean : HasNoFault (ReadFaults files)) (f : FileOf) (c : Contains files f) where
-  short : length f.bytes ≤ 1048576
-  short = elim (cases_lt 1048576 (length f.bytes)) [
-    | inl lt ↦ absurd (clean (record { path = f.path; offset = 0; kind = kind.TooLarge }) (inl (f, c, refl, (refl, lt))))
-    | inr le ↦ le
-  ]
-
-  utf8 : IsUtf8 f.bytes
-  utf8 = elim (cases_Bool (is_utf8 f.bytes)) [
-    | inl t ↦ IsUtf8-from_is_utf8 f.bytes t
-    | inr t ↦ absurd (clean (record { path = f.path; offset = 0; kind = kind.NotUtf8 }) (inl (f, c, refl, (refl, short, λ h. both_ways (is_utf8 f.bytes) t (is_utf8-from_IsUtf8 f.bytes h)))))
-  ]
-
-  file_is_text : IsText f.bytes
-  file_is_text = record { short = short; utf8 = utf8 }
 
 -- ---- the step
 
-allowed_by : (files : List FileOf) (reads : List ReadOf) (name to : List ℕ) (t : Target) → AreCompiled files → AreRead files reads → IsNamed files reads name t → IsAdmissible files (rename name to) → TokensHaveRoles files reads t to → IsAllowed files reads name to t
-allowed_by files reads name to t compiled read named admissible roles = record {
+allowed_by : (files : List FileOf) (reads : List ReadOf) (name to : List ℕ) (t : Target) → AreCompiled files → AreRead files reads → IsNamed files reads name t → IsAdmissible files (rename name to) → IsAllowed files reads name to t
+allowed_by files reads name to t compiled read named admissible = record {
   read = read;
   link = λ x h. compiled.clean x (of_link x h);
   checks = λ x h. compiled.clean x (of_check x h);
   named = named;
   admissible = λ n c. admissible n (reads, read, c);
-  roles = roles.tokens;
 }
 
 module _ (files : List FileOf) (reads : List ReadOf) (name to : List ℕ) (t : Target) (after : List FileOf) (seen : List ReadOf) (compiled : AreCompiled files) (read : AreRead files reads)
-    (named : IsNamed files reads name t) (admissible : IsAdmissible files (rename name to)) (roles : TokensHaveRoles files reads t to) (w : AreReworded (renamed_words files reads t to) files reads after seen) where
+    (named : IsNamed files reads name t) (admissible : IsAdmissible files (rename name to)) (w : AreReworded (renamed_words files reads t to) files reads after seen) where
   no_case : (n : ℕ) → RenameCase files reads name to n → ⊥
   no_case n c = admissible n (reads, read, c)
 
   allowed : IsAllowed files reads name to t
-  allowed = allowed_by files reads name to t compiled read named admissible roles
+  allowed = allowed_by files reads name to t compiled read named admissible
 
   texts : (k : ℕ) → k < length files → IsText (file_at files k).bytes
   texts k l = file_is_text files (λ x h. compiled.clean x (of_read x h)) (file_at files k) (Contains-get_or files k (record { path = []; bytes = [] }) l)
@@ -85,16 +62,10 @@ module _ (files : List FileOf) (reads : List ReadOf) (name to : List ℕ) (t : T
   put : IsPut files (changes_of_words (renamed_words files reads t to) files reads) after
   put = changes_are_put (renamed_words files reads t to) files reads after seen read w apart
 
-  fit : DefaultsFit after seen
-  fit = default_words_suffice files reads name to t after seen allowed w roles.enums roles.defaults
-
-  fields : HasFieldRoles files reads t to after seen
-  fields = default_words_give_roles files reads name to t after seen allowed w roles.defaults
-
   no_fault : (x : FaultAt) → FileFaults after x → ⊥
   no_fault x (of_read y h) = read_files_are_clean after seen w.read (texts_after files reads name to t after seen put_in) x h
-  no_fault x (of_link y h) = (renames_leave_no_fault files reads name to t after seen allowed w fit).0 x h
-  no_fault x (of_check y h) = (renames_leave_no_fault files reads name to t after seen allowed w fit).1 x h
+  no_fault x (of_link y h) = (renames_leave_no_fault files reads name to t after seen allowed w).0 x h
+  no_fault x (of_check y h) = (renames_leave_no_fault files reads name to t after seen allowed w).1 x h
 
   inside : (t.token.file < length files) × (t.token.token < length (read_at reads t.token.file).tokens)
   inside = tokens_are_inside files reads read t.token (inl (t.aim, named.within, (t.above, inl named.path)))
@@ -106,20 +77,19 @@ module _ (files : List FileOf) (reads : List ReadOf) (name to : List ℕ) (t : T
   mapped_step = record {
     step = record { admissible = admissible; changes = (reads, read, (t, named, refl)); put = put };
     compiled = record { workspace = puts_keep_paths files after (changes_of_words (renamed_words files reads t to) files reads) compiled.workspace put; clean = no_fault };
-    described = renames_are_mapped files reads name to t after seen allowed w fields;
+    described = renames_are_mapped files reads name to t after seen allowed w;
   }
 
 pub renames_are_steps : RenamesAreSteps
-renames_are_steps files reads name to t after seen compiled read named admissible roles w = (
-  mapped_step files reads name to t after seen compiled read named admissible roles w,
-  entry files reads name to t after seen compiled read named admissible roles w,
+renames_are_steps files reads name to t after seen compiled read named admissible w = (
+  mapped_step files reads name to t after seen compiled read named admissible w,
+  entry files reads name to t after seen compiled read named admissible w,
 )
 
 pub admissible_renames_step : AdmissibleRenamesStep
-admissible_renames_step files reads name to compiled read admissible roles =
+admissible_renames_step files reads name to compiled read admissible =
     let there = targets_are_there files reads name to read (λ c. admissible 1 (reads, read, c)) (λ c. admissible 2 (reads, read, c)) in
     let t = there.0 in
-    let have = roles t there.1 in
-    let made = files_are_reworded (renamed_words files reads t to) files reads read (words_suit files reads name to t (allowed_by files reads name to t compiled read there.1 admissible have)) in
-    let step = renames_are_steps files reads name to t made.0 made.1 compiled read there.1 admissible have made.2 in
+    let made = files_are_reworded (renamed_words files reads t to) files reads read (words_suit files reads name to t (allowed_by files reads name to t compiled read there.1 admissible)) in
+    let step = renames_are_steps files reads name to t made.0 made.1 compiled read there.1 admissible made.2 in
     (changes_of_words (renamed_words files reads t to) files reads, made.0, step.0, step.1)

@@ -1,13 +1,11 @@
 -- The names of a renamed scene are turned, and its references mean what they meant under the name map (for the crates above).
-use Rattle.std.proofs.Common.{◌≡◌, ◌≢◌, ℕ, suc, ◌+◌, ◌<◌, ◌==◌, Bool, List, [], ◌∷◌, ◌++◌, length, map, slice_index_or, Option, Some, None, option_map, refl, sym, ap, subst, ◌∙◌, inl, inr, arith}
+use Rattle.std.proofs.Common.{◌≡◌, ◌≢◌, ℕ, suc, ◌<◌, ◌==◌, Bool, List, [], ◌∷◌, ◌++◌, length, map, Option, Some, None, option_map, refl, sym, ap, subst, ◌∙◌, inl, inr, arith}
 use Rattle.std.specs.List.{Contains, find}
 use Rattle.std.proofs.lemmas.List.Elements.{Contains-append_cases}
 use Rattle.proto_case.specs.Camel.{entry_name}
 use Rattle.proto_case.proofs.EntryNames.{entry_differs}
-use Rattle.proto_text.proofs.OneEdit.{length_map}
 use Rattle.proto_text.proofs.Lists.{contains_map, from_map}
 use Rattle.proto_tree.specs.declared.tree.Reference.{Reference}
-use Rattle.proto_tree.specs.Tree.{End}
 use Rattle.proto_tree.specs.References.{first_of}
 use Rattle.proto_files.specs.GivenFiles.{FileOf}
 use Rattle.proto_files.specs.FilesRead.{ReadOf, read_at}
@@ -28,8 +26,8 @@ use Rattle.proto_parts.specs.Scenes.{MeantOf, meant_by}
 use Rattle.proto_scenes.specs.SceneOf.{meaning_of, meant_as, scene_of}
 use Rattle.proto_rename_laws.proofs.PlainNames.{name_in, names_are_plain}
 use Rattle.proto_rename_laws.specs.Scenes.{IsRename}
-use Rattle.proto_rename_laws.proofs.Declarations.{declared_there}
-use Rattle.proto_rename_laws.proofs.Scenes.{find_agree, find_there, index_map, meaning_after, used_here, uses_stay}
+use Rattle.proto_rename_roles.proofs.TokenRoles.{placed_declared}
+use Rattle.proto_rename_laws.proofs.Scenes.{find_agree, find_there, meaning_after, used_here, uses_stay}
 use Rattle.proto_rename_laws.specs.Rewording.{NewWords}
 use Rattle.proto_rename_described.specs.Mapped.{word_under}
 use Rattle.proto_rename_described.specs.ScenesTurn.{NamesTurn, MeaningsTurn}
@@ -67,12 +65,7 @@ module _ (files : List FileOf) (reads : List ReadOf) (c : NewWords) (after : Lis
 
     -- what the file declares is declared
     pub there : (p : Placed) → Contains (file_placed (items_in (read_at reads file).tree)) p → Contains (link_skeleton files reads).declared (shifted_declared (at file) (declared_of file p))
-    there p cp =
-        let lr : file < length reads = omega (arith, l, r.read.same) in
-        let n = names_in (read_at reads file) in
-        let at_f : slice_index_or (map names_in reads) file n ≡ n = index_map names_in reads (record { tokens = []; tree = End }) n file lr in
-        let e0 : 0 + file ≡ file = omega arith in
-        subst (λ m. Contains (link_skeleton files reads).declared (shifted_declared (at m) (declared_of m p))) e0 (declared_there 0 (map names_in reads) file n p (omega (arith, lr, length_map names_in reads)) at_f cp)
+    there p cp = placed_declared files reads r.read file (omega (arith, l, r.read.same)) p cp
 
     pub word_turns : (p : Placed) → Contains (file_placed (items_in (read_at reads file).tree)) p
         → spell (λ i. text_of after seen (at file i)) entry_name p.last ≡ word_under e (name_of (λ i. text_of files reads (at file i)) entry_name p.above) (spell (λ i. text_of files reads (at file i)) entry_name p.last)

@@ -13,7 +13,6 @@ use Rattle.proto_scenes.specs.SceneOf.{scene_of}
 use Rattle.proto_desc.specs.Checked.{CheckFaults}
 use Rattle.proto_rename_laws.specs.Cases.{RenameCase}
 use Rattle.proto_rename_laws.specs.Rewording.{AreReworded}
-use Rattle.proto_rename_laws.specs.Roles.{HasRoles}
 use Rattle.proto_rename_laws.specs.Targets.{Target, IsNamed, renamed_words}
 
 -- files without a fault, and the rename of a symbol of theirs that no case refuses
@@ -23,14 +22,13 @@ pub record IsAllowed (files : List FileOf) (reads : List ReadOf) (name to : List
   pub checks : HasNoFault (CheckFaults files)
   pub named : IsNamed files reads name t
   pub admissible : (n : ℕ) → RenameCase files reads name to n → ⊥
-  pub roles : HasRoles files reads t to
 
--- no default is wrong afterwards (that those that mean the value go with it is a law of their own)
+-- no default is wrong afterwards
 abbrev pub DefaultsFit : List FileOf → List ReadOf → Type 0
 DefaultsFit after seen = (file : ℕ) (b : BlockOf) (h : Heading) (f : FieldOf) → file < length after → Contains (blocks_in (read_at seen file).tree) b → b.header ≡ header.Message h → Contains (fields_in b.within) f → default_flaws (scene_of None after seen file) f ≡ []
 
--- Where the defaults fit, no fault of links and checks comes in.
+-- No fault of links and checks comes in.
 abbrev pub RenamesLeaveNoFault : Type 0
 RenamesLeaveNoFault = (files : List FileOf) (reads : List ReadOf) (name to : List ℕ) (t : Target) (after : List FileOf) (seen : List ReadOf)
-    → IsAllowed files reads name to t → AreReworded (renamed_words files reads t to) files reads after seen → DefaultsFit after seen
+    → IsAllowed files reads name to t → AreReworded (renamed_words files reads t to) files reads after seen
     → HasNoFault (LinkFaults after) × HasNoFault (CheckFaults after)

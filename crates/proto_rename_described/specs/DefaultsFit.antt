@@ -2,12 +2,17 @@
 use Rattle.std.specs.Prelude.{ℕ, List}
 use Rattle.proto_files.specs.GivenFiles.{FileOf}
 use Rattle.proto_files.specs.FilesRead.{ReadOf}
-use Rattle.proto_rename_laws.specs.Roles.{HasEnumRoles, HasFieldRoles}
+use Rattle.proto_rename_laws.specs.Roles.{HasFieldRoles}
 use Rattle.proto_rename_laws.specs.Rewording.{AreReworded}
 use Rattle.proto_rename_laws.specs.Targets.{Target, renamed_words}
 use Rattle.proto_rename_described.specs.Allowed.{DefaultsFit, IsAllowed}
 
--- From the roles of the tokens of enums and of fields.
+-- Each field keeps its label, type and numbers, and its defaults go with the value that they mean.
+abbrev pub FieldsHaveRoles : Type 0
+FieldsHaveRoles = (files : List FileOf) (reads : List ReadOf) (name to : List ℕ) (t : Target) (after : List FileOf) (seen : List ReadOf)
+    → IsAllowed files reads name to t → AreReworded (renamed_words files reads t to) files reads after seen → HasFieldRoles files reads t to after seen
+
+-- So no default is wrong.
 abbrev pub AllDefaultsFit : Type 0
 AllDefaultsFit = (files : List FileOf) (reads : List ReadOf) (name to : List ℕ) (t : Target) (after : List FileOf) (seen : List ReadOf)
-    → IsAllowed files reads name to t → AreReworded (renamed_words files reads t to) files reads after seen → HasEnumRoles files reads t → HasFieldRoles files reads t to after seen → DefaultsFit after seen
+    → IsAllowed files reads name to t → AreReworded (renamed_words files reads t to) files reads after seen → DefaultsFit after seen

@@ -1,14 +1,14 @@
 pub mod Allowed
-pub mod DefaultWords
+pub mod CleanFiles
 pub mod DefaultsFit
 pub mod DefaultsKept
 pub mod EnumDefaults
 pub mod FilesTurn
 pub mod Mapped
 pub mod MappedSteps
-pub mod NamedFlaws
 pub mod NamesKept
 pub mod OtherTokens
 pub mod ScenesTurn
 pub mod Turns
 pub mod Workspaces
+pub mod WrittenJson

@@ -1,23 +1,17 @@
 //! The laws, as functions that do nothing.
 
 ghost use Rattle.proto_rename_described.specs.Allowed.{RenamesLeaveNoFault};
-ghost use Rattle.proto_rename_described.specs.DefaultWords.{DefaultWordsGiveRoles, DefaultWordsSuffice};
-ghost use Rattle.proto_rename_described.specs.DefaultsFit.{AllDefaultsFit};
+ghost use Rattle.proto_rename_described.specs.CleanFiles.{CleanFilesAreRead, CompiledFilesAreRead};
+ghost use Rattle.proto_rename_described.specs.DefaultsFit.{AllDefaultsFit, FieldsHaveRoles};
 ghost use Rattle.proto_rename_described.specs.DefaultsKept.{DefaultsStayValues};
 ghost use Rattle.proto_rename_described.specs.EnumDefaults.{EnumDefaultsFit};
 ghost use Rattle.proto_rename_described.specs.FilesTurn.{AllAreMapped, FilesTurn, RenamesAreMapped};
 ghost use Rattle.proto_rename_described.specs.MappedSteps.{AdmissibleRenamesStep, RenamesAreSteps};
-ghost use Rattle.proto_rename_described.specs.NamedFlaws.{FlawsOfNames, NoFlawComesIn};
 ghost use Rattle.proto_rename_described.specs.NamesKept.{JsonNamesStay, ReservedNamesStay};
 ghost use Rattle.proto_rename_described.specs.OtherTokens.{LabelsAndScalarsStay, OtherTokensStay};
 ghost use Rattle.proto_rename_described.specs.ScenesTurn.{MeaningsTurn, NamesTurn};
 ghost use Rattle.proto_rename_described.specs.Turns.{DescriptorsAreMapped};
-
-/// The flaws that names decide are those of a file's blocks: of defaults, of reserved names and of JSON names.
-pub fn flaws_of_names()
-    ensures all { FlawsOfNames }
-    ensures none { NoFlawComesIn }
-{}
+ghost use Rattle.proto_rename_described.specs.WrittenJson.{JsonIsWrittenOnce, JsonIsWrittenOrNot};
 
 /// Reserved names and JSON names have no flaw after a rename that cases 8 and 9 don't refuse.
 pub fn names_are_kept()
@@ -41,15 +35,11 @@ pub fn other_tokens_stay()
     ensures tokens { OtherTokensStay }
 {}
 
-/// No default is wrong after a rename.
+/// Each field keeps its label, type and numbers after a rename, and its defaults go with the value that they mean. So no
+/// default is wrong.
 pub fn all_defaults_fit()
-    ensures { AllDefaultsFit }
-{}
-
-/// No default is wrong after a rename, from what is known of the words of defaults.
-pub fn default_words_suffice()
-    ensures roles { DefaultWordsGiveRoles }
-    ensures fit { DefaultWordsSuffice }
+    ensures fields { FieldsHaveRoles }
+    ensures fit { AllDefaultsFit }
 {}
 
 /// An allowed rename of files without a fault of links and checks leaves files without one.
@@ -68,11 +58,23 @@ pub fn descriptors_are_mapped()
     ensures { DescriptorsAreMapped }
 {}
 
+/// Whether the field that is renamed has a written JSON name has one answer.
+pub fn written_json_is_one()
+    ensures there { JsonIsWrittenOrNot }
+    ensures one { JsonIsWrittenOnce }
+{}
+
 /// Each file of an allowed rename turns, so its descriptors are the old ones under the name map.
 pub fn files_turn()
     ensures each { FilesTurn }
     ensures described { AllAreMapped }
     ensures mapped { RenamesAreMapped }
+{}
+
+/// Files whose texts and grammar have no fault have tokens and trees, and so have files that compile.
+pub fn compiled_files_are_read()
+    ensures clean { CleanFilesAreRead }
+    ensures compiled { CompiledFilesAreRead }
 {}
 
 /// A rename that no case refuses is a mapped step: the changes of its words are an entry, and the files with them compile to

@@ -19,6 +19,7 @@ use Rattle.proto_files.specs.FilesRead.{ReadOf, read_at}
 use Rattle.proto_meaning.specs.Grown.{At, at}
 use Rattle.proto_imports.specs.Links.{text_of, link_skeleton}
 use Rattle.proto_entries.specs.Entries.{AreRising, BeginsBefore, IsChange, IsMeasured, ChangeOf}
+use Rattle.proto_entries.proofs.ShortPuts.{puts_are_short}
 use Rattle.proto_rename_laws.specs.Cases.{same_name, too_large}
 use Rattle.proto_rename_laws.specs.ChangesEntry.{ChangesAreEntry, IsPutIn, TextsAfter}
 use Rattle.proto_rename_laws.specs.Rewording.{in_file, NewWords}
@@ -27,7 +28,6 @@ use Rattle.proto_rename_laws.specs.Places.{change_at, same_at, standing}
 use Rattle.proto_rename_laws.specs.Changes.{change_by, changes_from, spliced_length}
 use Rattle.proto_rename_laws.specs.Targets.{Target, name_map, renamed_words}
 use Rattle.proto_rename_laws.proofs.ChangesPut.{edits_at, from_changes, is_by, to_changes}
-use Rattle.proto_rename_laws.proofs.ShortPuts.{puts_are_short}
 use Rattle.proto_rename_laws.proofs.OldTexts.{old_texts}
 use Rattle.proto_rename_laws.proofs.Places.{listed}
 

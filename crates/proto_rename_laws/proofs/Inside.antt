@@ -8,18 +8,20 @@ use Rattle.proto_text.specs.Texts.{word_at, words}
 use Rattle.proto_text.specs.Tokens.{Lexeme, lexeme_at}
 use Rattle.proto_text.proofs.Lists.{contains_cases, from_map}
 use Rattle.proto_text.proofs.OneEdit.{length_map}
-use Rattle.proto_files.specs.FilesRead.{ReadOf, AreRead, read_at}
+use Rattle.proto_files.specs.FilesRead.{ReadOf, read_at}
 use Rattle.proto_files.specs.GivenFiles.{FileOf, file_at}
 use Rattle.proto_meaning.specs.Grown.{At, at, all_used, file_used, used_in}
 use Rattle.proto_meaning.specs.Joined.{IsPlain, ArePlain}
 use Rattle.proto_meaning.specs.Skeleton.{Source, Token, EntryOf, Given, Declared, Used, shifted_source}
+use Rattle.proto_meaning.specs.Tree.{Placed, file_placed}
 use Rattle.proto_meaning.proofs.Grown.{snoc_parts}
-use Rattle.proto_listing.specs.FromTree.{file_names}
+use Rattle.proto_listing.specs.FromTree.{file_names, items_in}
 use Rattle.proto_listing.specs.Listing.{whole, last_token}
 use Rattle.proto_listing.proofs.Growing.{token_last, entry_last}
 use Rattle.proto_listing.proofs.ReadTrees.{placed_plain, uses_plain}
-use Rattle.proto_imports.specs.Links.{names_in}
-use Rattle.proto_rename_laws.specs.Inside.{IsInside, TokensAreInside}
+use Rattle.proto_imports.specs.Links.{link_skeleton, names_in}
+use Rattle.proto_rename_laws.specs.Inside.{TargetsAreInside, TokensAreInside}
+use Rattle.proto_rename_laws.specs.Places.{Names, Uses}
 use Rattle.proto_rename_laws.proofs.Declarations.{IsDeclaredBy, declared_by, path_of}
 
 -- ---- a token with a word is there
@@ -41,14 +43,14 @@ each_plain text (x ∷ ts) h t c = elim (contains_cases x t ts c) [ inl e ↦ su
 
 -- ---- references by their files
 
-record IsUsedBy (n : ℕ) (rs : List ReadOf) (u : Used At) : Type 0 where
-  k : ℕ
-  inside : k < length rs
-  v : Used ℕ
-  within : Contains (file_names (read_at rs k).tree).used v
-  is : used_in (n + k) v ≡ u
+pub record IsUsedBy (n : ℕ) (rs : List ReadOf) (u : Used At) : Type 0 where
+  pub k : ℕ
+  pub inside : k < length rs
+  pub v : Used ℕ
+  pub within : Contains (file_names (read_at rs k).tree).used v
+  pub is : used_in (n + k) v ≡ u
 
-used_by : (n : ℕ) (rs : List ReadOf) (u : Used At) → Contains (all_used n (map names_in rs)) u → IsUsedBy n rs u
+pub used_by : (n : ℕ) (rs : List ReadOf) (u : Used At) → Contains (all_used n (map names_in rs)) u → IsUsedBy n rs u
 used_by n [] u c = absurd (omega (arith, c.1))
 used_by n (r ∷ rs) u c = elim (Contains-append_cases (file_used n (names_in r)) (all_used (suc n) (map names_in rs)) u c) [
   | inl a ↦
@@ -62,7 +64,21 @@ used_by n (r ∷ rs) u c = elim (Contains-append_cases (file_used n (names_in r)
       record { k = suc o.k; inside = omega (arith, l); v = o.v; within = o.within; is = subst (λ m. used_in m o.v ≡ u) e o.is }
 ]
 
--- ---- both
+-- ---- tokens by their files
+
+-- the token names a declaration of its file, or the map field of an entry
+pub record IsNameOf (reads : List ReadOf) (i : At) : Type 0 where
+  pub inside : i.file < length reads
+  pub p : Placed
+  pub within : Contains (file_placed (items_in (read_at reads i.file).tree)) p
+  pub last : last_token (whole p) ≡ Some i.token
+
+-- the token is a word of a reference of its file
+pub record IsWordOf (reads : List ReadOf) (i : At) : Type 0 where
+  pub inside : i.file < length reads
+  pub v : Used ℕ
+  pub within : Contains (file_names (read_at reads i.file).tree).used v
+  pub word : Contains v.tokens i.token
 
 same_token : (i j : At) → ◌≡◌ {A = Source At} (Token i) (Token j) → i ≡ j
 same_token i j e = cc
@@ -82,43 +98,47 @@ not_given w i e = cc
 given_no_entry : (w : List ℕ) (i : At) → ◌≡◌ {A = Source At} (Given w) (EntryOf i) → ⊥
 given_no_entry w i e = cc
 
-module _ (files : List FileOf) (reads : List ReadOf) (r : AreRead files reads) where
-  here : (k t : ℕ) → k < length reads → IsPlain (words (file_at files k).bytes (read_at reads k).tokens t) → IsInside files reads (at (0 + k) t)
-  here k t l p =
-      let same = r.same in
-      let e : k ≡ 0 + k = omega arith in
-      subst (λ m. IsInside files reads (at m t)) e (omega (arith, l, same), plain_inside (file_at files k).bytes (read_at reads k).tokens t p)
+module _ (reads : List ReadOf) where
+  -- a declaration's last token, where it has this index
+  named_here : (d : Declared At) (o : IsDeclaredBy 0 reads d) (t : ℕ) (i : At) → last_token (whole o.p) ≡ Some t → at (0 + o.k) t ≡ i → IsNameOf reads i
+  named_here d o t i last e =
+      let zero_is : o.k ≡ 0 + o.k = omega arith in
+      subst (IsNameOf reads) (ap (λ m. at m t) zero_is ∙ e) (record { inside = o.inside; p = o.p; within = o.within; last = last })
 
-  named_here : (d : Declared At) (o : IsDeclaredBy 0 reads d) (t : ℕ) → last_token (whole o.p) ≡ Some t → IsInside files reads (at (0 + o.k) t)
-  named_here d o t e =
-      let l = o.inside in
-      let same = r.same in
-      here o.k t l (placed_plain (file_at files o.k).bytes (read_at reads o.k).tokens (read_at reads o.k).tree (r.trees o.k (omega (arith, l, same))) o.p o.within t e)
-
-  by_token : (d : Declared At) (o : IsDeclaredBy 0 reads d) (i : At) (s : Source ℕ) → o.p.last ≡ s → shifted_source (at (0 + o.k)) s ≡ Token i → IsInside files reads i
-  by_token d o i (Token t) q e = subst (IsInside files reads) (same_token (at (0 + o.k) t) i e) (named_here d o t (ap (λ z. last_token (o.p.above ++ z ∷ [])) q ∙ token_last o.p.above t))
+  by_token : (d : Declared At) (o : IsDeclaredBy 0 reads d) (i : At) (s : Source ℕ) → o.p.last ≡ s → shifted_source (at (0 + o.k)) s ≡ Token i → IsNameOf reads i
+  by_token d o i (Token t) q e = named_here d o t i (ap (λ z. last_token (o.p.above ++ z ∷ [])) q ∙ token_last o.p.above t) (same_token (at (0 + o.k) t) i e)
   by_token d o i (EntryOf t) q e = absurd (no_token (at (0 + o.k) t) i e)
   by_token d o i (Given w) q e = absurd (not_given w i e)
 
-  by_entry : (d : Declared At) (o : IsDeclaredBy 0 reads d) (i : At) (s : Source ℕ) → o.p.last ≡ s → shifted_source (at (0 + o.k)) s ≡ EntryOf i → IsInside files reads i
+  by_entry : (d : Declared At) (o : IsDeclaredBy 0 reads d) (i : At) (s : Source ℕ) → o.p.last ≡ s → shifted_source (at (0 + o.k)) s ≡ EntryOf i → IsNameOf reads i
   by_entry d o i (Token t) q e = absurd (no_entry (at (0 + o.k) t) i e)
-  by_entry d o i (EntryOf t) q e = subst (IsInside files reads) (same_entry (at (0 + o.k) t) i e) (named_here d o t (ap (λ z. last_token (o.p.above ++ z ∷ [])) q ∙ entry_last o.p.above t))
+  by_entry d o i (EntryOf t) q e = named_here d o t i (ap (λ z. last_token (o.p.above ++ z ∷ [])) q ∙ entry_last o.p.above t) (same_entry (at (0 + o.k) t) i e)
   by_entry d o i (Given w) q e = absurd (given_no_entry w i e)
 
   last_of : (d : Declared At) (o : IsDeclaredBy 0 reads d) (above : List (Source At)) (x : Source At) → d.path ≡ above ++ x ∷ [] → shifted_source (at (0 + o.k)) o.p.last ≡ x
   last_of d o above x path = (snoc_parts (map (shifted_source (at (0 + o.k))) o.p.above) above (shifted_source (at (0 + o.k)) o.p.last) x (sym (path_of 0 reads d o) ∙ path)).1
 
-pub tokens_are_inside : TokensAreInside
-tokens_are_inside files reads r i (inl (d, cd, (above, inl path))) =
-    let o = declared_by 0 reads d cd in
-    by_token files reads r d o i o.p.last refl (last_of files reads r d o above (Token i) path)
-tokens_are_inside files reads r i (inl (d, cd, (above, inr path))) =
-    let o = declared_by 0 reads d cd in
-    by_entry files reads r d o i o.p.last refl (last_of files reads r d o above (EntryOf i) path)
-tokens_are_inside files reads r i (inr (u, cu, ci)) =
+pub name_of_file : (files : List FileOf) (reads : List ReadOf) (i : At) → Names (link_skeleton files reads) i → IsNameOf reads i
+name_of_file files reads i (d, cd, (above, inl path)) = let o = declared_by 0 reads d cd in by_token reads d o i o.p.last refl (last_of reads d o above (Token i) path)
+name_of_file files reads i (d, cd, (above, inr path)) = let o = declared_by 0 reads d cd in by_entry reads d o i o.p.last refl (last_of reads d o above (EntryOf i) path)
+
+pub word_of_file : (files : List FileOf) (reads : List ReadOf) (i : At) → Uses (link_skeleton files reads) i → IsWordOf reads i
+word_of_file files reads i (u, cu, ci) =
     let o = used_by 0 reads u cu in
-    let l = o.inside in
-    let same = r.same in
     let t = from_map (at (0 + o.k)) o.v.tokens i (subst (λ (z : Used At). Contains z.tokens i) (sym o.is) ci) in
-    let plain = uses_plain (file_at files o.k).bytes (read_at reads o.k).tokens (read_at reads o.k).tree (r.trees o.k (omega (arith, l, same))) o.v o.within in
-    subst (IsInside files reads) t.2 (here files reads r o.k t.0 l (each_plain (words (file_at files o.k).bytes (read_at reads o.k).tokens) o.v.tokens plain.0 t.0 t.1))
+    let zero_is : o.k ≡ 0 + o.k = omega arith in
+    subst (IsWordOf reads) (ap (λ m. at m t.0) zero_is ∙ t.2) (record { inside = o.inside; v = o.v; within = o.within; word = t.1 })
+
+pub tokens_are_inside : TokensAreInside
+tokens_are_inside files reads r i (inl n) =
+    let o = name_of_file files reads i n in
+    let l : i.file < length files = (let k = o.inside in let same = r.same in omega (arith, k, same)) in
+    (l, plain_inside (file_at files i.file).bytes (read_at reads i.file).tokens i.token (placed_plain (file_at files i.file).bytes (read_at reads i.file).tokens (read_at reads i.file).tree (r.trees i.file l) o.p o.within i.token o.last))
+tokens_are_inside files reads r i (inr u) =
+    let o = word_of_file files reads i u in
+    let l : i.file < length files = (let k = o.inside in let same = r.same in omega (arith, k, same)) in
+    let plain = uses_plain (file_at files i.file).bytes (read_at reads i.file).tokens (read_at reads i.file).tree (r.trees i.file l) o.v o.within in
+    (l, plain_inside (file_at files i.file).bytes (read_at reads i.file).tokens i.token (each_plain (words (file_at files i.file).bytes (read_at reads i.file).tokens) o.v.tokens plain.0 i.token o.word))
+
+pub targets_are_inside : TargetsAreInside
+targets_are_inside files reads name t r named = tokens_are_inside files reads r t.token (inl (t.aim, named.within, (t.above, inl named.path)))

@@ -1,13 +1,14 @@
-mod Blocks
+pub mod Blocks
 pub mod Captures
 pub mod ChangesEntry
 pub mod ChangesPut
 pub mod Declarations
+pub mod DefaultTokens
 mod EnumsOfValues
+pub mod FirstPlaces
 pub mod Inside
 pub mod NoLinkFault
 pub mod OldTexts
-pub mod OneField
 pub mod OneTarget
 pub mod Places
 pub mod PlacesSuit
@@ -15,5 +16,4 @@ pub mod PlainNames
 pub mod Rewording
 pub mod Scenes
 mod Scopes
-pub mod ShortPuts
 pub mod TargetThere

@@ -40,7 +40,7 @@ place_last x (EntryOf t ∷ above) i = place_last t above i
 place_last x (Given w ∷ above) i = place_last x above i
 
 -- the name of an enum's block
-enum_name : (token : ℕ) (h : Header) → is_enum_at token h ≡ true → (n : ℕ) × (n ≡ token) × ((other : ℕ) → is_enum_at other h ≡ true → n ≡ other)
+pub enum_name : (token : ℕ) (h : Header) → is_enum_at token h ≡ true → (n : ℕ) × (n ≡ token) × ((other : ℕ) → is_enum_at other h ≡ true → n ≡ other)
 enum_name token (header.Enum h) e = (h.name, eqb-true h.name token e, λ other q. eqb-true h.name other q)
 enum_name token (header.Message h) e = absurd cc
 enum_name token (header.Oneof h) e = absurd cc
@@ -49,7 +49,7 @@ enum_name token (header.Method s) e = absurd cc
 
 module _ (files : List FileOf) (reads : List ReadOf) (r : AreRead files reads) (ok : IsLinked (names_of_files files reads)) where
   -- two declarations of one name are one, or packages
-  one_declared : (s t : Declared At) → Contains (link_skeleton files reads).declared s → Contains (link_skeleton files reads).declared t → name_of (text_of files reads) entry_name s.path ≡ name_of (text_of files reads) entry_name t.path → (s ≡ t) ⊎ ((s.kind ≡ Package) × (t.kind ≡ Package))
+  pub one_declared : (s t : Declared At) → Contains (link_skeleton files reads).declared s → Contains (link_skeleton files reads).declared t → name_of (text_of files reads) entry_name s.path ≡ name_of (text_of files reads) entry_name t.path → (s ≡ t) ⊎ ((s.kind ≡ Package) × (t.kind ≡ Package))
   one_declared s t cs ct h = elim (cases_order cs.0 ct.0) [
     | inl same ↦ inl (sym cs.2 ∙ get_or_default (link_skeleton files reads).declared cs.0 s t cs.1 ∙ ap (λ i. get_or (link_skeleton files reads).declared i t) same ∙ ct.2)
     | inr (inl below) ↦ (let p = apart cs.0 ct.0 s t s below cs.1 ct.1 cs.2 (get_or_default (link_skeleton files reads).declared ct.0 s t ct.1 ∙ ct.2) h in inr (p.0, p.1))

@@ -4,6 +4,7 @@ pub mod Changes
 pub mod ChangesEntry
 pub mod ChangesPut
 pub mod Defaults
+pub mod FirstPlaces
 pub mod Inside
 pub mod NoLinkFault
 pub mod OneTarget
@@ -13,5 +14,4 @@ pub mod Respelling
 pub mod Rewording
 pub mod Roles
 pub mod Scenes
-pub mod ShortPuts
 pub mod Targets

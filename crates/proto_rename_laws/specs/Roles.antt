@@ -1,6 +1,5 @@
--- What the grammar says of the tokens of a tree, as premises: which are names, which are words of references, which are words of defaults, and which are none
--- of these. The laws of renames rest on these premises and prove none of them. Each will follow from the tree alone, once a place of the grammar tells apart
--- a declared name, a word of a reference, the name of an option and a constant; what is to be proved is said at each.
+-- What a rename wants of the tokens of files: which are names, which are words of references, which are words of defaults, and which are none of these.
+-- Linked files have it, since a place of the grammar tells apart a declared name, a word of a reference, the name of an option and a constant.
 use Rattle.std.specs.Prelude.{◌≡◌, ◌≢◌, ◌⊎◌, ℕ, ◌<◌, true, false, List, ◌∷◌, ◌++◌, length, map, Option, Some, None, is_some, if◌then◌else◌, codes}
 use Rattle.std.specs.List.{All, AllPairs, Contains}
 use Rattle.proto_case.specs.Camel.{entry_name}
@@ -35,7 +34,6 @@ use Rattle.proto_rename_laws.specs.Targets.{Target, HasValue, name_map, renamed_
 -- ---- names, words of references, and defaults
 
 -- A token names a declaration, is one word of one reference, or a default, and not two of these.
--- (To be proved: a place wants a name, a word of a reference or a constant, and no two of these; the words of two references lie apart.)
 pub record AreApart (k : Skeleton At) (defaults : List At) : Type 0 where
   pub names_uses : (i : At) → Names k i → Uses k i → ⊥
   pub names_defaults : (i : At) → Names k i → Contains defaults i → ⊥
@@ -43,7 +41,6 @@ pub record AreApart (k : Skeleton At) (defaults : List At) : Type 0 where
   pub once : (u v : Used At) → Contains k.used u → Contains k.used v → (xs ys zs ws : List At) (i : At) → u.tokens ≡ xs ++ i ∷ ys → v.tokens ≡ zs ++ i ∷ ws → (u ≡ v) × (xs ≡ zs)
 
 -- what is wanted where the target is named, where a word of a reference stands, and where a default that means it stands
--- (To be proved: a declared name, a word of a reference and a constant each stand where the tree has a mark that wants one.)
 pub record HasWants (files : List FileOf) (reads : List ReadOf) (t : Target) (to : List ℕ) : Type 0 where
   pub name : (k : ℕ) (m : Mark) → Contains (flat (read_at reads k).tree) m → at k m.at ≡ t.token → (m.want ≡ want.Name) ⊎ ((m.want ≡ want.ValueName) × (t.aim.kind ≡ kind.Value))
   pub uses : (k : ℕ) (m : Mark) → Contains (flat (read_at reads k).tree) m → Uses (link_skeleton files reads) (at k m.at) → (m.want ≡ want.Word) ⊎ (m.want ≡ want.One class.Name)
@@ -51,7 +48,7 @@ pub record HasWants (files : List FileOf) (reads : List ReadOf) (t : Target) (to
 
 -- ---- tokens that checks read
 
--- the numbers of enums' values are not changed (To be proved: a number stands where a number is wanted.)
+-- the numbers of enums' values are not changed
 abbrev pub NumbersStay : NewWords → List ReadOf → Type 0
 NumbersStay c reads = (file : ℕ) (b : BlockOf) (v : Value) → Contains (blocks_in (read_at reads file).tree) b → Contains (values_in b.within) v → c (at file v.number.number) ≡ None
 
@@ -60,27 +57,25 @@ pub record HasRoles (files : List FileOf) (reads : List ReadOf) (t : Target) (to
   pub apart : AreApart (link_skeleton files reads) (renamed_defaults files reads t.enum (name_map files reads t to).old)
   pub wants : HasWants files reads t to
   pub numbers : NumbersStay (renamed_words files reads t to) reads
-  -- (To be proved: a token that checks read stands where a label, a scalar, a number, the name of an option or a constant is wanted.)
+  -- no token is changed that checks read besides names and defaults
   pub asked : (file : ℕ) → file < length files → All (λ i. is_some (renamed_words files reads t to (at file i)) ≡ false) (asked_tokens (scene_of None files reads file) (read_at reads file).tree)
-  -- (To be proved: the name tokens of a message's fields rise.)
+  -- a token names one field of a message
   pub fields : (file : ℕ) (b : BlockOf) → Contains (blocks_in (read_at reads file).tree) b → AllPairs (λ f g. f.name ≢ g.name) (fields_in b.within)
-  -- (To be proved: what stands in a block of a message or an enum is declared, its values beside the enum.)
+  -- what stands in a block is declared
   pub field_names : (file : ℕ) (b : BlockOf) (f : FieldOf) → file < length files → Contains (blocks_in (read_at reads file).tree) b → Contains (fields_in b.within) f → Names (link_skeleton files reads) (at file f.name)
   pub value_names : (file : ℕ) (b : BlockOf) → file < length files → Contains (blocks_in (read_at reads file).tree) b → (i : ℕ) → Contains (map (λ v. v.name) (values_in b.within)) i → Names (link_skeleton files reads) (at file i)
-  -- (To be proved: the name of an option stands where one is wanted.)
+  -- the name of an option is not changed
   pub option_names : (file : ℕ) (b : BlockOf) (f : FieldOf) (o : OptionOf) → Contains (blocks_in (read_at reads file).tree) b → Contains (fields_in b.within) f → Contains f.options o → renamed_words files reads t to (at file o.name) ≡ None
 
 -- ---- values and defaults
 
 -- Values name declarations; the target's enum is the one whose block has it; and no two values of an enum have one name.
--- (To be proved: what stands in a block of an enum is declared beside it, once; full names of linked files are unique.)
 pub record HasEnumRoles (files : List FileOf) (reads : List ReadOf) (t : Target) : Type 0 where
   pub names : (d : Declared At) (v : ℕ) → HasValue files reads d v → Names (link_skeleton files reads) (at (place_of d).file v)
   pub one : (d : Declared At) (v : ℕ) → HasValue files reads d v → at (place_of d).file v ≡ t.token → t.enum ≡ Some (name_of (text_of files reads) entry_name d.path)
   pub apart : (d : Declared At) (v : ℕ) → HasValue files reads d v → t.enum ≡ Some (name_of (text_of files reads) entry_name d.path) → text_of files reads (at (place_of d).file v) ≡ text_of files reads t.token → at (place_of d).file v ≡ t.token
 
 -- Numbers are not changed; a word names and uses nothing, and is a renamed default only as one of this field's.
--- (To be proved: a constant stands where one is wanted; the options of two fields lie apart.)
 pub record HasDefaultWords (files : List FileOf) (reads : List ReadOf) (t : Target) (to : List ℕ) (file : ℕ) (f : FieldOf) : Type 0 where
   pub number : (o : OptionOf) (n : Signed) → Contains f.options o → o.value ≡ constant.Number n → renamed_words files reads t to (at file n.number) ≡ None
   pub no_name : (o : OptionOf) (w : ℕ) → Contains f.options o → o.value ≡ constant.Word w → Names (link_skeleton files reads) (at file w) → ⊥
@@ -89,7 +84,6 @@ pub record HasDefaultWords (files : List FileOf) (reads : List ReadOf) (t : Targ
       → means_value t.enum (text_of files reads t.token) (type_meaning files reads file f.kind) (text_of files reads (at file w)) ≡ true
 
 -- What is not changed of a field and its defaults, and that an enum's default is changed where it means the value.
--- (For fields of messages this is proved from the words of their defaults.)
 pub record HasDefaultRoles (c : NewWords) (text now : At → List ℕ) (means : ℕ → Option (List (List ℕ))) (enum : Option (List (List ℕ))) (old to : List ℕ) (file : ℕ) (f : FieldOf) : Type 0 where
   pub label : (i : ℕ) → f.label ≡ Some i → c (at file i) ≡ None
   pub scalar : (i : ℕ) → f.kind ≡ field_type.Scalar i → c (at file i) ≡ None
@@ -109,7 +103,7 @@ HaveDefaultWords files reads t to = (file : ℕ) (b : BlockOf) (h : Heading) (f 
 
 -- ---- all of it
 
--- all that is taken for granted of the tokens of the files, for a rename of this target
+-- what is wanted of the tokens of the files, for a rename of this target
 pub record TokensHaveRoles (files : List FileOf) (reads : List ReadOf) (t : Target) (to : List ℕ) : Type 0 where
   pub tokens : HasRoles files reads t to
   pub enums : HasEnumRoles files reads t

@@ -3,14 +3,16 @@
 ghost use Rattle.proto_rename_laws.specs.Captures.{CapturesBeginAnew};
 ghost use Rattle.proto_rename_laws.specs.ChangesEntry.{ChangesAreEntry, OldTextsAreNames, TextsAfter};
 ghost use Rattle.proto_rename_laws.specs.ChangesPut.{ChangesArePut};
-ghost use Rattle.proto_rename_laws.specs.Inside.{TokensAreInside};
+ghost use Rattle.proto_rename_laws.specs.FirstPlaces.{FirstPlacesAreOne, FirstPlacesAreThere};
+ghost use Rattle.proto_rename_laws.specs.Inside.{TargetsAreInside, TokensAreInside};
 ghost use Rattle.proto_rename_laws.specs.NoLinkFault.{FilesAreLinked, FilesAreWoven, NoLinkFaultComesIn, ReadFilesAreClean};
 ghost use Rattle.proto_rename_laws.specs.OneTarget.{TargetsAreOne, TargetsAreThere};
 ghost use Rattle.proto_rename_laws.specs.PlacesSuit.{PlacesSuit};
 ghost use Rattle.proto_rename_laws.specs.Respelling.{PlacesRespell};
 ghost use Rattle.proto_rename_laws.specs.Rewording.{FilesAreReworded, OtherTextsStay, SkeletonsStay, TextsAreChanged};
 ghost use Rattle.proto_rename_laws.specs.Scenes.{ScenesDiffer};
-ghost use Rattle.proto_rename_laws.specs.ShortPuts.{PutsAreShort};
+
+use proto_meaning::edits::decisions;
 
 /// Words that suit their places can be put into all files: the texts are then the old ones but for these words, the trees
 /// are the very same, and so is what they declare, import and use.
@@ -29,6 +31,11 @@ pub fn places_respell()
 /// What files declare and use stands at tokens of theirs.
 pub fn tokens_are_inside()
     ensures { TokensAreInside }
+{}
+
+/// The token of a target is one of its file.
+pub fn targets_are_inside()
+    ensures { TargetsAreInside }
 {}
 
 /// The new word suits each place where a rename puts it, if its kind may have it.
@@ -60,10 +67,13 @@ pub fn captures_begin_anew()
     ensures { CapturesBeginAnew }
 {}
 
-/// Splices that put a short text are in order.
-pub fn puts_are_short()
-    ensures { PutsAreShort }
-{}
+/// Where a rename captures a reference, the least captured place is there, and it is one.
+pub fn first_places_are_one()
+    ensures there { FirstPlacesAreThere }
+    ensures one { FirstPlacesAreOne }
+{
+    decisions();
+}
 
 /// The changes that new words make put the files with these words.
 pub fn changes_are_put()

@@ -1,0 +1,23 @@
+use Rattle.std.proofs.Common.{List, [], ◌∷◌, ◌++◌, map, sym, ap, ◌∙◌}
+use Rattle.std.proofs.lemmas.List.{map-append}
+use Rattle.proto_tree.specs.declared.tree.Member.{Member}
+use Rattle.proto_tree.specs.File.{member_tree}
+use Rattle.proto_tree.proofs.Nodes.{member_tree-Enum, member_tree-Oneof}
+use Rattle.proto_parts.specs.Parts.{BlockOf}
+use Rattle.proto_members.specs.Blocks.{block_of, holders_in}
+use Rattle.proto_members.proofs.BlockTrees.{enum_alone, oneof_alone}
+use Rattle.proto_members.proofs.blocks.+blocks.Goals as goal
+
+pub push_member-returns-in_ok-push-in-Oneof : goal.push_member-returns-in_ok-push-in-Oneof
+push_member-returns-in_ok-push-in-Oneof t c =
+    ap (map block_of) c.in_ok-push-in-Oneof.ensures.items
+    ∙ map-append block_of c.args.found.now.items (_ ∷ [])
+    ∙ ap (λ (bs : List BlockOf). map block_of c.args.found.now.items ++ bs)
+    (sym (ap (λ (m : Member). holders_in (member_tree m)) c.in-Oneof.is ∙ ap holders_in (member_tree-Oneof c.in-Oneof.oneof) ∙ oneof_alone c.in-Oneof.oneof))
+
+pub push_member-returns-in_ok-push-in-Enum : goal.push_member-returns-in_ok-push-in-Enum
+push_member-returns-in_ok-push-in-Enum t c =
+    ap (map block_of) c.in_ok-push-in-Enum.ensures.items
+    ∙ map-append block_of c.args.found.now.items (_ ∷ [])
+    ∙ ap (λ (bs : List BlockOf). map block_of c.args.found.now.items ++ bs)
+    (sym (ap (λ (m : Member). holders_in (member_tree m)) c.in-Enum.is ∙ ap holders_in (member_tree-Enum c.in-Enum.enumeration) ∙ enum_alone c.in-Enum.enumeration))

@@ -1,0 +1,100 @@
+//! The full name of a value's enum.
+
+ghost use Rattle.std.specs.Prelude.{◌≡◌, ◌++◌, List, ℕ, true, false, find, map, option_map, IfOk};
+ghost use Rattle.std.specs.String.{string_bytes};
+ghost use Rattle.proto_files.specs.FilesRead.{AreRead, ReadOf};
+ghost use Rattle.proto_meaning.specs.Joined.{joined};
+ghost use Rattle.proto_meaning.specs.declared.kind.Kind.TheVariants.{Value};
+ghost use Rattle.proto_rename_laws.specs.Targets.{Target};
+ghost use Rattle.proto_targets.specs.Aims.{IsAimOf, IsAimedAt};
+ghost use Rattle.proto_members.specs.Blocks.{block_of};
+ghost use Rattle.proto_members.specs.Members.{holds_value, name_token};
+
+use crate::blocks::{BlockAt, blocks_of};
+use crate::members::has_value;
+use proto_faults::NoMemory;
+use proto_files::{Files, Words, are_read};
+use proto_meaning::Kind;
+use proto_parts::values;
+use proto_targets::Aim;
+use std::alloc::Global;
+
+fn is_value(kind: Kind) -> bool
+    ensures is { result ≡ true → kind ≡ Value }
+    ensures none { result ≡ false → kind ≡ Value → ⊥ }
+{
+    matches!(kind, Kind::Value)
+}
+
+fn holds_value(alloc: Global, block: BlockAt, token: u32) -> Result<bool, NoMemory>
+    ensures { IfOk result (λ b. b ≡ holds_value token (block_of block.entry).header (block_of block.entry).within) }
+{
+    match block {
+        BlockAt::Enum(enumeration) => Ok(has_value(&values(alloc, &enumeration.members)?, token)),
+        BlockAt::Message(_) | BlockAt::Oneof(_) => Ok(false),
+    }
+}
+
+/// The token of a block's name.
+fn name_token(block: BlockAt) -> u32
+    ensures { result ≡ name_token (block_of block.entry).header }
+{
+    match block {
+        BlockAt::Message(message) => message.name,
+        BlockAt::Oneof(oneof) => oneof.name,
+        BlockAt::Enum(enumeration) => enumeration.name,
+    }
+}
+
+/// The name token of the enum that has the value; none where there is none.
+fn enum_of_value(alloc: Global, blocks: &[BlockAt], token: u32) -> Result<Option<u32>, NoMemory>
+    ensures { IfOk result (λ o. o ≡ option_map (λ b. name_token b.header) (find (λ b. holds_value token b.header b.within) (map block_of blocks.now))) }
+{
+    for block in blocks {
+        if holds_value(alloc, *block, token)? {
+            return Ok(Some(name_token(*block)));
+        }
+    }
+    Ok(None)
+}
+
+/// What stands before the last word of a name.
+fn before_word<'a>(name: &'a str, word: &str) -> &'a str
+    ensures { (front : List ℕ) → name.now ≡ front ++ word.now → result.now ≡ front }
+{
+    match name.strip_suffix(word) {
+        Some(front) => front,
+        None => "",
+    }
+}
+
+/// The name with another word in place of its last one.
+fn beside(alloc: Global, name: &str, word: &str, other: &str) -> Result<String, NoMemory>
+    ensures { IfOk result (λ s. (front : List ℕ) → name.now ≡ front ++ word.now → string_bytes s ≡ front ++ other.now) }
+{
+    let mut beside = String::from_str(alloc, before_word(name, word))?;
+    beside.push_str(other)?;
+    Ok(beside)
+}
+
+/// The full name of the enum that has the value, which stands beside it; none for what is no value.
+pub fn enum_name(alloc: Global, files: &Files, aim: Aim) -> Result<Option<String>, NoMemory>
+    requires { IsAimOf files.now aim }
+    ensures { IfOk result (λ name. (reads : List ReadOf) → AreRead files.now reads → (t : Target) → IsAimedAt files.now reads aim.entry t
+        → option_map string_bytes name ≡ option_map joined t.enum) }
+{
+    are_read(files);
+    if !is_value(aim.kind) {
+        return Ok(None);
+    }
+    let place = aim.file as usize;
+    let words = Words::new(files, place);
+    let blocks = blocks_of(alloc, files.tree(place))?;
+    match enum_of_value(alloc, &blocks, aim.token)? {
+        Some(token) => {
+            let name = beside(alloc, aim.name, words.get(aim.token), words.get(token))?;
+            Ok(Some(name))
+        }
+        None => Ok(None),
+    }
+}

@@ -1,0 +1,20 @@
+//! What is read of one file.
+
+ghost use Rattle.std.specs.Prelude.{◌<◌, List, length};
+ghost use Rattle.proto_files.specs.FilesRead.{AreRead, ReadOf};
+ghost use Rattle.proto_members.specs.Members.{IsReadAs};
+
+use proto_files::{Files, Words};
+use proto_parts::{Scene, is_proto3};
+use std::alloc::Global;
+
+/// The texts, strings and version of a file; nothing of what its references mean.
+pub(crate) fn scene<'a>(alloc: Global, files: &'a Files, file: u32) -> Scene<'a>
+    requires { file < length files.now }
+    ensures { (reads : List ReadOf) → AreRead files.entry.now reads → IsReadAs files.entry.now reads file result }
+{
+    let place = file as usize;
+    let words = Words::new(files, place);
+    let is_proto3 = is_proto3(&words, files.tree(place));
+    Scene::new(words, is_proto3, Vec::new(alloc))
+}

@@ -1,0 +1,3 @@
+mod EntryFields
+pub mod TokenRoles
+mod ValueMarks

@@ -1,0 +1,12 @@
+-- The tokens of linked files have the roles that a rename wants of them.
+use Rattle.std.specs.Prelude.{ℕ, List}
+use Rattle.proto_files.specs.Faults.{HasNoFault}
+use Rattle.proto_files.specs.FilesRead.{ReadOf, AreRead}
+use Rattle.proto_files.specs.GivenFiles.{FileOf}
+use Rattle.proto_imports.specs.Links.{LinkFaults}
+use Rattle.proto_rename_laws.specs.Roles.{TokensHaveRoles}
+use Rattle.proto_rename_laws.specs.Targets.{Target, IsNamed}
+
+-- For each symbol that may be renamed, whatever the new word.
+abbrev pub AllTokensHaveRoles : Type 0
+AllTokensHaveRoles = (files : List FileOf) (reads : List ReadOf) (name to : List ℕ) (t : Target) → AreRead files reads → HasNoFault (LinkFaults files) → IsNamed files reads name t → TokensHaveRoles files reads t to

@@ -1,0 +1,2 @@
+pub mod MadeChanges
+pub mod StandingTokens

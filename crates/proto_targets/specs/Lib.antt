@@ -1,0 +1,3 @@
+pub mod Aims
+pub mod Collisions
+pub mod Looked
