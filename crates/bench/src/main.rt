@@ -1,13 +1,16 @@
 //! Does one step of the compiler over the files that its words name, so that it can be tried on whole schemas, and timed.
 //!
 //!     bench lex|parse|link|lint|compile FILE..
+//!     bench rename NAME TO FILE..
 #![tactic(auto)]
 
 mod counts;
 mod kind;
+mod renaming;
 mod report;
 mod steps;
 
+use crate::renaming::timed;
 use crate::steps::answer;
 use std::{env, fs, io};
 
@@ -17,10 +20,19 @@ fn main(rt: HostRuntime) -> io::Result<()> {
     let Some(step) = words.next() else {
         return println!(rt; "no step");
     };
+    let asked = if step.as_str() == "rename" {
+        (words.next(), words.next())
+    } else {
+        (None, None)
+    };
     let mut files = Vec::new(rt.alloc());
     for path in words {
         let bytes = fs::read(&rt, path.as_str())?;
         files.push((path, bytes))?;
+    }
+    if let (Some(name), Some(to)) = asked {
+        let text = timed(&rt, name.as_str(), to.as_str(), files)?;
+        return print!(rt; "{text}");
     }
     match answer(rt.alloc(), step.as_str(), files) {
         Ok(text) => print!(rt; "{text}"),

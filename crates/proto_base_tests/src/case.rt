@@ -1,6 +1,7 @@
 //! Names and versions, with answers worked out by hand.
 
 use proto_case::{is_lower_snake, is_pascal, is_upper_snake, is_version, upper};
+use std::process::Abort;
 use std::test::Fail;
 
 #[test]
@@ -53,39 +54,45 @@ fn names_that_are_not_pascal(rt: HostRuntime) {
     }
 }
 
-#[test]
-fn names_in_upper_snake(rt: HostRuntime) -> Result<(), Fail> {
-    let alloc = rt.alloc();
-    for (name, want) in [
-        ("", ""),
-        ("A", "A"),
-        ("foo", "FOO"),
-        ("FooBar", "FOO_BAR"),
-        ("HTTPCode", "HTTP_CODE"),
-        ("fooBar", "FOO_BAR"),
-        ("Foo2Bar", "FOO2_BAR"),
-        ("Foo_Bar", "FOO_BAR"),
-    ] {
-        assert_eq!(rt; upper(alloc, name)?.as_str(), want);
+// Each name in upper snake.
+fn expect_upper<R: AllocGlobal + Abort>(rt: &R, rows: &[(&str, &str)]) -> Result<(), Fail> {
+    for (text, said) in rows {
+        assert_eq!(rt; upper(rt.alloc(), text)?.as_str(), *said, "{text}");
     }
     Ok(())
 }
 
 #[test]
+fn names_in_upper_snake(rt: HostRuntime) -> Result<(), Fail> {
+    expect_upper(
+        &rt,
+        &[
+            ("", ""),
+            ("A", "A"),
+            ("foo", "FOO"),
+            ("FooBar", "FOO_BAR"),
+            ("HTTPCode", "HTTP_CODE"),
+            ("fooBar", "FOO_BAR"),
+            ("Foo2Bar", "FOO2_BAR"),
+            ("Foo_Bar", "FOO_BAR"),
+        ],
+    )
+}
+
+#[test]
 fn rare_names_in_upper_snake(rt: HostRuntime) -> Result<(), Fail> {
-    let alloc = rt.alloc();
-    for (name, want) in [
-        ("ABC", "ABC"),
-        ("ABc", "A_BC"),
-        ("aB1C", "A_B1_C"),
-        ("_Foo", "_FOO"),
-        ("AB_c", "AB_C"),
-        ("\u{e4}B", "\u{e4}B"),
-        ("\u{e4}Bc", "\u{e4}_BC"),
-    ] {
-        assert_eq!(rt; upper(alloc, name)?.as_str(), want);
-    }
-    Ok(())
+    expect_upper(
+        &rt,
+        &[
+            ("ABC", "ABC"),
+            ("ABc", "A_BC"),
+            ("aB1C", "A_B1_C"),
+            ("_Foo", "_FOO"),
+            ("AB_c", "AB_C"),
+            ("\u{e4}B", "\u{e4}B"),
+            ("\u{e4}Bc", "\u{e4}_BC"),
+        ],
+    )
 }
 
 #[test]

@@ -1,12 +1,13 @@
 //! Tests of the files of a workspace, through public calls alone.
 
-use proto_faults::{Fault, FaultKind, SchemaFault};
+use proto_faults::{FaultKind, SchemaFault};
 use proto_files::{
     Files, Paths, Words, all_paths, are_read, fault_at_token, file_named, is_workspace_path,
     offset_of,
 };
 use proto_text::{Span, Token, TokenKind};
 use std::alloc::Global;
+use std::process::Abort;
 use std::test::Fail;
 
 // Files with the paths, separated by spaces, each with its place as its one byte.
@@ -20,92 +21,82 @@ fn given(alloc: Global, paths: &str) -> Result<Vec<(String, Vec<u8>)>, Fail> {
     Ok(files)
 }
 
-fn fault_of(outcome: Result<Paths, SchemaFault>) -> Option<Fault> {
-    match outcome {
-        Err(SchemaFault::Schema(fault)) => Some(fault),
-        Ok(_) | Err(SchemaFault::NoMemory) => None,
+// What a call answers: the number, the name, the path and the offset of its fault, or `good`.
+fn told(alloc: Global, fault: Option<SchemaFault>) -> Result<String, Fail> {
+    match fault {
+        None => Ok(String::from_str(alloc, "good")?),
+        Some(SchemaFault::Schema(fault)) => {
+            let (number, name) = (fault.number(), fault.name());
+            let (path, offset) = (fault.path.as_str(), fault.offset);
+            Ok(format!(in alloc; "{number} {name} {path} {offset}")?)
+        }
+        Some(SchemaFault::NoMemory) => Ok(String::from_str(alloc, "no memory")?),
     }
 }
 
-// What `up_to` answers: the number of the fault and its path, or nothing.
-fn answer(alloc: Global, limit: usize, paths: &str) -> Result<String, Fail> {
-    match Paths::up_to(alloc, limit.min(4096), given(alloc, paths)?) {
-        Ok(_) => Ok(String::from_str(alloc, "good")?),
-        Err(SchemaFault::Schema(fault)) => {
-            let number = fault.number();
-            let name = fault.name();
-            let path = fault.path.as_str();
-            let offset = fault.offset;
-            Ok(format!(in alloc; "{number} {name} {path} {offset}")?)
-        }
-        Err(SchemaFault::NoMemory) => Ok(String::from_str(alloc, "no memory")?),
+// The letter `a` so many times, with this behind it.
+fn long_path(alloc: Global, count: u32, end: &str) -> Result<String, Fail> {
+    let mut path = String::new(alloc);
+    for _ in 0..count {
+        path.push('a')?;
     }
+    path.push_str(end)?;
+    Ok(path)
 }
 
 #[test]
 fn workspace_paths(rt: HostRuntime) -> Result<(), Fail> {
-    let alloc = rt.alloc();
-    let mut long = String::new(alloc);
-    for _ in 0..249u32 {
-        long.push('a')?;
+    let longest = long_path(rt.alloc(), 249, ".proto")?;
+    let longer = long_path(rt.alloc(), 249, ".protoa.proto")?;
+    assert_eq!(rt; longest.len(), 255);
+    for (path, wanted) in [
+        (longest.as_str(), true),
+        (longer.as_str(), false),
+        ("a/b-c_D.9/e.proto", true),
+        (".proto", true),
+        ("..a/.proto", true),
+        ("", false),
+        ("a.prot", false),
+        ("a/./b.proto", false),
+        ("../b.proto", false),
+        ("a//b.proto", false),
+        ("/b.proto", false),
+        ("a b.proto", false),
+        ("\u{e4}.proto", false),
+    ] {
+        assert!(rt; is_workspace_path(path) == wanted, "{path}");
     }
-    long.push_str(".proto")?;
-    assert_eq!(rt; long.len(), 255);
-    assert!(rt; is_workspace_path(long.as_str()));
-    long.push_str("a.proto")?;
-    assert!(rt; !is_workspace_path(long.as_str()));
-    assert!(rt; is_workspace_path("a/b-c_D.9/e.proto"));
-    assert!(rt; is_workspace_path(".proto"));
-    assert!(rt; is_workspace_path("..a/.proto"));
-    assert!(rt; !is_workspace_path(""));
-    assert!(rt; !is_workspace_path("a.prot"));
-    assert!(rt; !is_workspace_path("a/./b.proto"));
-    assert!(rt; !is_workspace_path("../b.proto"));
-    assert!(rt; !is_workspace_path("a//b.proto"));
-    assert!(rt; !is_workspace_path("/b.proto"));
-    assert!(rt; !is_workspace_path("a b.proto"));
-    assert!(rt; !is_workspace_path("\u{e4}.proto"));
     Ok(())
 }
 
 #[test]
 fn faults_of_paths(rt: HostRuntime) -> Result<(), Fail> {
     let alloc = rt.alloc();
-    assert_eq!(rt;
-        answer(alloc, 4096, "b.proto a/c.proto a.proto")?.as_str(),
-        "good"
-    );
-    assert_eq!(rt;
-        answer(alloc, 4096, "b.proto a.proto b.proto")?.as_str(),
-        "34 DoublePath b.proto 0"
-    );
-    assert_eq!(rt;
-        answer(alloc, 4096, "b.txt a.proto b.txt")?.as_str(),
-        "33 BadPath b.txt 0"
-    );
-    assert_eq!(rt;
-        answer(alloc, 1, "b.proto a.proto")?.as_str(),
-        "35 TooManyFiles b.proto 0"
-    );
-    assert_eq!(rt; answer(alloc, 2, "b.proto a.proto")?.as_str(), "good");
-    assert_eq!(rt;
-        answer(alloc, 1, "b.proto a.proto c.txt")?.as_str(),
-        "35 TooManyFiles b.proto 0"
-    );
-    assert_eq!(rt;
-        answer(alloc, 1, "b.proto a.proto a.proto")?.as_str(),
-        "34 DoublePath a.proto 0"
-    );
-    assert_eq!(rt;
-        answer(alloc, 0, "b.proto a.proto")?.as_str(),
-        "35 TooManyFiles a.proto 0"
-    );
-    let files = Paths::new(alloc, given(alloc, "c.proto a.proto")?);
-    assert!(rt; fault_of(files).is_none());
-    let files = Paths::new(alloc, given(alloc, "c.proto .")?);
-    let fault = fault_of(files).ok_or("a fault")?;
-    assert_eq!(rt; fault.kind, FaultKind::BadPath);
-    assert_eq!(rt; fault.kind.phase(), 0);
+    for (limit, paths, said) in [
+        (4096, "b.proto a/c.proto a.proto", "good"),
+        (4096, "b.proto a.proto b.proto", "34 DoublePath b.proto 0"),
+        (4096, "b.txt a.proto b.txt", "33 BadPath b.txt 0"),
+        (1, "b.proto a.proto", "35 TooManyFiles b.proto 0"),
+        (2, "b.proto a.proto", "good"),
+        (1, "b.proto a.proto c.txt", "35 TooManyFiles b.proto 0"),
+        (1, "b.proto a.proto a.proto", "34 DoublePath a.proto 0"),
+        (0, "b.proto a.proto", "35 TooManyFiles a.proto 0"),
+    ] {
+        let fault = Paths::up_to(alloc, limit.min(4096), given(alloc, paths)?).err();
+        assert_eq!(rt; told(alloc, fault)?.as_str(), said, "{limit} {paths}");
+    }
+    Ok(())
+}
+
+#[test]
+fn a_workspace_is_refused_for_a_path(rt: HostRuntime) -> Result<(), Fail> {
+    assert!(rt; Paths::new(rt.alloc(), given(rt.alloc(), "c.proto a.proto")?).is_ok());
+    match Paths::new(rt.alloc(), given(rt.alloc(), "c.proto .")?) {
+        Err(SchemaFault::Schema(fault)) => {
+            assert_eq!(rt; (fault.kind, fault.kind.phase()), (FaultKind::BadPath, 0));
+        }
+        _ => panic!(rt; "no fault"),
+    }
     Ok(())
 }
 
@@ -119,85 +110,73 @@ fn written(alloc: Global, texts: &[(&str, &str)]) -> Result<Vec<(String, Vec<u8>
     Ok(files)
 }
 
-// What reading the files answers: the number of the fault, its name, path and offset, or `good`.
+// What reading the files answers.
 fn reading(alloc: Global, files: Vec<(String, Vec<u8>)>) -> Result<String, Fail> {
-    match Files::read(alloc, Paths::new(alloc, files)?) {
-        Ok(_) => Ok(String::from_str(alloc, "good")?),
-        Err(SchemaFault::Schema(fault)) => {
-            let number = fault.number();
-            let name = fault.name();
-            let path = fault.path.as_str();
-            let offset = fault.offset;
-            Ok(format!(in alloc; "{number} {name} {path} {offset}")?)
-        }
-        Err(SchemaFault::NoMemory) => Ok(String::from_str(alloc, "no memory")?),
-    }
+    told(alloc, Files::read(alloc, Paths::new(alloc, files)?).err())
 }
 
-#[test]
-fn faults_of_texts(rt: HostRuntime) -> Result<(), Fail> {
-    let alloc = rt.alloc();
-    let files = written(alloc, &[("b.proto", "1x"), ("a.proto", "message")])?;
-    assert_eq!(rt; reading(alloc, files)?.as_str(), "7 BadNumber b.proto 0");
-    let files = written(alloc, &[("b.proto", "/*"), ("a.proto", "a $")])?;
-    assert_eq!(rt; reading(alloc, files)?.as_str(), "3 BadChar a.proto 2");
-    let files = written(alloc, &[("a.proto", ""), ("b.proto", " /*")])?;
-    assert_eq!(rt; reading(alloc, files)?.as_str(), "4 OpenComment b.proto 1");
-    let files = written(alloc, &[("a.proto", "import 'b")])?;
-    assert_eq!(rt; reading(alloc, files)?.as_str(), "5 OpenString a.proto 7");
-    let files = written(alloc, &[("a.proto", "'\\q'")])?;
-    assert_eq!(rt; reading(alloc, files)?.as_str(), "6 BadEscape a.proto 0");
-    let mut files = written(alloc, &[("b.proto", "")])?;
-    let mut bytes = Vec::new(alloc);
-    bytes.push(255u8)?;
-    files.push((String::from_str(alloc, "a.proto")?, bytes))?;
-    assert_eq!(rt; reading(alloc, files)?.as_str(), "2 NotUtf8 a.proto 0");
-    let mut files = Vec::new(alloc);
-    files.push((
-        String::from_str(alloc, "a.proto")?,
-        vec![in alloc; b' '; 1048577]?,
-    ))?;
-    assert_eq!(rt; reading(alloc, files)?.as_str(), "1 TooLarge a.proto 0");
-    Ok(())
-}
-
-#[test]
-fn faults_of_grammar(rt: HostRuntime) -> Result<(), Fail> {
-    let alloc = rt.alloc();
-    let files = written(alloc, &[("a.proto", ""), ("b.proto", " message")])?;
-    assert_eq!(rt; reading(alloc, files)?.as_str(), "8 Syntax b.proto 1");
-    let files = written(
-        alloc,
-        &[
-            ("a.proto", "message M {}"),
-            ("b.proto", "message M { a b }"),
-        ],
-    )?;
-    assert_eq!(rt; reading(alloc, files)?.as_str(), "8 Syntax b.proto 12");
+// Messages in messages, 33 deep.
+fn deep_messages(alloc: Global) -> Result<String, Fail> {
     let mut deep = String::new(alloc);
     for _ in 0..33u32 {
         deep.push_str("message M{")?;
     }
-    let files = written(alloc, &[("b.proto", "message"), ("a.proto", deep.as_str())])?;
-    assert_eq!(rt; reading(alloc, files)?.as_str(), "9 TooDeep a.proto 329");
+    Ok(deep)
+}
+
+#[test]
+fn faults_of_texts_and_grammar(rt: HostRuntime) -> Result<(), Fail> {
+    let alloc = rt.alloc();
+    let deep = deep_messages(alloc)?;
+    for (texts, said) in [
+        (
+            [("b.proto", "1x"), ("a.proto", "message")].as_slice(),
+            "7 BadNumber b.proto 0",
+        ),
+        (
+            &[("b.proto", "/*"), ("a.proto", "a $")],
+            "3 BadChar a.proto 2",
+        ),
+        (
+            &[("a.proto", ""), ("b.proto", " /*")],
+            "4 OpenComment b.proto 1",
+        ),
+        (&[("a.proto", "import 'b")], "5 OpenString a.proto 7"),
+        (&[("a.proto", "'\\q'")], "6 BadEscape a.proto 0"),
+        (
+            &[("a.proto", ""), ("b.proto", " message")],
+            "8 Syntax b.proto 1",
+        ),
+        (
+            &[
+                ("a.proto", "message M {}"),
+                ("b.proto", "message M { a b }"),
+            ],
+            "8 Syntax b.proto 12",
+        ),
+        (
+            &[("b.proto", "message"), ("a.proto", deep.as_str())],
+            "9 TooDeep a.proto 329",
+        ),
+    ] {
+        let files = written(alloc, texts)?;
+        assert_eq!(rt; reading(alloc, files)?.as_str(), said);
+    }
     Ok(())
 }
 
 #[test]
-fn files_in_path_order(rt: HostRuntime) -> Result<(), Fail> {
+fn faults_of_bytes(rt: HostRuntime) -> Result<(), Fail> {
     let alloc = rt.alloc();
-    let texts = written(alloc, &[("b.proto", "message M {}"), ("a.proto", "")])?;
-    let files = Files::read(alloc, Paths::new(alloc, texts)?)?;
-    assert_eq!(rt; files.len(), 2);
-    assert!(rt; !files.is_empty());
-    assert_eq!(rt; files.path(0), "a.proto");
-    assert_eq!(rt; files.path(1), "b.proto");
-    assert_eq!(rt; files.source(1).as_bytes().len(), 12);
-    assert_eq!(rt; files.tokens(0).len(), 0);
-    assert_eq!(rt; files.tokens(1).len(), 4);
-    let _tree = files.tree(1);
-    let none = Files::read(alloc, Paths::new(alloc, Vec::new(alloc))?)?;
-    assert!(rt; none.is_empty());
+    for (byte, count, said) in [
+        (255u8, 1, "2 NotUtf8 a.proto 0"),
+        (b' ', 1048577, "1 TooLarge a.proto 0"),
+    ] {
+        let mut files = written(alloc, &[("b.proto", "")])?;
+        let bytes = vec![in alloc; byte; count]?;
+        files.push((String::from_str(alloc, "a.proto")?, bytes))?;
+        assert_eq!(rt; reading(alloc, files)?.as_str(), said);
+    }
     Ok(())
 }
 
@@ -234,72 +213,92 @@ fn value_at(alloc: Global, files: &Files, token: u32) -> Result<Option<String>, 
     }
 }
 
+fn expect_path_order<R: Abort>(rt: &R, files: &Files) {
+    assert!(rt; files.len() == 2 && !files.is_empty());
+    assert_eq!(rt; (files.path(0), files.path(1)), ("a.proto", "b.proto"));
+    let length = files.source(1).as_bytes().len();
+    let counts = (files.tokens(0).len(), files.tokens(1).len());
+    assert_eq!(rt; (length, counts), (12, (0, 4)));
+    let _tree = files.tree(1);
+}
+
 #[test]
-fn texts_of_tokens(rt: HostRuntime) -> Result<(), Fail> {
-    let alloc = rt.alloc();
-    let files = read(alloc, &[("a.proto", SCHEMA)])?;
-    let rows = [
-        (0, "syntax"),
-        (1, "="),
-        (2, "\"proto3\""),
-        (3, ";"),
-        (4, "message"),
-        (5, "A"),
-        (8, "b_c"),
-        (10, "1"),
-        (12, "}"),
-    ];
-    for (token, text) in rows {
-        assert_eq!(rt; text_at(&files, token), Some(text), "at {token}");
-    }
-    assert_eq!(rt; text_at(&files, 13), None);
-    let files = read(alloc, &[("a.proto", "// \u{e4}\nimport '\u{e4}';")])?;
-    assert_eq!(rt; text_at(&files, 1), Some("'\u{e4}'"));
+fn files_in_path_order(rt: HostRuntime) -> Result<(), Fail> {
+    let files = read(rt.alloc(), &[("b.proto", "message M {}"), ("a.proto", "")])?;
+    expect_path_order(&rt, &files);
+    assert!(rt; read(rt.alloc(), &[])?.is_empty());
     Ok(())
 }
 
 #[test]
-fn values_of_strings(rt: HostRuntime) -> Result<(), Fail> {
+fn texts_and_values_of_tokens(rt: HostRuntime) -> Result<(), Fail> {
     let alloc = rt.alloc();
-    let files = read(alloc, &[("a.proto", SCHEMA)])?;
-    let value = value_at(alloc, &files, 2)?.ok_or("a string")?;
-    assert_eq!(rt; value.as_str(), "proto3");
-    assert!(rt; value_at(alloc, &files, 1)?.is_none());
-    assert!(rt; value_at(alloc, &files, 13)?.is_none());
-    let files = read(alloc, &[("a.proto", "import \"\\x41\\102\\n'\";")])?;
-    let value = value_at(alloc, &files, 1)?.ok_or("a string")?;
-    assert_eq!(rt; value.as_str(), "AB\n'");
-    Ok(())
-}
-
-#[test]
-fn words_of_files(rt: HostRuntime) -> Result<(), Fail> {
-    let alloc = rt.alloc();
-    let files = read(alloc, &[("b.proto", SCHEMA), ("a.proto", "message M {}")])?;
-    assert_eq!(rt; files.len(), 2);
-    let words = Words::new(&files, 1);
-    assert_eq!(rt; words.get(5), "A");
-    assert_eq!(rt; words.get(12), "}");
-    assert_eq!(rt; words.get(13), "");
-    assert_eq!(rt; Words::new(&files, 0).get(1), "M");
-    Ok(())
-}
-
-#[test]
-fn places_of_tokens(rt: HostRuntime) -> Result<(), Fail> {
-    let alloc = rt.alloc();
-    let files = read(alloc, &[("b.proto", SCHEMA), ("a.proto", "message M {}")])?;
-    assert_eq!(rt; files.len(), 2);
-    assert_eq!(rt; offset_of(files.tokens(1), 2), 9);
-    assert_eq!(rt; offset_of(files.tokens(1), 13), 0);
-    match fault_at_token(alloc, &files, 1, 5, FaultKind::DuplicateName) {
-        SchemaFault::Schema(fault) => {
-            assert_eq!(rt; fault.path.as_str(), "b.proto");
-            assert_eq!(rt; fault.offset, 27);
-            assert_eq!(rt; fault.kind, FaultKind::DuplicateName);
+    for (source, token, text, value) in [
+        (SCHEMA, 0, Some("syntax"), None),
+        (SCHEMA, 1, Some("="), None),
+        (SCHEMA, 2, Some("\"proto3\""), Some("proto3")),
+        (SCHEMA, 3, Some(";"), None),
+        (SCHEMA, 4, Some("message"), None),
+        (SCHEMA, 5, Some("A"), None),
+        (SCHEMA, 8, Some("b_c"), None),
+        (SCHEMA, 10, Some("1"), None),
+        (SCHEMA, 12, Some("}"), None),
+        (SCHEMA, 13, None, None),
+        (
+            "// \u{e4}\nimport '\u{e4}';",
+            1,
+            Some("'\u{e4}'"),
+            Some("\u{e4}"),
+        ),
+        (
+            "import \"\\x41\\102\\n'\";",
+            1,
+            Some("\"\\x41\\102\\n'\""),
+            Some("AB\n'"),
+        ),
+    ] {
+        let files = read(alloc, &[("a.proto", source)])?;
+        assert_eq!(rt; text_at(&files, token), text, "at {token}");
+        match value_at(alloc, &files, token)? {
+            Some(found) => assert_eq!(rt; Some(found.as_str()), value, "at {token}"),
+            None => assert!(rt; value.is_none(), "at {token}"),
         }
-        SchemaFault::NoMemory => return Err(Fail::from("no memory")),
     }
+    Ok(())
+}
+
+fn expect_words<R: Abort>(rt: &R, files: &Files) {
+    assert!(rt; files.len() == 2);
+    let words = Words::new(files, 1);
+    let found = (words.get(5), words.get(12), words.get(13));
+    assert_eq!(rt; found, ("A", "}", ""));
+    assert_eq!(rt; Words::new(files, 0).get(1), "M");
+    let places = (
+        offset_of(files.tokens(1), 2),
+        offset_of(files.tokens(1), 13),
+    );
+    assert_eq!(rt; places, (9, 0));
+}
+
+fn expect_fault<R: AllocGlobal + Abort>(rt: &R, files: &Files) {
+    assert!(rt; files.len() == 2);
+    match fault_at_token(rt.alloc(), files, 1, 5, FaultKind::DuplicateName) {
+        SchemaFault::Schema(fault) => assert_eq!(rt;
+            (fault.path.as_str(), fault.offset, fault.kind),
+            ("b.proto", 27, FaultKind::DuplicateName)
+        ),
+        SchemaFault::NoMemory => panic!(rt; "no memory"),
+    }
+}
+
+#[test]
+fn words_and_places(rt: HostRuntime) -> Result<(), Fail> {
+    let files = read(
+        rt.alloc(),
+        &[("b.proto", SCHEMA), ("a.proto", "message M {}")],
+    )?;
+    expect_words(&rt, &files);
+    expect_fault(&rt, &files);
     Ok(())
 }
 

@@ -5,6 +5,7 @@ use proto_text::{
     string_value,
 };
 use std::alloc::Global;
+use std::process::Abort;
 use std::test::Fail;
 
 fn source_of(alloc: Global, text: &str) -> Result<Source, Fail> {
@@ -37,99 +38,102 @@ fn shown(alloc: Global, text: &str) -> Result<String, Fail> {
     }
 }
 
-#[test]
-fn tokens(rt: HostRuntime) -> Result<(), Fail> {
-    let alloc = rt.alloc();
-    for (text, said) in [
-        (
-            "syntax = \"proto3\"; // x",
-            "Word<syntax>Punctuation<=>Text<\"proto3\">Punctuation<;>",
-        ),
-        (
-            "a/* ** */b\u{b}0x1F 07 0 19",
-            "Word<a>Word<b>Number<0x1F>Number<07>Number<0>Number<19>",
-        ),
-        ("1.5", "Number<1>Punctuation<.>Number<5>"),
-        ("_a1'x'2", "Word<_a1>Text<'x'>Number<2>"),
-        ("/*é\u{feff}*/'\u{feff}'", "Text<'\u{feff}'>"),
-        (
-            "'\\101\\x4\\n\\''\"\\303\\251\"",
-            "Text<'\\101\\x4\\n\\''>Text<\"\\303\\251\">",
-        ),
-        ("/**/", ""),
-        ("", ""),
-    ] {
-        assert_eq!(rt; shown(alloc, text)?.as_str(), said);
+// Each text has these tokens, or this fault.
+fn expect_shown<R: AllocGlobal + Abort>(rt: &R, rows: &[(&str, &str)]) -> Result<(), Fail> {
+    for (text, said) in rows {
+        assert_eq!(rt; shown(rt.alloc(), text)?.as_str(), *said, "{text}");
     }
     Ok(())
+}
+
+#[test]
+fn tokens(rt: HostRuntime) -> Result<(), Fail> {
+    expect_shown(
+        &rt,
+        &[
+            (
+                "syntax = \"proto3\"; // x",
+                "Word<syntax>Punctuation<=>Text<\"proto3\">Punctuation<;>",
+            ),
+            (
+                "a/* ** */b\u{b}0x1F 07 0 19",
+                "Word<a>Word<b>Number<0x1F>Number<07>Number<0>Number<19>",
+            ),
+            ("1.5", "Number<1>Punctuation<.>Number<5>"),
+            ("_a1'x'2", "Word<_a1>Text<'x'>Number<2>"),
+            ("/*é\u{feff}*/'\u{feff}'", "Text<'\u{feff}'>"),
+            (
+                "'\\101\\x4\\n\\''\"\\303\\251\"",
+                "Text<'\\101\\x4\\n\\''>Text<\"\\303\\251\">",
+            ),
+            ("/**/", ""),
+            ("", ""),
+        ],
+    )
 }
 
 #[test]
 fn comments_and_strings_that_are_open(rt: HostRuntime) -> Result<(), Fail> {
-    let alloc = rt.alloc();
-    for (text, said) in [
-        ("/*", "4 OpenComment 0"),
-        ("/*/", "4 OpenComment 0"),
-        ("a /*/", "4 OpenComment 2"),
-        ("\"abc", "5 OpenString 0"),
-        ("'a\u{0}'", "5 OpenString 0"),
-        ("'\\'", "5 OpenString 0"),
-        ("'\\\u{0}'", "5 OpenString 0"),
-        ("\"\\\n\"", "5 OpenString 0"),
-    ] {
-        assert_eq!(rt; shown(alloc, text)?.as_str(), said);
-    }
-    Ok(())
+    expect_shown(
+        &rt,
+        &[
+            ("/*", "4 OpenComment 0"),
+            ("/*/", "4 OpenComment 0"),
+            ("a /*/", "4 OpenComment 2"),
+            ("\"abc", "5 OpenString 0"),
+            ("'a\u{0}'", "5 OpenString 0"),
+            ("'\\'", "5 OpenString 0"),
+            ("'\\\u{0}'", "5 OpenString 0"),
+            ("\"\\\n\"", "5 OpenString 0"),
+        ],
+    )
 }
 
 #[test]
 fn bad_numbers(rt: HostRuntime) -> Result<(), Fail> {
-    let alloc = rt.alloc();
-    for (text, said) in [
-        ("1x", "7 BadNumber 0"),
-        (" 08", "7 BadNumber 1"),
-        ("0x", "7 BadNumber 0"),
-        ("1e5", "7 BadNumber 0"),
-    ] {
-        assert_eq!(rt; shown(alloc, text)?.as_str(), said);
-    }
-    Ok(())
+    expect_shown(
+        &rt,
+        &[
+            ("1x", "7 BadNumber 0"),
+            (" 08", "7 BadNumber 1"),
+            ("0x", "7 BadNumber 0"),
+            ("1e5", "7 BadNumber 0"),
+        ],
+    )
 }
 
 #[test]
 fn bad_escapes(rt: HostRuntime) -> Result<(), Fail> {
-    let alloc = rt.alloc();
-    for (text, said) in [
-        ("\"\\q\"", "6 BadEscape 0"),
-        ("\"\\400\"", "6 BadEscape 0"),
-        ("'\\377'", "6 BadEscape 0"),
-        ("'\\X41'", "6 BadEscape 0"),
-        ("'\\u0041'", "6 BadEscape 0"),
-        ("'\\x'", "6 BadEscape 0"),
-        ("'\\xg'", "6 BadEscape 0"),
-        ("'\\8'", "6 BadEscape 0"),
-        ("'\\9'", "6 BadEscape 0"),
-        ("'\\é'", "6 BadEscape 0"),
-    ] {
-        assert_eq!(rt; shown(alloc, text)?.as_str(), said);
-    }
-    Ok(())
+    expect_shown(
+        &rt,
+        &[
+            ("\"\\q\"", "6 BadEscape 0"),
+            ("\"\\400\"", "6 BadEscape 0"),
+            ("'\\377'", "6 BadEscape 0"),
+            ("'\\X41'", "6 BadEscape 0"),
+            ("'\\u0041'", "6 BadEscape 0"),
+            ("'\\x'", "6 BadEscape 0"),
+            ("'\\xg'", "6 BadEscape 0"),
+            ("'\\8'", "6 BadEscape 0"),
+            ("'\\9'", "6 BadEscape 0"),
+            ("'\\é'", "6 BadEscape 0"),
+        ],
+    )
 }
 
 #[test]
 fn bad_signs(rt: HostRuntime) -> Result<(), Fail> {
-    let alloc = rt.alloc();
-    for (text, said) in [
-        ("a $", "3 BadChar 2"),
-        ("a / b", "3 BadChar 2"),
-        ("/", "3 BadChar 0"),
-        ("\u{feff}a", "3 BadChar 0"),
-        ("é", "3 BadChar 0"),
-        ("a\u{0}", "3 BadChar 1"),
-    ] {
-        assert_eq!(rt; shown(alloc, text)?.as_str(), said);
-    }
-    Ok(())
+    expect_shown(
+        &rt,
+        &[
+            ("a $", "3 BadChar 2"),
+            ("a / b", "3 BadChar 2"),
+            ("/", "3 BadChar 0"),
+            ("\u{feff}a", "3 BadChar 0"),
+            ("é", "3 BadChar 0"),
+            ("a\u{0}", "3 BadChar 1"),
+        ],
+    )
 }
 
 fn spaces(alloc: Global, count: usize) -> Result<Vec<u8>, Fail> {

@@ -6,6 +6,7 @@ use proto_tree::{
     parse,
 };
 use std::alloc::Global;
+use std::process::Abort;
 use std::test::Fail;
 
 fn read(alloc: Global, text: &str) -> Result<Result<File, ParseFault>, Fail> {
@@ -26,41 +27,47 @@ fn outcome(alloc: Global, text: &str) -> Result<String, Fail> {
     Ok(line)
 }
 
-#[test]
-fn statements_that_fail(rt: HostRuntime) -> Result<(), Fail> {
-    let alloc = rt.alloc();
-    for (text, said) in [
-        ("message M { reserved 1, ; }", "8 Syntax 12"),
-        ("message M { message message = 1; }", "8 Syntax 12"),
-        ("message M {", "8 Syntax 11"),
-        ("enum E { option = 0; }", "8 Syntax 9"),
-        ("syntax = \"proto4\"; message M {}", "8 Syntax 0"),
-        ("package a; package b;", "8 Syntax 11"),
-        ("; syntax = \"proto3\";", "8 Syntax 2"),
-    ] {
-        assert_eq!(rt; outcome(alloc, text)?.as_str(), said, "{text}");
+// Each text has a tree, or this fault.
+fn expect_outcomes<R: AllocGlobal + Abort>(rt: &R, rows: &[(&str, &str)]) -> Result<(), Fail> {
+    for (text, said) in rows {
+        assert_eq!(rt; outcome(rt.alloc(), text)?.as_str(), *said, "{text}");
     }
     Ok(())
 }
 
 #[test]
+fn statements_that_fail(rt: HostRuntime) -> Result<(), Fail> {
+    expect_outcomes(
+        &rt,
+        &[
+            ("message M { reserved 1, ; }", "8 Syntax 12"),
+            ("message M { message message = 1; }", "8 Syntax 12"),
+            ("message M {", "8 Syntax 11"),
+            ("enum E { option = 0; }", "8 Syntax 9"),
+            ("syntax = \"proto4\"; message M {}", "8 Syntax 0"),
+            ("package a; package b;", "8 Syntax 11"),
+            ("; syntax = \"proto3\";", "8 Syntax 2"),
+        ],
+    )
+}
+
+#[test]
 fn further_statements_that_fail(rt: HostRuntime) -> Result<(), Fail> {
-    let alloc = rt.alloc();
-    for (text, said) in [
-        ("message M {} }", "8 Syntax 13"),
-        (
-            "message M { oneof o { optional string a = 1; } }",
-            "8 Syntax 22",
-        ),
-        ("service S { rpc R (stream) returns (Foo); }", "8 Syntax 12"),
-        ("message M { optional int32 a = 1.5; }", "8 Syntax 12"),
-        ("extend M { optional int32 a = 1; }", "8 Syntax 0"),
-        ("message M { reserved -1; }", "8 Syntax 12"),
-        ("import \"a.proto\" \"b\";", "8 Syntax 0"),
-    ] {
-        assert_eq!(rt; outcome(alloc, text)?.as_str(), said, "{text}");
-    }
-    Ok(())
+    expect_outcomes(
+        &rt,
+        &[
+            ("message M {} }", "8 Syntax 13"),
+            (
+                "message M { oneof o { optional string a = 1; } }",
+                "8 Syntax 22",
+            ),
+            ("service S { rpc R (stream) returns (Foo); }", "8 Syntax 12"),
+            ("message M { optional int32 a = 1.5; }", "8 Syntax 12"),
+            ("extend M { optional int32 a = 1; }", "8 Syntax 0"),
+            ("message M { reserved -1; }", "8 Syntax 12"),
+            ("import \"a.proto\" \"b\";", "8 Syntax 0"),
+        ],
+    )
 }
 
 #[test]
@@ -87,34 +94,33 @@ fn braces_that_are_too_many(rt: HostRuntime) -> Result<(), Fail> {
 
 #[test]
 fn files_with_a_tree(rt: HostRuntime) -> Result<(), Fail> {
-    let alloc = rt.alloc();
-    for (text, said) in [
-        ("", "tree"),
-        ("message M { optional string message = 1; }", "tree"),
-        (
-            "syntax = '\\160roto2'; package a.message; ; import public 'x.proto'; option java_package = \"a\" 'b';",
-            "tree",
-        ),
-        (
-            "message M { map<string, .a.B> m = 1 [deprecated = true, json_name = \"x\"]; oneof o { M m = 2; } extensions 4, 100 to max; reserved \"a\", \"b\"; enum E { reserved -5 to -1, 7 to max; V = -1 [deprecated = true]; reserved = 1; } ; }",
-            "8 Syntax 206",
-        ),
-        (
-            "message M { map<string, .a.B> m = 1 [deprecated = true, json_name = \"x\"]; oneof o { M m = 2; } extensions 4, 100 to max; reserved \"a\", \"b\"; enum E { reserved -5 to -1, 7 to max; V = -1 [deprecated = true]; message = 1; } ; }",
-            "tree",
-        ),
-        (
-            "service S { rpc A (B) returns (stream stream.C) { option deprecated = -1; ; } option x = y; ; }",
-            "8 Syntax 12",
-        ),
-        (
-            "service S { rpc A (B) returns (stream .stream.C) { option deprecated = -1; ; } option x = y; ; }",
-            "tree",
-        ),
-    ] {
-        assert_eq!(rt; outcome(alloc, text)?.as_str(), said, "{text}");
-    }
-    Ok(())
+    expect_outcomes(
+        &rt,
+        &[
+            ("", "tree"),
+            ("message M { optional string message = 1; }", "tree"),
+            (
+                "syntax = '\\160roto2'; package a.message; ; import public 'x.proto'; option java_package = \"a\" 'b';",
+                "tree",
+            ),
+            (
+                "message M { map<string, .a.B> m = 1 [deprecated = true, json_name = \"x\"]; oneof o { M m = 2; } extensions 4, 100 to max; reserved \"a\", \"b\"; enum E { reserved -5 to -1, 7 to max; V = -1 [deprecated = true]; reserved = 1; } ; }",
+                "8 Syntax 206",
+            ),
+            (
+                "message M { map<string, .a.B> m = 1 [deprecated = true, json_name = \"x\"]; oneof o { M m = 2; } extensions 4, 100 to max; reserved \"a\", \"b\"; enum E { reserved -5 to -1, 7 to max; V = -1 [deprecated = true]; message = 1; } ; }",
+                "tree",
+            ),
+            (
+                "service S { rpc A (B) returns (stream stream.C) { option deprecated = -1; ; } option x = y; ; }",
+                "8 Syntax 12",
+            ),
+            (
+                "service S { rpc A (B) returns (stream .stream.C) { option deprecated = -1; ; } option x = y; ; }",
+                "tree",
+            ),
+        ],
+    )
 }
 
 // The label, the dot and the first word of the type of the first field.

@@ -4,27 +4,23 @@ use Rattle.std.specs.Borrow.{Bor}
 use Rattle.std.specs.Prelude.{Result, Ok, Err, Some}
 use Rattle.std.proofs.lemmas.List.{map_more, map_push, drop_more, take-append-drop}
 use Rattle.proto_files.specs.GivenFiles.{FileOf}
+use Rattle.proto_edit.specs.Compiled.{AreCompiled}
 use Rattle.proto_edit.specs.Answers.{asked, IsReopened, IsUndoRefusal, IsUndoAllRefusal, LeadsBack}
 use Rattle.proto_edit.specs.declared.edit.Edit.{Edit}
-use Rattle.proto_entries.specs.declared.entry.Change.{Change}
 use Rattle.proto_entries.specs.declared.refusal.Refusal.{Refusal}
 use Rattle.proto_entries.specs.declared.refusal.Refusal.TheVariants as refusal
-use Rattle.proto_entries.specs.Entries.{ChangeOf, change_of}
+use Rattle.proto_entries.specs.Entries.{ChangeOf}
 use Rattle.proto_edit.specs.Workspaces.{Asked, IsAdmissible, AreChanges, IsMappedStep, IsRefusal, IsUndo, Run, Undone}
-use Rattle.proto_edit.proofs.Steps.{mapped_step, run_more, undone_append, undone_once, leads_back, leads_somewhere}
+use Rattle.proto_edit.proofs.Steps.{steps_compile, run_more, undone_append, undone_once, leads_back, leads_somewhere}
 
 abbrev pub Answer : Type 0
 Answer = Result (List ChangeOf) Refusal
 
 -- ---- one edit
 
--- the changes of a list of one
-pub changes_are : (items begun : List Change) (c : Change) → items ≡ begun ++ c ∷ [] → begun ≡ [] → map change_of items ≡ change_of c ∷ []
-changes_are items begun c is none_yet = ap (map change_of) (is ∙ ap (λ (z : List Change). z ++ c ∷ []) none_yet)
-
-pub step_made : (w : List FileOf) (e : Asked) (cs entry : List ChangeOf) (after : List FileOf) → entry ≡ cs → IsAdmissible w e × AreChanges w e cs → IsReopened w cs (Some after) → IsMappedStep w e entry after
-step_made w e cs entry after same ok put =
-    subst (λ (z : List ChangeOf). IsMappedStep w e z after) (sym same) (mapped_step w e cs after (record { admissible = ok.0; changes = ok.1; put = put.0 }) put.1)
+pub step_made : (w : List FileOf) (e : Asked) (cs entry : List ChangeOf) (after : List FileOf) → AreCompiled w → entry ≡ cs → IsAdmissible w e × AreChanges w e cs → IsReopened w cs (Some after) → IsMappedStep w e entry after
+step_made w e cs entry after has same ok put =
+    subst (λ (z : List ChangeOf). IsMappedStep w e z after) (sym same) (steps_compile w after e cs has (record { admissible = ok.0; changes = ok.1; put = put.0 }))
 
 -- ---- runs
 

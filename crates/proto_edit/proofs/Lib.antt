@@ -1,27 +1,7 @@
-pub mod Steps
-pub mod Refusals
-pub mod StepEntries
-pub mod Admitted
-pub mod Clean
-pub mod Placed
-pub mod Meanings
-pub mod Repeating
-pub mod Described
-pub mod OnlyFile
-pub mod Reopening
-pub mod Chains
+mod Chains
+pub mod GivenAgain
+mod MappedSteps
 pub mod OneAnswer
-pub mod EveryText
-pub mod EveryTree
-pub mod CleanCompiles
-pub mod BridgeTrees
-pub mod BridgeNames
-pub mod BridgeParts
-pub mod BridgeScene
-pub mod BridgeFlaws
-pub mod BridgeWhole
-pub mod WholeFirst
-pub mod FirstDescribedFields
-pub mod FirstDescribedNames
-pub mod FirstDescribed
-pub mod Languages
+mod Refusals
+mod Reopening
+pub mod Steps

@@ -1,78 +1,97 @@
--- Files compile to one list of descriptors, and an edit changes them in one way.
-use Rattle.std.proofs.Common.{◌≡◌, ℕ, List, [], ◌∷◌, sym, ap, subst, ◌∙◌}
-use Rattle.proto_text.specs.declared.lexer.Token.{Token}
-use Rattle.proto_text.specs.Texts.{words}
-use Rattle.proto_tree.specs.Tree.{Tree}
-use Rattle.proto_tree.specs.Reads.{Reads}
+-- Files that compile have one list of descriptors; an edit changes them in one way, or is refused by one case (for the crates above).
+use Rattle.std.proofs.Common.{◌≡◌, ℕ, Bool, List, inl, inr, sym, ap, subst, ◌∙◌, arith}
+use Rattle.std.proofs.lemmas.Bool.{cases_lt}
+use Rattle.proto_files.specs.FilesRead.{ReadOf, AreRead}
 use Rattle.proto_files.specs.GivenFiles.{FileOf}
-use Rattle.proto_rename.specs.declared.shape.FieldAt.{FieldAt}
-use Rattle.proto_rename.specs.declared.shape.MessageAt.{MessageAt}
-use Rattle.proto_rename.specs.Descriptors.{desc}
-use Rattle.proto_rename.specs.Shape.{messages_of}
+use Rattle.proto_files.proofs.ReadOnce.{read_once}
+use Rattle.proto_json.specs.Descriptors.{FileDesc}
+use Rattle.proto_schema.specs.Whole.{of_link}
 use Rattle.proto_entries.specs.Entries.{ChangeOf}
-use Rattle.proto_rename.specs.Renames.{a_field, target_in}
-use Rattle.proto_edit.specs.Printed.{printed}
 use Rattle.proto_entries.specs.Putting.{IsPut}
-use Rattle.proto_edit.specs.Workspaces.{Asked, rename, NamedFile, AreChanges}
-use Rattle.proto_edit.specs.Laws.{CompilesOnce, DescribedOnce, StepsOnce, StepsArePrinted, StepsAreUndone}
-use Rattle.proto_rename.proofs.OneReading.{one_reading}
 use Rattle.proto_entries.proofs.Puts.{puts_are_once}
-use Rattle.proto_rename.proofs.Made.{change_of_field}
+use Rattle.proto_rename_laws.specs.Cases.{Captures, IsFirstPlace}
+use Rattle.proto_rename_laws.specs.Changes.{changes_of_words}
+use Rattle.proto_rename_laws.specs.Targets.{Target, IsNamed, name_map, renamed_words}
+use Rattle.proto_rename_laws.proofs.FirstPlaces.{first_places_are_one}
+use Rattle.proto_rename_laws.proofs.OneTarget.{targets_are_one}
+use Rattle.proto_rename_described.specs.Mapped.{mapped}
+use Rattle.proto_rename_described.specs.Renamed.{AreRenamed}
+use Rattle.proto_rename_described.proofs.WrittenJson.{written_once}
+use Rattle.proto_edit.specs.Compiled.{AreCompiled}
+use Rattle.proto_edit.specs.Laws.{DescribedOnce, MappedOnce, RefusedOnce, StepsAreUndone, StepsOnce}
+use Rattle.proto_edit.specs.Workspaces.{Asked, rename, delete_field, add_import, drop_import, AreChanges, ChangesOf, IsLeastCase, IsPlaceOf, Maps, PlaceOf}
+use Rattle.proto_edit.proofs.GivenAgain.{compiled_are_read}
 use Rattle.proto_edit.proofs.Steps.{step_back, undo_once}
 
-pub compiles_once : CompilesOnce
-compiles_once [] a b x y = x ∙ sym y
-compiles_once (f ∷ []) a b x y =
-    let one = one_reading f.bytes x.0 y.0 x.1 y.1 x.3.reads y.3.reads in
-    x.4
-    ∙ ap (λ (z : List Token). let d : NamedFile = record { path = f.path; messages = desc (words f.bytes z) (messages_of x.1) } in d ∷ []) one.0
-    ∙ ap (λ (z : Tree). let d : NamedFile = record { path = f.path; messages = desc (words f.bytes y.0) (messages_of z) } in d ∷ []) one.1
-    ∙ sym y.4
-compiles_once (f ∷ g ∷ fs) a b x y = absurd x
-
 pub described_once : DescribedOnce
-described_once w a b x y = x.2 ∙ ap printed (compiles_once w x.0 y.0 x.1 y.1) ∙ sym y.2
+described_once w a b has x y = let read = compiled_are_read w has in x read.0 read.1 ∙ sym (y read.0 read.1)
+
+-- the target of a name in files that compile
+one_target : (w : List FileOf) (reads : List ReadOf) (name : List ℕ) (t u : Target) → AreCompiled w → AreRead w reads → IsNamed w reads name t → IsNamed w reads name u → t ≡ u
+one_target w reads name t u has read a b = targets_are_one w reads name t u read (λ x h. has.clean x (of_link x h)) a b
 
 -- ---- the changes of an edit
 
-same_head : (f g : FileOf) → f ∷ [] ≡ g ∷ [] → f ≡ g
-same_head f g h = cc
+changes_by : (w : List FileOf) (reads : List ReadOf) (e : Asked) (cs ds : List ChangeOf) → AreCompiled w → AreRead w reads → ChangesOf w reads e cs → ChangesOf w reads e ds → cs ≡ ds
+changes_by w reads (rename name to) cs ds has read x y =
+    x.2 ∙ ap (λ (t : Target). changes_of_words (renamed_words w reads t to) w reads) (one_target w reads name x.0 y.0 has read x.1 y.1) ∙ sym y.2
+changes_by w reads (delete_field name) cs ds has read x y = absurd x
+changes_by w reads (add_import file path) cs ds has read x y = absurd x
+changes_by w reads (drop_import file path) cs ds has read x y = absurd x
 
-same_rename : (a b c d : List ℕ) → rename a b ≡ rename c d → (a ≡ c) × (b ≡ d)
-same_rename a b c d h = (cc, cc)
-
-same_field : (m n : MessageAt) (f g : FieldAt) → a_field m f ≡ a_field n g → f ≡ g
-same_field m n f g h = cc
-
-pub changes_once : (w : List FileOf) (e : Asked) (cs ds : List ChangeOf) → AreChanges w e cs → AreChanges w e ds → cs ≡ ds
-changes_once w e cs ds x y =
-    let file : x.file ≡ y.file = same_head x.file y.file (sym x.whole ∙ y.whole) in
-    let asked = same_rename x.name x.to y.name y.to (sym x.asked ∙ y.asked) in
-    let reads = subst (λ (z : FileOf). Reads z.bytes x.tokens x.tree) file x.compiles.reads in
-    let one = one_reading y.file.bytes x.tokens y.tokens x.tree y.tree reads y.compiles.reads in
-    let field = same_field x.m y.m x.f y.f (
-    sym x.target
-    ∙ ap (λ (z : FileOf). target_in (words z.bytes x.tokens) x.name (messages_of x.tree)) file
-    ∙ ap (λ (z : List Token). target_in (words y.file.bytes z) x.name (messages_of x.tree)) one.0
-    ∙ ap (λ (z : Tree). target_in (words y.file.bytes y.tokens) x.name (messages_of z)) one.1
-    ∙ ap (λ (z : List ℕ). target_in (words y.file.bytes y.tokens) z (messages_of y.tree)) asked.0
-    ∙ y.target) in
-    x.are
-    ∙ ap (λ (z : FileOf). change_of_field z x.tokens x.f x.to ∷ []) file
-    ∙ ap (λ (z : List Token). change_of_field y.file z x.f x.to ∷ []) one.0
-    ∙ ap (λ (z : FieldAt). change_of_field y.file y.tokens z x.to ∷ []) field
-    ∙ ap (λ (z : List ℕ). change_of_field y.file y.tokens y.f z ∷ []) asked.1
-    ∙ sym y.are
+pub changes_once : (w : List FileOf) (e : Asked) (cs ds : List ChangeOf) → AreCompiled w → AreChanges w e cs → AreChanges w e ds → cs ≡ ds
+changes_once w e cs ds has x y =
+    changes_by w y.0 e cs ds has y.1 (subst (λ (rs : List ReadOf). ChangesOf w rs e cs) (read_once w x.0 y.0 x.1 y.1) x.2) y.2
 
 pub steps_once : StepsOnce
-steps_once w a b e cs ds x y =
-    let same = changes_once w e cs ds x.changes y.changes in
+steps_once w a b e cs ds has x y =
+    let same = changes_once w e cs ds has x.changes y.changes in
     (same, puts_are_once w a b ds (subst (λ (z : List ChangeOf). IsPut w z a) same x.put) y.put)
-
-pub steps_are_printed : StepsArePrinted
-steps_are_printed w after e cs s d ds has is = is.2 ∙ ap printed (compiles_once after is.0 _ is.1 (s.compiles d has))
 
 pub steps_are_undone : StepsAreUndone
 steps_are_undone w after e cs has s =
     let back = step_back w e cs after s has in
     (back, λ b undo. undo_once after b w cs undo back)
+
+-- ---- the place that is answered
+
+place_by : (w : List FileOf) (reads : List ReadOf) (e : Asked) (path file : List ℕ) (offset other : ℕ) → AreCompiled w → AreRead w reads → PlaceOf w reads e path offset → PlaceOf w reads e file other → (path ≡ file) × (offset ≡ other)
+place_by w reads (rename name to) path file offset other has read x y =
+    let first = subst (λ (t : Target). IsFirstPlace w reads (Captures w reads t to) path offset) (one_target w reads name x.0 y.0 has read x.1 y.1) x.2 in
+    first_places_are_one w reads y.0 to path file offset other first y.2
+place_by w reads (delete_field name) path file offset other has read x y = absurd x
+place_by w reads (add_import imports imported) path file offset other has read x y = absurd x
+place_by w reads (drop_import imports imported) path file offset other has read x y = absurd x
+
+pub place_once : (w : List FileOf) (e : Asked) (path file : List ℕ) (offset other : ℕ) → AreCompiled w → IsPlaceOf w e path offset → IsPlaceOf w e file other → (path ≡ file) × (offset ≡ other)
+place_once w e path file offset other has x y =
+    place_by w y.0 e path file offset other has y.1 (subst (λ (rs : List ReadOf). PlaceOf w rs e path offset) (read_once w x.0 y.0 x.1 y.1) x.2) y.2
+
+pub least_once : (w : List FileOf) (e : Asked) (m n : ℕ) → IsLeastCase w e m → IsLeastCase w e n → m ≡ n
+least_once w e m n x y = elim (cases_lt m n) [
+  | inl lt ↦ absurd (y.least m lt x.is)
+  | inr ge ↦ elim (cases_lt n m) [
+    | inl gt ↦ absurd (x.least n gt y.is)
+    | inr le ↦ omega (arith, ge, le)
+  ]
+]
+
+pub refused_once : RefusedOnce
+refused_once w e has = (λ m n. least_once w e m n, λ path file offset other. place_once w e path file offset other has)
+
+-- ---- the descriptors under its map
+
+renamed_once : (w : List FileOf) (reads : List ReadOf) (to : List ℕ) (t : Target) (ds a b : List FileDesc) → AreRead w reads → AreRenamed w reads t to ds a → AreRenamed w reads t to ds b → a ≡ b
+renamed_once w reads to t ds a b read x y =
+    x.2 ∙ ap (λ (v : Bool). mapped (name_map w reads t to) (record { written = v; enum = t.enum }) ds) (written_once w reads t read x.0 y.0 x.1 y.1) ∙ sym y.2
+
+mapped_by : (w : List FileOf) (reads : List ReadOf) (e : Asked) (ds a b : List FileDesc) → AreCompiled w → AreRead w reads → Maps w reads e ds a → Maps w reads e ds b → a ≡ b
+mapped_by w reads (rename name to) ds a b has read x y =
+    let first = subst (λ (t : Target). AreRenamed w reads t to ds a) (one_target w reads name x.0 y.0 has read x.1 y.1) x.2 in
+    renamed_once w reads to y.0 ds a b read first y.2
+mapped_by w reads (delete_field name) ds a b has read x y = absurd x
+mapped_by w reads (add_import file path) ds a b has read x y = absurd x
+mapped_by w reads (drop_import file path) ds a b has read x y = absurd x
+
+pub mapped_once : MappedOnce
+mapped_once w e ds a b has x y = mapped_by w y.0 e ds a b has y.1 (subst (λ (rs : List ReadOf). Maps w rs e ds a) (read_once w x.0 y.0 x.1 y.1) x.2) y.2

@@ -12,7 +12,7 @@ use Rattle.proto_entries.specs.Entries.{ChangeOf, AreRising}
 use Rattle.proto_entries.specs.Putting.{ArePut, AreShortFiles, IsPut}
 use Rattle.proto_entries.proofs.Puts.{puts_are_once}
 use Rattle.proto_entries.proofs.Walks.{put_by_paths, put_in_order, still_files}
-use Rattle.proto_edit.proofs.WholeFirst.{opens_again, sorted_again}
+use Rattle.proto_edit.proofs.GivenAgain.{opens_again, sorted_again}
 
 -- no file of what compiles is too large
 are_short : (w : List FileOf) → AreCompiled w → AreShortFiles w

@@ -1,107 +1,62 @@
--- Edits of a workspace, runs of edits, and the way back.
-use Rattle.std.proofs.Common.{◌≡◌, ℕ, ◌+◌, ◌-◌, List, [], ◌∷◌, ◌++◌, refl, sym, ap, subst, ◌∙◌, inl, length, reverse}
+-- Edits of a workspace, runs of edits, and the way back (for the crates above).
+use Rattle.std.proofs.Common.{◌≡◌, List, [], ◌∷◌, ◌++◌, refl, sym, subst, ◌∙◌, reverse}
 use Rattle.std.specs.Prelude.{Result, Ok, Err}
-use Rattle.std.specs.List.{Contains}
 use Rattle.std.proofs.lemmas.List.{reverse-append}
-use Rattle.proto_text.specs.declared.lexer.Token.{Token}
-use Rattle.proto_text.specs.Texts.{words}
-use Rattle.proto_tree.specs.Tree.{Tree}
 use Rattle.proto_files.specs.GivenFiles.{FileOf}
-use Rattle.proto_files.specs.WorkspacePaths.{IsWorkspacePath}
-use Rattle.proto_meaning.specs.Edits.{Renaming}
 use Rattle.proto_entries.specs.declared.refusal.Refusal.{Refusal}
-use Rattle.proto_rename.specs.declared.shape.FieldAt.{FieldAt}
-use Rattle.proto_rename.specs.declared.shape.MessageAt.{MessageAt}
-use Rattle.proto_rename.specs.Shape.{messages_of}
-use Rattle.proto_rename.specs.Descriptors.{NamedMessage, desc, mapped}
-use Rattle.proto_rename.specs.Renames.{Compiles, Target, a_field, target_in, renaming, Refused}
-use Rattle.proto_edit.specs.Compiled.{AreCompiled, IsOfFirstLanguage}
-use Rattle.proto_entries.specs.Entries.{ChangeOf, inverted}
-use Rattle.proto_entries.specs.Putting.{EachPuts, IsPut}
-use Rattle.proto_edit.specs.Workspaces.{NamedFile, CompilesTo, Asked, rename, IsAdmissible, AreChanges, name_map, IsStep, IsMappedStep, mapped_files, Run, accepted, IsUndo, Undone}
-use Rattle.proto_edit.specs.Laws.{StepsCompile, RunsAreUndone, UndoneOnce}
-use Rattle.proto_rename.proofs.OneReading.{one_reading}
-use Rattle.proto_entries.proofs.Puts.{IsEven, put_back, puts_are_once}
-use Rattle.proto_edit.proofs.WholeFirst.{first_compiled, first_is_whole}
-use Rattle.proto_rename.proofs.Made.{change_of_field, made_text, step_text, made_put, is_even}
-
--- ---- one edit, of a file that is read so
-
-module _ (file : FileOf) (name to : List ℕ) (tokens : List Token) (tree : Tree) (m : MessageAt) (f : FieldAt)
-    (compiles : Compiles file.bytes tokens tree) (target : target_in (words file.bytes tokens) name (messages_of tree) ≡ a_field m f) (admissible : IsAdmissible (file ∷ []) (rename name to)) where
-  pub free : (n : ℕ) → Refused (words file.bytes tokens) (messages_of tree) (length file.bytes) to (a_field m f) n → ⊥
-  free n r = admissible n (inl ((tokens, tree, compiles.reads, compiles.language), (tokens, tree, compiles, subst (λ (t : Target). Refused (words file.bytes tokens) (messages_of tree) (length file.bytes) to t n) (sym target) r)))
-
-  abbrev map_here : Renaming
-  map_here = renaming (words file.bytes tokens) m f to
-
-  step_desc : (d : List NamedFile) → CompilesTo (file ∷ []) d → d ≡ record { path = file.path; messages = desc (words file.bytes tokens) (messages_of tree) } ∷ []
-  step_desc d has =
-      let one = one_reading file.bytes has.0 tokens has.1 tree has.3.reads compiles.reads in
-      has.4
-      ∙ ap (λ (z : List Token). record { path = file.path; messages = desc (words file.bytes z) (messages_of has.1) } ∷ []) one.0
-      ∙ ap (λ (z : Tree). record { path = file.path; messages = desc (words file.bytes tokens) (messages_of z) } ∷ []) one.1
-
-  step_files : (after : List FileOf) → IsWorkspacePath file.path → EachPuts (change_of_field file tokens f to ∷ []) (file ∷ []) after → CompilesTo after (record { path = file.path; messages = mapped map_here (desc (words file.bytes tokens) (messages_of tree)) } ∷ [])
-  step_files [] path p = absurd p
-  step_files (g ∷ h ∷ gs) path p = absurd p.1
-  step_files (g ∷ []) path p =
-      let t = step_text file name to tokens tree m f compiles target free g p.0 in (
-        t.0,
-        t.1,
-        subst IsWorkspacePath (sym p.0.path) path,
-        t.2,
-        ap (λ (z : List ℕ). record { path = z; messages = mapped map_here (desc (words file.bytes tokens) (messages_of tree)) } ∷ []) (sym p.0.path)
-            ∙ ap (λ (z : List NamedMessage). record { path = g.path; messages = z } ∷ []) (sym t.3),
-      )
-
-  pub step_compiles : (after : List FileOf) (d : List NamedFile) → IsPut (file ∷ []) (change_of_field file tokens f to ∷ []) after → CompilesTo (file ∷ []) d → CompilesTo after (mapped_files map_here d)
-  step_compiles after d p has = subst (λ (z : List NamedFile). CompilesTo after (mapped_files map_here z)) (sym (step_desc d has)) (step_files after has.2 p.each)
+use Rattle.proto_entries.specs.Entries.{ChangeOf, IsEntry, inverted}
+use Rattle.proto_entries.specs.Putting.{IsPut}
+use Rattle.proto_entries.proofs.Puts.{entries_lead_back, puts_are_once}
+use Rattle.proto_rename_laws.specs.Changes.{changes_of_words}
+use Rattle.proto_rename_laws.specs.Targets.{renamed_words}
+use Rattle.proto_edit.specs.Compiled.{AreCompiled}
+use Rattle.proto_edit.specs.Laws.{EditsAreMade, RunsAreUndone, StepsCompile, UndoneOnce}
+use Rattle.proto_edit.specs.Workspaces.{Asked, rename, delete_field, add_import, drop_import, kind_not_allowed, IsAdmissible, AreChanges, IsStep, IsMappedStep, Run, accepted, IsUndo, Undone}
+use Rattle.proto_edit.proofs.GivenAgain.{compiled_are_read}
+use Rattle.proto_edit.proofs.MappedSteps.{target_of, words_are_put}
 
 -- ---- one edit
 
-admissible_of : (w : List FileOf) (e : Asked) (cs : List ChangeOf) (x : AreChanges w e cs) → IsAdmissible w e → IsAdmissible (x.file ∷ []) (rename x.name x.to)
-admissible_of w e cs x ok = subst (IsAdmissible (x.file ∷ [])) x.asked (subst (λ (z : List FileOf). IsAdmissible z e) x.whole ok)
+-- what an admissible edit changes can be made, and is an entry
+pub made : (w : List FileOf) (e : Asked) (cs : List ChangeOf) → AreCompiled w → IsAdmissible w e → AreChanges w e cs → (after : List FileOf) × IsMappedStep w e cs after × IsEntry cs
+made w (rename name to) cs has ok x =
+    let step = words_are_put w x.0 name to x.2.0 has x.1 x.2.1 ok in
+    let same = sym x.2.2 in
+    (step.0, subst (λ (z : List ChangeOf). IsMappedStep w (rename name to) z step.0) same step.1, subst IsEntry same step.2)
+made w (delete_field name) cs has ok x = absurd x.2
+made w (add_import file path) cs has ok x = absurd x.2
+made w (drop_import file path) cs has ok x = absurd x.2
 
-put_of : (w : List FileOf) (e : Asked) (cs : List ChangeOf) (after : List FileOf) (x : AreChanges w e cs) → IsPut w cs after → IsPut (x.file ∷ []) (change_of_field x.file x.tokens x.f x.to ∷ []) after
-put_of w e cs after x p = subst (λ (z : List ChangeOf). IsPut (x.file ∷ []) z after) x.are (subst (λ (z : List FileOf). IsPut z cs after) x.whole p)
+-- what the edit changes
+changes_of : (w : List FileOf) (e : Asked) → AreCompiled w → IsAdmissible w e → (cs : List ChangeOf) × AreChanges w e cs
+changes_of w (rename name to) has ok =
+    let read = compiled_are_read w has in
+    let there = target_of w read.0 name to read.1 ok in
+    (changes_of_words (renamed_words w read.0 there.0 to) w read.0, (read.0, read.1, (there.0, there.1, refl)))
+changes_of w (delete_field name) has ok = let read = compiled_are_read w has in absurd (ok 2 (read.0, read.1, kind_not_allowed))
+changes_of w (add_import file path) has ok = let read = compiled_are_read w has in absurd (ok 2 (read.0, read.1, refl))
+changes_of w (drop_import file path) has ok = let read = compiled_are_read w has in absurd (ok 2 (read.0, read.1, refl))
+
+pub edits_are_made : EditsAreMade
+edits_are_made w e has ok =
+    let c = changes_of w e has ok in
+    let m = made w e c.0 has ok c.1 in
+    (c.0, c.1, m.2, m.0, m.1.step.put, m.1.compiled)
 
 pub steps_compile : StepsCompile
-steps_compile w after e cs s d has =
-    let x = s.changes in
-    step_compiles x.file x.name x.to x.tokens x.tree x.m x.f x.compiles x.target (admissible_of w e cs x s.admissible) after d (put_of w e cs after x s.put) (subst (λ (z : List FileOf). CompilesTo z d) x.whole has)
-
-pub mapped_step : (w : List FileOf) (e : Asked) (cs : List ChangeOf) (after : List FileOf) → IsStep w e cs after → AreCompiled after → IsMappedStep w e cs after
-mapped_step w e cs after s compiled = record { step = s; compiled = compiled; compiles = λ d has. steps_compile w after e cs s d has }
-
--- what an edit changes is of the first language
-first_of : (w : List FileOf) (e : Asked) (cs : List ChangeOf) → AreChanges w e cs → IsOfFirstLanguage w
-first_of w e cs x = subst IsOfFirstLanguage (sym x.whole) (x.tokens, x.tree, x.compiles.reads, x.compiles.language)
-
-pub step_compiled : (w : List FileOf) (e : Asked) (cs : List ChangeOf) (after : List FileOf) → IsStep w e cs after → AreCompiled w → AreCompiled after
-step_compiled w e cs after s has =
-    let first = first_compiled w has (first_of w e cs s.changes) in
-    first_is_whole after (mapped_files (name_map w e cs s.changes) first.0, steps_compile w after e cs s first.0 first.1)
-
--- an admissible edit can be made
-pub made : (w : List FileOf) (e : Asked) (cs : List ChangeOf) → AreCompiled w → IsAdmissible w e → AreChanges w e cs → (after : List FileOf) × IsPut w cs after × AreCompiled after
-made w e cs has ok x =
-    let admissible = admissible_of w e cs x ok in
-    let text = made_text x.file x.name x.to x.tokens x.tree x.m x.f x.compiles x.target (free x.file x.name x.to x.tokens x.tree x.m x.f x.compiles x.target admissible) in
-    let one = made_put x.file x.name x.to x.tokens x.tree x.m x.f x.compiles x.target (free x.file x.name x.to x.tokens x.tree x.m x.f x.compiles x.target admissible) in
-    let after : List FileOf = record { path = x.file.path; bytes = text.0 } ∷ [] in
-    let put = subst (λ (z : List FileOf). IsPut z cs after) (sym x.whole) (subst (λ (z : List ChangeOf). IsPut (x.file ∷ []) z after) (sym x.are) one) in
-    (after, put, step_compiled w e cs after (record { admissible = ok; changes = x; put = put }) has)
+steps_compile w after e cs has s =
+    let m = made w e cs has s.admissible s.changes in
+    subst (λ (z : List FileOf). IsMappedStep w e cs z) (puts_are_once w m.0 after cs m.1.step.put s.put) m.1
 
 pub cannot_fail : (w : List FileOf) (e : Asked) (cs : List ChangeOf) → AreCompiled w → IsAdmissible w e → AreChanges w e cs → ((after : List FileOf) → IsPut w cs after → AreCompiled after → ⊥) → ⊥
-cannot_fail w e cs has ok x none = let m = made w e cs has ok x in none m.0 m.1 m.2
+cannot_fail w e cs has ok x none = let m = made w e cs has ok x in none m.0 m.1.step.put m.1.compiled
 
-even_of : (w : List FileOf) (e : Asked) (cs : List ChangeOf) → IsAdmissible w e → AreChanges w e cs → (c : ChangeOf) → Contains cs c → IsEven c
-even_of w e cs ok x c k = is_even x.file x.name x.to x.tokens x.tree x.m x.f x.compiles x.target (free x.file x.name x.to x.tokens x.tree x.m x.f x.compiles x.target (admissible_of w e cs x ok)) c (subst (λ (z : List ChangeOf). Contains z c) x.are k)
+pub entry_is : (w : List FileOf) (e : Asked) (cs : List ChangeOf) → AreCompiled w → IsAdmissible w e → AreChanges w e cs → IsEntry cs
+entry_is w e cs has ok x = (made w e cs has ok x).2
 
 -- what undoes it
 pub step_back : (w : List FileOf) (e : Asked) (cs : List ChangeOf) (after : List FileOf) → IsStep w e cs after → AreCompiled w → IsUndo after cs w
-step_back w e cs after s has = record { put = put_back w cs after (even_of w e cs s.admissible s.changes) s.put; compiled = has }
+step_back w e cs after s has = record { put = entries_lead_back w after cs (entry_is w e cs has s.admissible s.changes) s.put; compiled = has }
 
 -- ---- runs
 
@@ -116,7 +71,7 @@ runs_are_undone w to (e ∷ es) [] has run = absurd run
 runs_are_undone w to (e ∷ es) (Err r ∷ more) has run = runs_are_undone w to es more has run.2
 runs_are_undone w to (e ∷ es) (Ok cs ∷ more) has run =
     let step = run.1.step in
-    let later = runs_are_undone run.0 to es more (step_compiled w e cs run.0 step has) run.2 in
+    let later = runs_are_undone run.0 to es more run.1.compiled run.2 in
     subst (λ (z : List (List ChangeOf)). Undone to z w) (sym (reverse-append (cs ∷ []) (accepted more)))
     (undone_append to run.0 w (reverse (accepted more)) (cs ∷ []) later (w, step_back w e cs run.0 step has, refl))
 

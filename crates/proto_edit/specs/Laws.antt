@@ -1,50 +1,59 @@
 -- The laws of edits over workspaces and over runs.
-use Rattle.std.specs.Prelude.{◌≡◌, List, reverse, Result}
+use Rattle.std.specs.Prelude.{◌≡◌, ℕ, List, reverse, Result}
 use Rattle.proto_files.specs.Faults.{HasNoFault}
+use Rattle.proto_files.specs.FilesRead.{ReadOf, AreRead}
 use Rattle.proto_files.specs.GivenFiles.{FileOf}
 use Rattle.proto_schema.specs.Whole.{WorkspaceFaults}
+use Rattle.proto_desc.specs.Checked.{AreDescribed}
+use Rattle.proto_json.specs.Descriptors.{FileDesc}
 use Rattle.proto_entries.specs.declared.refusal.Refusal.{Refusal}
-use Rattle.proto_edit.specs.Compiled.{AreCompiled}
 use Rattle.proto_entries.specs.Entries.{ChangeOf, IsEntry}
 use Rattle.proto_entries.specs.Putting.{IsPut}
-use Rattle.proto_edit.specs.Workspaces.{Asked, NamedFile, CompilesTo, IsAdmissible, AreChanges, IsStep, IsMappedStep, IsUndo, mapped_files, name_map, Run, accepted, Undone}
-use Rattle.proto_edit.specs.Printed.{AreDescribedBy, printed}
-use Rattle.proto_json.specs.Descriptors.{FileDesc}
+use Rattle.proto_edit.specs.Compiled.{AreCompiled}
+use Rattle.proto_edit.specs.Workspaces.{Asked, IsAdmissible, IsLeastCase, IsPlaceOf, AreChanges, AreMapped, IsStep, IsMappedStep, IsUndo, Run, accepted, Undone}
 
--- ---- workspaces and runs
+-- ---- workspaces
 
 -- Files that compile have no fault, as a workspace that is given.
 abbrev pub WorkspacesAreClean : Type 0
 WorkspacesAreClean = (w : List FileOf) → AreCompiled w → HasNoFault (WorkspaceFaults w)
 
--- Files of the first language compile to one list of descriptors there.
-abbrev pub CompilesOnce : Type 0
-CompilesOnce = (w : List FileOf) (a b : List NamedFile) → CompilesTo w a → CompilesTo w b → a ≡ b
+-- Files that compile have tokens and trees.
+abbrev pub CompiledAreRead : Type 0
+CompiledAreRead = (w : List FileOf) → AreCompiled w → (reads : List ReadOf) × AreRead w reads
 
--- The same as they are printed.
+-- Files that compile have one list of descriptors.
 abbrev pub DescribedOnce : Type 0
-DescribedOnce = (w : List FileOf) (a b : List FileDesc) → AreDescribedBy w a → AreDescribedBy w b → a ≡ b
+DescribedOnce = (w : List FileOf) (a b : List FileDesc) → AreCompiled w → AreDescribed w a → AreDescribed w b → a ≡ b
 
--- An edit changes files in one way, and leaves one list of files.
+-- ---- one edit
+
+-- An edit of files that compile changes them in one way, and leaves one list of files.
 abbrev pub StepsOnce : Type 0
-StepsOnce = (w a b : List FileOf) (e : Asked) (cs ds : List ChangeOf) → IsStep w e cs a → IsStep w e ds b → (cs ≡ ds) × (a ≡ b)
+StepsOnce = (w a b : List FileOf) (e : Asked) (cs ds : List ChangeOf) → AreCompiled w → IsStep w e cs a → IsStep w e ds b → (cs ≡ ds) × (a ≡ b)
 
--- What is printed of the files after an accepted edit is printed of the old descriptors under the name map.
-abbrev pub StepsArePrinted : Type 0
-StepsArePrinted = (w after : List FileOf) (e : Asked) (cs : List ChangeOf) (s : IsMappedStep w e cs after) (d : List NamedFile) (ds : List FileDesc) → CompilesTo w d → AreDescribedBy after ds
-    → ds ≡ printed (mapped_files (name_map w e cs s.step.changes) d)
+-- The descriptors under the edit's map are one list.
+abbrev pub MappedOnce : Type 0
+MappedOnce = (w : List FileOf) (e : Asked) (ds a b : List FileDesc) → AreCompiled w → AreMapped w e ds a → AreMapped w e ds b → a ≡ b
+
+-- An edit is refused by one case, and with one place where one is answered.
+abbrev pub RefusedOnce : Type 0
+RefusedOnce = (w : List FileOf) (e : Asked) → AreCompiled w → ((m n : ℕ) → IsLeastCase w e m → IsLeastCase w e n → m ≡ n)
+    × ((path file : List ℕ) (offset other : ℕ) → IsPlaceOf w e path offset → IsPlaceOf w e file other → (path ≡ file) × (offset ≡ other))
 
 -- Undoing what an edit answered leads back, and to no other files.
 abbrev pub StepsAreUndone : Type 0
 StepsAreUndone = (w after : List FileOf) (e : Asked) (cs : List ChangeOf) → AreCompiled w → IsStep w e cs after → IsUndo after cs w × ((b : List FileOf) → IsUndo after cs b → b ≡ w)
 
--- An admissible edit leaves files that compile to the old descriptors under the name map.
+-- What an admissible edit leaves compiles, and to the old descriptors under the edit's map.
 abbrev pub StepsCompile : Type 0
-StepsCompile = (w after : List FileOf) (e : Asked) (cs : List ChangeOf) (s : IsStep w e cs after) (d : List NamedFile) → CompilesTo w d → CompilesTo after (mapped_files (name_map w e cs s.changes) d)
+StepsCompile = (w after : List FileOf) (e : Asked) (cs : List ChangeOf) → AreCompiled w → IsStep w e cs after → IsMappedStep w e cs after
 
 -- An admissible edit can be made: it changes something, its changes are an entry, and what they leave compiles.
 abbrev pub EditsAreMade : Type 0
 EditsAreMade = (w : List FileOf) (e : Asked) → AreCompiled w → IsAdmissible w e → (cs : List ChangeOf) × AreChanges w e cs × IsEntry cs × (after : List FileOf) × IsPut w cs after × AreCompiled after
+
+-- ---- runs
 
 -- undoing what a run answered, last one first, leads back
 abbrev pub RunsAreUndone : Type 0

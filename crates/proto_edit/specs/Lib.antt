@@ -1,8 +1,5 @@
-pub mod Workspaces
-pub mod Printed
-pub mod Laws
 pub mod Answers
-pub mod Sentences
 pub mod Compiled
-pub mod Plain
-pub mod Bridge
+pub mod Laws
+pub mod MappedSteps
+pub mod Workspaces

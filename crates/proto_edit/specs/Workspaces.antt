@@ -1,125 +1,112 @@
--- A workspace under edits: when an edit is refused, what it changes, and runs of edits.
-use Rattle.std.specs.Prelude.{◌≡◌, ◌≢◌, ◌⊎◌, ℕ, ◌+◌, ◌-◌, ◌<◌, List, [], ◌∷◌, length, map, Result, Ok, Err}
-use Rattle.proto_text.specs.declared.lexer.Token.{Token}
-use Rattle.proto_text.specs.Texts.{offset_at, words}
-use Rattle.proto_tree.specs.Tree.{Tree}
+-- A workspace under edits: when an edit is refused, what it changes, what it leaves, and runs of edits. What is particular to an edit is said by cases on the
+-- edit, over the files and what is read of them; all else speaks of changes, and of no edit.
+use Rattle.std.specs.Prelude.{◌≡◌, ◌≢◌, ℕ, ◌<◌, List, [], ◌∷◌, Result, Ok, Err, string_bytes}
+use Rattle.proto_files.specs.FilesRead.{ReadOf, AreRead}
 use Rattle.proto_files.specs.GivenFiles.{FileOf}
-use Rattle.proto_files.specs.WorkspacePaths.{IsWorkspacePath}
-use Rattle.proto_meaning.specs.Edits.{Renaming}
-use Rattle.proto_rename.specs.declared.shape.FieldAt.{FieldAt}
-use Rattle.proto_rename.specs.declared.shape.MessageAt.{MessageAt}
+use Rattle.proto_json.specs.Descriptors.{FileDesc}
+use Rattle.proto_desc.specs.Checked.{AreDescribed}
 use Rattle.proto_entries.specs.declared.refusal.Refusal.{Refusal}
-use Rattle.proto_entries.specs.declared.refusal.Refusal.TheVariants as refusal
-use Rattle.proto_edit.specs.Compiled.{AreCompiled, IsOfFirstLanguage}
 use Rattle.proto_entries.specs.Entries.{ChangeOf, inverted}
 use Rattle.proto_entries.specs.Putting.{IsPut}
 use Rattle.proto_entries.specs.RefusalTable.{number_of}
-use Rattle.proto_rename.specs.Shape.{messages_of}
-use Rattle.proto_rename.specs.Descriptors.{NamedMessage, desc, mapped}
-use Rattle.proto_rename.specs.Renames.{Compiles, Target, absent, no_field, a_field, target_in, renaming, Refused}
+use Rattle.proto_entries.specs.declared.refusal.Refusal.TheVariants as refusal
+use Rattle.proto_rename_laws.specs.Cases.{Captures, IsFirstPlace, IsUnknown, RenameCase}
+use Rattle.proto_rename_laws.specs.Changes.{changes_of_words}
+use Rattle.proto_rename_laws.specs.Targets.{Target, IsNamed, renamed_words}
+use Rattle.proto_rename_described.specs.Renamed.{AreRenamed}
+use Rattle.proto_edit.specs.Compiled.{AreCompiled}
 
--- ---- workspaces of the first language
-
-pub record NamedFile : Type 0 where
-  pub path : List ℕ
-  pub messages : List NamedMessage
-
--- the files compile to these descriptors in the first language: no file, or one
-abbrev pub CompilesTo : List FileOf → List NamedFile → Type 0
-CompilesTo [] d = d ≡ []
-CompilesTo (f ∷ []) d = (tokens : List Token) × (tree : Tree) × IsWorkspacePath f.path × Compiles f.bytes tokens tree
-    × (d ≡ record { path = f.path; messages = desc (words f.bytes tokens) (messages_of tree) } ∷ [])
-CompilesTo (f ∷ g ∷ fs) d = ⊥
-
-abbrev pub IsCompiled : List FileOf → Type 0
-IsCompiled w = (d : List NamedFile) × CompilesTo w d
-
--- ---- edits, and the cases that refuse them
-
+-- the edits that may be asked: of names, or of a file's imports
 pub data Asked : Type 0 where
   rename : (name to : List ℕ) → Asked
   delete_field : (name : List ℕ) → Asked
   add_import : (file path : List ℕ) → Asked
   drop_import : (file path : List ℕ) → Asked
 
--- a name that nothing has is unknown; no field is deleted yet
-abbrev pub DeletionRefused : Target → ℕ → Type 0
-DeletionRefused absent n = n ≡ 1
-DeletionRefused no_field n = n ≡ 2
-DeletionRefused (a_field m f) n = n ≡ 2
+-- ---- the cases that refuse an edit
 
--- case n of the refusals holds in the first language, of words, messages and a file's size
-abbrev pub IsCaseOf : (ℕ → List ℕ) → List MessageAt → ℕ → Asked → ℕ → Type 0
-IsCaseOf text ms size (rename name to) n = Refused text ms size to (target_in text name ms) n
-IsCaseOf text ms size (delete_field name) n = DeletionRefused (target_in text name ms) n
-IsCaseOf text ms size (add_import file path) n = n ≡ 2
-IsCaseOf text ms size (drop_import file path) n = n ≡ 2
+-- (Until fields are deleted: a name that nothing has is unknown, and no other is allowed.)
+pub data DeletionCase (files : List FileOf) (reads : List ReadOf) (name : List ℕ) : ℕ → Type 0 where
+  unknown_target : IsUnknown files reads name → DeletionCase files reads name 1
+  kind_not_allowed : DeletionCase files reads name 2
 
-abbrev pub IsFirstCase : List FileOf → Asked → ℕ → Type 0
-IsFirstCase [] e n = IsCaseOf (λ i. []) [] 0 e n
-IsFirstCase (f ∷ []) e n = (tokens : List Token) × (tree : Tree) × Compiles f.bytes tokens tree × IsCaseOf (words f.bytes tokens) (messages_of tree) (length f.bytes) e n
-IsFirstCase (f ∷ g ∷ fs) e n = ⊥
+-- (Until imports are added and dropped, neither is allowed.)
+abbrev pub CaseOf : List FileOf → List ReadOf → Asked → ℕ → Type 0
+CaseOf files reads (rename name to) n = RenameCase files reads name to n
+CaseOf files reads (delete_field name) n = DeletionCase files reads name n
+CaseOf files reads (add_import file path) n = n ≡ 2
+CaseOf files reads (drop_import file path) n = n ≡ 2
 
--- case n holds: in a workspace of the first language as it does there; in any other, no edit is allowed yet
+-- case n holds
 abbrev pub IsCase : List FileOf → Asked → ℕ → Type 0
-IsCase w e n = (IsOfFirstLanguage w × IsFirstCase w e n) ⊎ ((IsOfFirstLanguage w → ⊥) × (n ≡ 2))
+IsCase w e n = (reads : List ReadOf) × AreRead w reads × CaseOf w reads e n
 
+-- case n holds, and none before it
 pub record IsLeastCase (w : List FileOf) (e : Asked) (n : ℕ) : Type 0 where
   pub is : IsCase w e n
   pub least : (k : ℕ) → k < n → IsCase w e k → ⊥
 
+-- no case holds
 abbrev pub IsAdmissible : List FileOf → Asked → Type 0
 IsAdmissible w e = (n : ℕ) → IsCase w e n → ⊥
 
+-- the path and offset that are answered with the case: of a rename, the least captured reference
+abbrev pub PlaceOf : List FileOf → List ReadOf → Asked → List ℕ → ℕ → Type 0
+PlaceOf files reads (rename name to) path offset = (t : Target) × IsNamed files reads name t × IsFirstPlace files reads (Captures files reads t to) path offset
+PlaceOf files reads (delete_field name) path offset = ⊥
+PlaceOf files reads (add_import file imported) path offset = ⊥
+PlaceOf files reads (drop_import file imported) path offset = ⊥
+
+-- this path and offset are answered with the case
+abbrev pub IsPlaceOf : List FileOf → Asked → List ℕ → ℕ → Type 0
+IsPlaceOf w e path offset = (reads : List ReadOf) × AreRead w reads × PlaceOf w reads e path offset
+
+-- The least case, with its place where one is answered; memory may come in the place of any.
+abbrev pub IsRefusal : List FileOf → Asked → Refusal → Type 0
+IsRefusal w e refusal.NoMemory = Unit {0}
+IsRefusal w e (refusal.Captured path offset) = IsLeastCase w e 7 × IsPlaceOf w e (string_bytes path) offset
+IsRefusal w e (refusal.Needed path offset) = IsLeastCase w e 15 × IsPlaceOf w e (string_bytes path) offset
+IsRefusal w e r = IsLeastCase w e (number_of r)
+
 -- ---- what an edit changes
 
--- the splices of an edit: of a rename, the word of the declaring token
-pub record AreChanges (w : List FileOf) (e : Asked) (cs : List ChangeOf) : Type 0 where
-  pub file : FileOf
-  pub name : List ℕ
-  pub to : List ℕ
-  pub tokens : List Token
-  pub tree : Tree
-  pub m : MessageAt
-  pub f : FieldAt
-  pub whole : w ≡ file ∷ []
-  pub asked : e ≡ rename name to
-  pub compiles : Compiles file.bytes tokens tree
-  pub target : target_in (words file.bytes tokens) name (messages_of tree) ≡ a_field m f
-  pub are : cs ≡ record {
-    path = file.path;
-    before = length file.bytes;
-    after = (length file.bytes + length to) - length (words file.bytes tokens f.name);
-    splices = record { at = offset_at tokens f.name; old = words file.bytes tokens f.name; new = to } ∷ [];
-  } ∷ []
+-- the changes of an edit: of a rename, those of its new words
+abbrev pub ChangesOf : List FileOf → List ReadOf → Asked → List ChangeOf → Type 0
+ChangesOf files reads (rename name to) cs = (t : Target) × IsNamed files reads name t × (cs ≡ changes_of_words (renamed_words files reads t to) files reads)
+ChangesOf files reads (delete_field name) cs = ⊥
+ChangesOf files reads (add_import file path) cs = ⊥
+ChangesOf files reads (drop_import file path) cs = ⊥
 
-abbrev pub name_map : (w : List FileOf) (e : Asked) (cs : List ChangeOf) → AreChanges w e cs → Renaming
-name_map w e cs s = renaming (words s.file.bytes s.tokens) s.m s.f s.to
+-- these are the changes of the edit
+abbrev pub AreChanges : List FileOf → Asked → List ChangeOf → Type 0
+AreChanges w e cs = (reads : List ReadOf) × AreRead w reads × ChangesOf w reads e cs
+
+-- ---- what an edit leaves
+
+-- the descriptors under the edit's map: of a rename, its name map
+abbrev pub Maps : List FileOf → List ReadOf → Asked → List FileDesc → List FileDesc → Type 0
+Maps files reads (rename name to) ds new = (t : Target) × IsNamed files reads name t × AreRenamed files reads t to ds new
+Maps files reads (delete_field name) ds new = ⊥
+Maps files reads (add_import file path) ds new = ⊥
+Maps files reads (drop_import file path) ds new = ⊥
+
+-- the second descriptors are the first under the edit's map
+abbrev pub AreMapped : List FileOf → Asked → List FileDesc → List FileDesc → Type 0
+AreMapped w e ds new = (reads : List ReadOf) × AreRead w reads × Maps w reads e ds new
 
 -- ---- one edit
 
+-- an edit that no case refuses, its changes, and the files with these
 pub record IsStep (w : List FileOf) (e : Asked) (cs : List ChangeOf) (after : List FileOf) : Type 0 where
   pub admissible : IsAdmissible w e
   pub changes : AreChanges w e cs
   pub put : IsPut w cs after
 
-abbrev pub mapped_files : Renaming → List NamedFile → List NamedFile
-mapped_files e d = map (λ f. record { path = f.path; messages = mapped e f.messages }) d
-
--- an accepted edit, which leaves what compiles, and to the old descriptors under the name map
+-- an accepted edit, which leaves what compiles, and to the old descriptors under its map
 pub record IsMappedStep (w : List FileOf) (e : Asked) (cs : List ChangeOf) (after : List FileOf) : Type 0 where
   pub step : IsStep w e cs after
   pub compiled : AreCompiled after
-  pub compiles : (d : List NamedFile) → CompilesTo w d → CompilesTo after (mapped_files (name_map w e cs step.changes) d)
-
--- ---- refusals
-
--- The least case; memory may come in the place of any. (Nothing is captured or needed in the first language, so no place is answered.)
-abbrev pub IsRefusal : List FileOf → Asked → Refusal → Type 0
-IsRefusal w e refusal.NoMemory = Unit {0}
-IsRefusal w e (refusal.Captured path offset) = ⊥
-IsRefusal w e (refusal.Needed path offset) = ⊥
-IsRefusal w e r = IsLeastCase w e (number_of r)
+  pub described : (ds new : List FileDesc) → AreDescribed w ds → AreDescribed after new → AreMapped w e ds new
 
 -- ---- runs
 

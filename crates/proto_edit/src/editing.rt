@@ -1,92 +1,48 @@
 //! Edits of a workspace, and the way back.
 
-ghost use Rattle.std.specs.Prelude.{◌≡◌, ◌↔◌, ◌∷◌, [], IsTrue, map, reverse, IfOk, IfErr};
+ghost use Rattle.std.specs.Prelude.{◌≡◌, ◌↔◌, map, reverse, IfOk, IfErr};
 ghost use Rattle.proto_edit.specs.Answers.{asked, IsUndoRefusal, IsReopened, IsUndoAllRefusal, LeadsBack};
 ghost use Rattle.proto_entries.specs.declared.refusal.Refusal.TheVariants as Refusal;
-ghost use Rattle.proto_edit.specs.Compiled.{IsOfFirstLanguage};
 ghost use Rattle.proto_entries.specs.Entries.{change_of, AreRising};
-ghost use Rattle.proto_edit.specs.Workspaces.{rename, delete_field, IsAdmissible, AreChanges, IsRefusal, IsMappedStep, IsUndo, Run, Undone};
+ghost use Rattle.proto_edit.specs.Workspaces.{rename as rename_asked, delete_field, IsAdmissible, AreChanges, IsRefusal, IsMappedStep, IsUndo, Run, Undone};
 
 use crate::edit::Edit;
 use crate::workspace::Workspace;
 use proto_entries::{Change, Entry, Refusal, all_turned_round, put_all};
 use proto_faults::{NoMemory, SchemaFault};
-use proto_files::Words;
-use proto_rename::{deletion_refusal, is_first_language, rename_in};
+use proto_files::are_read;
+use proto_rename::rename;
 use std::alloc::Global;
 
 impl Workspace {
-    // Whether there is no file, or one of the first language.
-    fn is_of_first_language(&self, alloc: Global) -> Result<bool, NoMemory>
-        ensures { IfOk result (λ is. IsTrue is ↔ IsOfFirstLanguage self.now) }
+    // What a rename changes, file by file, or the least case that refuses it.
+    fn renamed(&self, alloc: Global, name: &str, to: &str) -> Result<Vec<Change>, Refusal>
+        ensures ok { IfOk result (λ cs. IsAdmissible self.now (rename_asked name.now to.now) × AreChanges self.now (rename_asked name.now to.now) (map change_of cs.items)) }
+        ensures err { IfErr result (IsRefusal self.now (rename_asked name.now to.now)) }
     {
-        let files = self.files();
-        if files.is_empty() {
-            return Ok(true);
-        }
-        if files.len() > 1 {
-            return Ok(false);
-        }
-        let words = Words::new(files, 0);
-        is_first_language(alloc, &words, files.tree(0))
+        rename(alloc, self.files(), self.link(), name, to)
     }
 
-    // What the rename changes, or the least case that refuses it.
-    fn renamed(&self, alloc: Global, name: &str, to: &str) -> Result<Change, Refusal>
-        requires { IsOfFirstLanguage self.now }
-        ensures ok { IfOk result (λ c. IsAdmissible self.now (rename name.now to.now) × AreChanges self.now (rename name.now to.now) (change_of c ∷ [])) }
-        ensures err { IfErr result (IsRefusal self.now (rename name.now to.now)) }
+    // Why a field is not deleted: nothing has the name, or no field may be deleted yet.
+    fn kept(&self, name: &str) -> Refusal
+        ensures { IsRefusal self.now (delete_field name.now) result }
     {
-        let files = self.files();
-        if files.is_empty() {
-            return Err(Refusal::UnknownTarget);
+        are_read(self.files());
+        match self.link().symbol(name) {
+            Some(_) => Refusal::KindNotAllowed,
+            None => Refusal::UnknownTarget,
         }
-        let words = Words::new(files, 0);
-        rename_in(
-            alloc,
-            files.path(0),
-            files.source(0),
-            files.tokens(0),
-            &words,
-            files.tree(0),
-            name,
-            to,
-        )
     }
 
-    // Why a field is not deleted.
-    fn kept(&self, alloc: Global, name: &str) -> Result<Refusal, NoMemory>
-        requires { IsOfFirstLanguage self.now }
-        ensures { IfOk result (IsRefusal self.now (delete_field name.now)) }
-    {
-        let files = self.files();
-        if files.is_empty() {
-            return Ok(Refusal::UnknownTarget);
-        }
-        let words = Words::new(files, 0);
-        deletion_refusal(
-            alloc,
-            files.source(0),
-            files.tokens(0),
-            &words,
-            files.tree(0),
-            name,
-        )
-    }
-
-    // What an edit changes, or the least case that refuses it.
-    fn change(&self, alloc: Global, edit: &Edit) -> Result<Change, Refusal>
-        ensures ok { IfOk result (λ c. IsAdmissible self.now (asked edit.now) × AreChanges self.now (asked edit.now) (change_of c ∷ [])) }
+    // What an edit changes, file by file, or the least case that refuses it.
+    fn change(&self, alloc: Global, edit: &Edit) -> Result<Vec<Change>, Refusal>
+        ensures ok { IfOk result (λ cs. IsAdmissible self.now (asked edit.now) × AreChanges self.now (asked edit.now) (map change_of cs.items)) }
         ensures err { IfErr result (IsRefusal self.now (asked edit.now)) }
     {
-        // The files compile, whatever is asked.
-        self.files();
-        if !self.is_of_first_language(alloc)? {
-            return Err(Refusal::KindNotAllowed);
-        }
+        are_read(self.files());
         match edit {
             Edit::Rename { name, to } => self.renamed(alloc, name.as_str(), to.as_str()),
-            Edit::DeleteField { name } => Err(self.kept(alloc, name.as_str())?),
+            Edit::DeleteField { name } => Err(self.kept(name.as_str())),
             Edit::AddImport { .. } => Err(Refusal::KindNotAllowed),
             Edit::DropImport { .. } => Err(Refusal::KindNotAllowed),
         }
@@ -109,17 +65,15 @@ impl Workspace {
     }
 
     /// The workspace after an edit, and what the edit changed, where it is admissible here; else the least case that
-    /// refuses it. The new files compile to the old descriptors under the edit's name map. In a workspace that is not
-    /// of the first language every edit is refused as not allowed.
+    /// refuses it. The new files compile to the old descriptors under the edit's name map. Until they come, the other
+    /// edits are refused as not allowed.
     pub fn with_edit(&self, alloc: Global, edit: &Edit) -> Result<(Workspace, Entry), Refusal>
         ensures ok { IfOk result (λ x. IsMappedStep self.now (asked edit.now) x.1 x.0) }
         ensures err { IfErr result (IsRefusal self.now (asked edit.now)) }
     {
         // The files compile, so what is admissible can be made.
         self.files();
-        let change = self.change(alloc, edit)?;
-        let mut changes = Vec::new(alloc);
-        changes.push(change)?;
+        let changes = self.change(alloc, edit)?;
         let workspace = match self.reopened(alloc, &changes)? {
             Some(workspace) => workspace,
             None => unreachable!(),

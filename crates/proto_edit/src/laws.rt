@@ -1,20 +1,23 @@
 //! What holds of the definitions, for whoever builds on them. None of these does anything.
 
-ghost use Rattle.proto_edit.specs.Bridge.{FirstCompiles, FirstIsDescribed, LanguagesAgree, WholeIsFirst};
 ghost use Rattle.proto_entries.specs.Laws.{PutsOnce};
-ghost use Rattle.proto_edit.specs.Laws.{CompilesOnce, DescribedOnce, EditsAreMade, RunsAreUndone, StepsAreUndone, StepsArePrinted, StepsCompile, StepsOnce, UndoneOnce, WorkspacesAreClean};
+ghost use Rattle.proto_edit.specs.Laws.{CompiledAreRead, DescribedOnce, EditsAreMade, MappedOnce, RefusedOnce, RunsAreUndone, StepsAreUndone, StepsCompile, StepsOnce, UndoneOnce, WorkspacesAreClean};
+ghost use Rattle.proto_edit.specs.MappedSteps.{AdmissibleRenamesStep, RenamesAreSteps};
 
-pub use proto_rename::laws::{
-    fields_stand_alone, no_fault_comes_in, no_word_is_rewritten, renames_compile, sentences_stay,
-    targets_are_symbols, trees_stay,
-};
-
-/// Files that compile have no fault.
+/// Files that compile have no fault, as a workspace that is given; and they have tokens and trees.
 pub fn compiled_is_clean()
     ensures whole { WorkspacesAreClean }
+    ensures read { CompiledAreRead }
 {}
 
-/// An admissible edit of a workspace can be made, and leaves files that compile to the old descriptors under the name map.
+/// A rename that no case refuses is a mapped step: the changes of its words are an entry, and the files with them compile to
+/// the old descriptors under the name map. Each admissible rename has such a step.
+pub fn renames_are_steps()
+    ensures steps { RenamesAreSteps }
+    ensures there { AdmissibleRenamesStep }
+{}
+
+/// An admissible edit of a workspace can be made, and leaves files that compile to the old descriptors under its map.
 pub fn edits_compile()
     ensures made { EditsAreMade }
     ensures mapped { StepsCompile }
@@ -28,29 +31,16 @@ pub fn runs_are_undone()
     ensures once { UndoneOnce }
 {}
 
-/// Files of the first language compile to one list of descriptors, an edit changes them in one way, and what is printed afterwards is what was
-/// there under the name map.
+/// Files that compile have one list of descriptors; an edit changes them in one way, to one list of descriptors under its
+/// map, or is refused by one case, with one place where one is answered.
 pub fn answers_are_one()
-    ensures compiled { CompilesOnce }
     ensures described { DescribedOnce }
     ensures steps { StepsOnce }
-    ensures printed { StepsArePrinted }
+    ensures mapped { MappedOnce }
+    ensures refused { RefusedOnce }
 {}
 
 /// Undoing what an edit answered leads back to the files before it, and to no others.
 pub fn steps_are_undone()
     ensures { StepsAreUndone }
-{}
-
-/// Files that compile in the first language have no fault of the whole language, and files of the first language that have
-/// none compile there: so in a workspace of the first language the two languages agree.
-pub fn whole_and_first_agree()
-    ensures compiled { FirstCompiles }
-    ensures whole { WholeIsFirst }
-    ensures agree { LanguagesAgree }
-{}
-
-/// The descriptors of files that compile in the first language are the ones that the whole language's definition gives.
-pub fn first_is_described()
-    ensures { FirstIsDescribed }
 {}

@@ -8,12 +8,13 @@ ghost use Rattle.proto_files.specs.GivenFiles.{files_of};
 ghost use Rattle.proto_files.specs.FilesRead.{ReadOf, AreRead};
 ghost use Rattle.proto_schema.specs.Answers.{IsOpenError};
 ghost use Rattle.proto_schema.specs.Whole.{WorkspaceFaults, IsSortedOf};
-ghost use Rattle.proto_edit.specs.Compiled.{AreCompiled, IsOfFirstLanguage};
-ghost use Rattle.proto_edit.specs.Printed.{AreDescribedBy};
+ghost use Rattle.proto_names.specs.LinkOfFiles.{IsLinkOf};
+ghost use Rattle.proto_edit.specs.Compiled.{AreCompiled};
 
 use proto_desc::Descriptors;
 use proto_faults::SchemaFault;
 use proto_files::Files;
+use proto_names::Link;
 use proto_schema::Schema;
 use std::alloc::Global;
 use std::marker::Model;
@@ -60,13 +61,18 @@ impl Workspace {
         self.schema.files()
     }
 
+    /// The link of the files: their names, and what each reference means.
+    pub(crate) fn link(&self) -> &Link
+        ensures { IsLinkOf self.now result.now }
+    {
+        self.schema.link()
+    }
+
     /// The descriptors of the files.
     pub fn descriptors(&self) -> &Descriptors
         ensures described { AreDescribed self.now (files_desc result.now) }
         // Each file has tokens and a tree, of which the descriptors are told.
         ensures read { (reads : List ReadOf) × AreRead self.now reads }
-        // In the first language they are told of its fields and messages.
-        ensures first { IsOfFirstLanguage self.now → AreDescribedBy self.now (files_desc result.now) }
     {
         self.schema.descriptors()
     }

@@ -5,16 +5,10 @@ use proto_faults::{NoMemory, SchemaFault};
 use std::alloc::Global;
 use std::test::Fail;
 
-pub(crate) const ROW: &str = "syntax = \"proto3\"; message A { string b_c = 1; }";
+/// Files: paths and texts.
+pub(crate) type Texts = &'static [(&'static str, &'static str)];
 
-/// A refusal's number and name, or 0 and `done`.
-pub(crate) type Said = (u32, &'static str);
-
-/// Files for a workspace: paths and texts.
-pub(crate) fn given(
-    alloc: Global,
-    texts: &[(&str, &str)],
-) -> Result<Vec<(String, Vec<u8>)>, NoMemory> {
+fn given(alloc: Global, texts: &[(&str, &str)]) -> Result<Vec<(String, Vec<u8>)>, NoMemory> {
     let mut files = Vec::new(alloc);
     for &(path, text) in texts {
         let path = String::from_str(alloc, path)?;
@@ -23,27 +17,12 @@ pub(crate) fn given(
     Ok(files)
 }
 
-/// The workspace of one file, `a.proto`.
-pub(crate) fn opened(alloc: Global, text: &str) -> Result<Workspace, SchemaFault> {
-    Workspace::open(alloc, given(alloc, &[("a.proto", text)])?)
-}
-
-/// The workspace of files, by their paths and texts.
-pub(crate) fn workspace_of_all(alloc: Global, texts: &[(&str, &str)]) -> Result<Workspace, Fail> {
-    Ok(Workspace::open(alloc, given(alloc, texts)?)?)
-}
-
-pub(crate) fn workspace_of(alloc: Global, text: &str) -> Result<Workspace, Fail> {
-    Ok(opened(alloc, text)?)
+pub(crate) fn opened(alloc: Global, texts: &[(&str, &str)]) -> Result<Workspace, SchemaFault> {
+    Workspace::open(alloc, given(alloc, texts)?)
 }
 
 pub(crate) fn json_of(alloc: Global, workspace: &Workspace) -> Result<String, NoMemory> {
     to_json(alloc, workspace.descriptors())
-}
-
-pub(crate) fn is_text(workspace: &Workspace, text: &str) -> bool {
-    let files = workspace.files();
-    files.len() == 1 && files.source(0).as_bytes() == text.as_bytes()
 }
 
 /// Whether these are the files, in the order of their paths.
@@ -80,43 +59,46 @@ pub(crate) fn undo(alloc: Global, workspace: &mut Workspace, entry: &Entry) -> R
     workspace.undo(alloc, entry)
 }
 
-pub(crate) fn said<T: Drop>(answer: Result<T, Refusal>) -> Said {
+/// A refusal's number and name, or 0 and `done`.
+pub(crate) fn said<T: Drop>(answer: Result<T, Refusal>) -> (u32, &'static str) {
     match answer {
         Ok(_) => (0, "done"),
         Err(refusal) => (refusal.number(), refusal.name()),
     }
 }
 
-/// What a rename, or the undoing of one, answers.
-pub(crate) fn said_of_rename(
-    alloc: Global,
-    workspace: &mut Workspace,
-    name: &str,
-    to: &str,
-) -> Said {
-    said(apply(alloc, workspace, name, to))
+/// What an edit is answered.
+pub(crate) fn told(alloc: Global, answer: Result<Entry, Refusal>) -> Result<String, Fail> {
+    match answer {
+        Ok(entry) => told_of_entry(alloc, &entry),
+        Err(refusal) => Ok(told_of_refusal(alloc, &refusal)?),
+    }
 }
 
-pub(crate) fn said_of_undo(alloc: Global, workspace: &mut Workspace, entry: &Entry) -> Said {
-    said(undo(alloc, workspace, entry))
+/// A refusal as `number name`, behind which a captured reference has its `path offset`.
+pub(crate) fn told_of_refusal(alloc: Global, refusal: &Refusal) -> Result<String, NoMemory> {
+    let (number, name) = (refusal.number(), refusal.name());
+    match refusal {
+        Refusal::Captured { path, offset } => {
+            let (path, offset) = (path.as_str(), *offset);
+            Ok(format!(in alloc; "{number} {name} {path} {offset}")?)
+        }
+        _ => Ok(format!(in alloc; "{number} {name}")?),
+    }
 }
 
-/// An entry's changes as `path before after (at old new)..`.
-pub(crate) fn changes_of(alloc: Global, entry: &Entry) -> Result<String, Fail> {
+/// The changes of an entry, each as `path before after (at old new)..;`.
+pub(crate) fn told_of_entry(alloc: Global, entry: &Entry) -> Result<String, Fail> {
     let mut out = String::new(alloc);
     for change in entry.changes() {
-        out.push_str(lengths_of(alloc, change)?.as_str())?;
-        out.push_str(splices_of(alloc, change)?.as_str())?;
+        let (path, before, after) = (change.path.as_str(), change.before, change.after);
+        let splices = told_of_splices(alloc, change)?;
+        out.push_str(format!(in alloc; "{path} {before} {after}{splices};")?.as_str())?;
     }
     Ok(out)
 }
 
-fn lengths_of(alloc: Global, change: &Change) -> Result<String, Fail> {
-    let (path, before, after) = (change.path.as_str(), change.before, change.after);
-    Ok(format!(in alloc; "{path} {before} {after}")?)
-}
-
-fn splices_of(alloc: Global, change: &Change) -> Result<String, Fail> {
+fn told_of_splices(alloc: Global, change: &Change) -> Result<String, Fail> {
     let mut out = String::new(alloc);
     for splice in change.splices.as_slice() {
         let (at, old, new) = (splice.at, splice.old.as_str(), splice.new.as_str());

@@ -8,12 +8,8 @@ mod calls;
 #[cfg(test)]
 mod entries;
 #[cfg(test)]
-mod generated;
-#[cfg(test)]
 mod opening;
 #[cfg(test)]
 mod renames;
 #[cfg(test)]
-mod runs;
-#[cfg(test)]
-mod wide;
+mod rows;

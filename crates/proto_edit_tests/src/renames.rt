@@ -1,58 +1,129 @@
-//! Renames of fields, what refuses them, and the way back.
+//! Renames of all kinds one after another, what refuses them, and the way back.
 
 use super::calls::*;
+use super::rows::{CAPTURES, MAPS, MEMBERS, NAMES, ONE, RUNS, Row, TYPES};
 use proto_edit::*;
 use proto_faults::NoMemory;
 use std::alloc::Global;
+use std::process::Abort;
 use std::test::Fail;
 
-const RENAMED: &str = "syntax = \"proto3\"; message A { string d_e = 1; }";
+// The answers of the row's steps, each made in the workspace as it then stands.
+fn step_by_step(
+    alloc: Global,
+    workspace: &mut Workspace,
+    row: &Row,
+) -> Result<Vec<Result<Entry, Refusal>>, NoMemory> {
+    let mut answers = Vec::new(alloc);
+    for &(name, to, _) in row.steps {
+        answers.push(apply(alloc, workspace, name, to))?;
+    }
+    Ok(answers)
+}
 
-const JSON: &str =
-    "{\"file\":[{\"messageType\":[{\"field\":[{\"jsonName\":\"dE\",\"label\":\"LABEL_OPTIONAL\",\"name\":\"d_e\",\"number\":1,\"type\":\"TYPE_STRING\"}],\"name\":\"A\"}],\"name\":\"a.proto\",\"syntax\":\"proto3\"}]}";
+// The workspace after the row's steps as one run, and its answers.
+fn as_a_run(
+    alloc: Global,
+    workspace: &Workspace,
+    row: &Row,
+) -> Result<(Workspace, Vec<Result<Entry, Refusal>>), NoMemory> {
+    let mut edits = Vec::new(alloc);
+    for &(name, to, _) in row.steps {
+        edits.push(rename(alloc, name, to)?)?;
+    }
+    workspace.apply_all(alloc, edits.as_slice())
+}
 
-const TWO: &str = "syntax = \"proto3\"; message M { string fooBar = 1; string x = 2; }";
+// What the answers say, a line each, and the entries among them.
+fn sorted(
+    alloc: Global,
+    answers: Vec<Result<Entry, Refusal>>,
+) -> Result<(String, Vec<Entry>), Fail> {
+    let mut text = String::new(alloc);
+    let mut entries = Vec::new(alloc);
+    for answer in answers {
+        match answer {
+            Ok(entry) => {
+                text.push_str(told_of_entry(alloc, &entry)?.as_str())?;
+                entries.push(entry)?;
+            }
+            Err(refusal) => text.push_str(told_of_refusal(alloc, &refusal)?.as_str())?,
+        }
+        text.push('\n')?;
+    }
+    Ok((text, entries))
+}
 
-const BESIDE_B: &str = "syntax = \"proto3\"; message A { B b = 1; } message B {}";
+// What the answers of the row's steps say.
+fn wanted(alloc: Global, row: &Row) -> Result<String, NoMemory> {
+    let mut text = String::new(alloc);
+    for &(_, _, answer) in row.steps {
+        text.push_str(answer)?;
+        text.push('\n')?;
+    }
+    Ok(text)
+}
 
-#[test]
-fn renames_a_field_and_undoes_it(rt: HostRuntime) -> Result<(), Fail> {
+// The files and the descriptors are those that the row has afterwards.
+fn expect_after<R: AllocGlobal + Abort>(
+    rt: &R,
+    row: &Row,
+    workspace: &Workspace,
+) -> Result<(), Fail> {
+    let after = if row.after.is_empty() {
+        row.files
+    } else {
+        row.after
+    };
+    let json = json_of(rt.alloc(), workspace)?;
+    assert!(rt; are_texts(workspace, after), "not {json}");
+    assert!(rt; json.as_str().contains(row.json), "{json}");
+    Ok(())
+}
+
+fn undone(alloc: Global, workspace: &Workspace, entries: &[Entry]) -> Result<Workspace, Refusal> {
+    workspace.undo_all(alloc, entries)
+}
+
+fn expect_row<R: AllocGlobal + Abort>(rt: &R, row: &Row) -> Result<(), Fail> {
     let alloc = rt.alloc();
-    let mut workspace = workspace_of(alloc, ROW)?;
-    let entry = apply(alloc, &mut workspace, "A.b_c", "d_e")?;
-    assert!(rt; is_text(&workspace, RENAMED));
-    assert_eq!(rt;
-        changes_of(alloc, &entry)?.as_str(),
-        "a.proto 48 48 (38 b_c d_e)"
-    );
-    assert_eq!(rt; json_of(alloc, &workspace)?.as_str(), JSON);
-    undo(alloc, &mut workspace, &entry)?;
-    assert!(rt; is_text(&workspace, ROW));
+    let mut workspace = opened(alloc, row.files)?;
+    let wanted = wanted(alloc, row)?;
+    let (last, answers) = as_a_run(alloc, &workspace, row)?;
+    let (said_of_run, _) = sorted(alloc, answers)?;
+    assert_eq!(rt; said_of_run.as_str(), wanted.as_str());
+    expect_after(rt, row, &last)?;
+    let answers = step_by_step(alloc, &mut workspace, row)?;
+    let (said_of_steps, entries) = sorted(alloc, answers)?;
+    assert_eq!(rt; said_of_steps.as_str(), wanted.as_str());
+    expect_after(rt, row, &workspace)?;
+    let first = undone(alloc, &workspace, entries.as_slice())?;
+    assert!(rt; are_texts(&first, row.files));
     Ok(())
 }
 
 #[test]
-fn names_refuse_a_rename(rt: HostRuntime) -> Result<(), Fail> {
-    let alloc = rt.alloc();
-    for (text, name, to, want) in [
-        (ROW, "A.b_c", "message", (0, "done")),
-        (ROW, "A.q", "r", (1, "UnknownTarget")),
-        (ROW, ".A.b_c", "r", (1, "UnknownTarget")),
-        (ROW, "A", "message", (2, "KindNotAllowed")),
-        (ROW, "A.b_c", "9x", (3, "NotAnIdentifier")),
-        (ROW, "A.b_c", "", (3, "NotAnIdentifier")),
-        (ROW, "A.b_c", "b_c", (5, "SameName")),
-        (TWO, "M.x", "fooBar", (6, "Collision")),
-        (TWO, "M.x", "foo_bar", (9, "JsonClash")),
-        (TWO, "M.fooBar", "foo_bar", (0, "done")),
-        (BESIDE_B, "A.b", "B", (0, "done")),
-    ] {
-        let mut workspace = workspace_of(alloc, text)?;
-        let got = said_of_rename(alloc, &mut workspace, name, to);
-        assert!(rt; got == want, "{name} to {to}");
-        let is_kept = is_text(&workspace, text);
-        assert!(rt; is_kept == (got != (0, "done")), "{name} to {to}");
+fn answer_and_are_undone(rt: HostRuntime) -> Result<(), Fail> {
+    for rows in [MEMBERS, TYPES, MAPS, NAMES, CAPTURES, RUNS] {
+        for row in rows {
+            expect_row(&rt, row)?;
+        }
     }
+    Ok(())
+}
+
+// An entry that is not of the last edit changes nothing.
+#[test]
+fn are_undone_from_the_last_one_on(rt: HostRuntime) -> Result<(), Fail> {
+    let alloc = rt.alloc();
+    let mut workspace = opened(alloc, ONE)?;
+    let first = apply(alloc, &mut workspace, "A.b_c", "d_e")?;
+    let second = apply(alloc, &mut workspace, "A.d_e", "f")?;
+    assert!(rt; said(undo(alloc, &mut workspace, &first)) == (17, "Stale"));
+    assert!(rt; are_texts(&workspace, RUNS[0].after));
+    undo(alloc, &mut workspace, &second)?;
+    undo(alloc, &mut workspace, &first)?;
+    assert!(rt; are_texts(&workspace, ONE));
     Ok(())
 }
 
@@ -66,81 +137,51 @@ fn filled(alloc: Global, text: &str) -> Result<String, NoMemory> {
 }
 
 #[test]
-fn a_full_file_takes_no_longer_name(rt: HostRuntime) -> Result<(), Fail> {
+fn do_not_fit_a_full_file(rt: HostRuntime) -> Result<(), Fail> {
     let alloc = rt.alloc();
-    let text = filled(alloc, ROW)?;
-    let mut workspace = workspace_of(alloc, text.as_str())?;
-    let longer = said_of_rename(alloc, &mut workspace, "A.b_c", "b_c_d");
-    assert!(rt; longer == (16, "TooLarge"));
-    assert!(rt; is_text(&workspace, text.as_str()));
-    let entry = apply(alloc, &mut workspace, "A.b_c", "d_e")?;
-    let changes = changes_of(alloc, &entry)?;
-    assert_eq!(rt; changes.as_str(), "a.proto 1048576 1048576 (38 b_c d_e)");
-    Ok(())
-}
-
-fn said_of_edit(alloc: Global, workspace: &Workspace, edit: Edit) -> Said {
-    said(workspace.with_edit(alloc, &edit))
-}
-
-fn said_of_deletion(alloc: Global, workspace: &Workspace, name: &str) -> Result<Said, NoMemory> {
-    let name = String::from_str(alloc, name)?;
-    Ok(said_of_edit(alloc, workspace, Edit::DeleteField { name }))
-}
-
-#[test]
-fn deletions_are_not_allowed_yet(rt: HostRuntime) -> Result<(), Fail> {
-    let alloc = rt.alloc();
-    let workspace = workspace_of(alloc, ROW)?;
-    for (name, want) in [
-        ("A", (2, "KindNotAllowed")),
-        ("A.b_c", (2, "KindNotAllowed")),
-        ("A.q", (1, "UnknownTarget")),
+    let text = filled(alloc, ONE[0].1)?;
+    let mut workspace = opened(alloc, &[("a.proto", text.as_str())])?;
+    for (to, answer) in [
+        ("b_c_d", "16 TooLarge"),
+        ("d_e", "a.proto 1048576 1048576 (38 b_c d_e);"),
+        ("b_c_d", "1 UnknownTarget"),
     ] {
-        assert!(rt;
-            said_of_deletion(alloc, &workspace, name)? == want,
-            "{name}"
-        );
+        let got = apply(alloc, &mut workspace, "A.b_c", to);
+        assert_eq!(rt; told(alloc, got)?.as_str(), answer, "to {to}");
     }
     Ok(())
 }
 
-#[test]
-fn imports_are_not_changed_yet(rt: HostRuntime) -> Result<(), Fail> {
-    let alloc = rt.alloc();
-    let workspace = workspace_of(alloc, ROW)?;
-    let file = String::from_str(alloc, "a.proto")?;
-    let path = String::from_str(alloc, "b.proto")?;
-    let added = said_of_edit(alloc, &workspace, Edit::AddImport { file, path });
-    assert!(rt; added == (2, "KindNotAllowed"));
-    let file = String::from_str(alloc, "a.proto")?;
-    let path = String::from_str(alloc, "b.proto")?;
-    let dropped = said_of_edit(alloc, &workspace, Edit::DropImport { file, path });
-    assert!(rt; dropped == (2, "KindNotAllowed"));
-    Ok(())
+// One edit of each other kind: of this name, and of imports of this file.
+fn other_edits(alloc: Global, name: &str, file: &str) -> Result<[Edit; 3], NoMemory> {
+    let text = |text: &str| String::from_str(alloc, text);
+    Ok([
+        Edit::DeleteField { name: text(name)? },
+        Edit::AddImport {
+            file: text(file)?,
+            path: text("b.proto")?,
+        },
+        Edit::DropImport {
+            file: text(file)?,
+            path: text("b.proto")?,
+        },
+    ])
 }
 
 #[test]
-fn an_old_entry_is_stale(rt: HostRuntime) -> Result<(), Fail> {
+fn are_the_only_edits_yet(rt: HostRuntime) -> Result<(), Fail> {
     let alloc = rt.alloc();
-    let mut workspace = workspace_of(alloc, ROW)?;
-    let first = apply(alloc, &mut workspace, "A.b_c", "d_e")?;
-    let unknown = said_of_rename(alloc, &mut workspace, "A.b_c", "x");
-    assert!(rt; unknown == (1, "UnknownTarget"));
-    let second = apply(alloc, &mut workspace, "A.d_e", "f")?;
-    assert_eq!(rt;
-        changes_of(alloc, &second)?.as_str(),
-        "a.proto 48 46 (38 d_e f)"
-    );
-    assert!(rt; said_of_undo(alloc, &mut workspace, &first) == (17, "Stale"));
-    assert!(rt;
-        is_text(
-            &workspace,
-            "syntax = \"proto3\"; message A { string f = 1; }"
-        )
-    );
-    undo(alloc, &mut workspace, &second)?;
-    undo(alloc, &mut workspace, &first)?;
-    assert!(rt; is_text(&workspace, ROW));
+    let workspace = opened(alloc, ONE)?;
+    let no = (2, "KindNotAllowed");
+    for (name, file, deletion) in [
+        ("A", "a.proto", no),
+        ("A.b_c", "no.proto", no),
+        ("A.q", "a.proto", (1, "UnknownTarget")),
+    ] {
+        let edits = other_edits(alloc, name, file)?;
+        for (edit, wanted) in edits.iter().zip([deletion, no, no]) {
+            assert!(rt; said(workspace.with_edit(alloc, edit)) == wanted, "{name}");
+        }
+    }
     Ok(())
 }

@@ -12,7 +12,7 @@ use Rattle.proto_files.specs.GivenFiles.{AreWorkspaceFiles, FileOf, paths_of}
 use Rattle.proto_files.specs.WorkspacePaths.{IsBefore, IsWorkspacePath}
 use Rattle.proto_schema.specs.Whole.{IsSortedOf, WorkspaceFaults}
 use Rattle.proto_edit.specs.Compiled.{AreCompiled}
-use Rattle.proto_edit.proofs.WholeFirst.{sorted_again}
+use Rattle.proto_edit.proofs.GivenAgain.{sorted_again}
 use Rattle.proto_store.specs.Stores.{AreInPathOrder, Held, HoldsFiles, ListsPaths}
 use Rattle.proto_journal.specs.declared.loading.LoadFault.TheVariants as load
 use Rattle.proto_journal.specs.Known.{Over}

@@ -1,15 +1,17 @@
 -- What a commit and an undo answer and leave is decided by the store and the workspace, where no call fails and memory is there.
-use Rattle.std.proofs.Common.{arith, ◌≡◌, inl, inr, ℕ, ◌≤◌, ◌<◌, ◌==◌, Bool, true, false, List, [], ◌∷◌, ◌++◌, length, Option, Some, None, Result, Ok, Err, refl, sym, ap, ◌∙◌, subst}
-use Rattle.std.specs.Prelude.{if◌then◌else◌}
-use Rattle.std.proofs.lemmas.Bool.{cases_lt}
+use Rattle.std.proofs.Common.{arith, ◌≡◌, ℕ, ◌≤◌, ◌<◌, ◌==◌, Bool, true, false, List, [], ◌∷◌, ◌++◌, length, Option, Some, None, Result, Ok, Err, refl, sym, ap, ◌∙◌, subst}
+use Rattle.std.specs.Prelude.{String, if◌then◌else◌}
+use Rattle.std.specs.Global.{Global}
+use Rattle.std.specs.String.{string_bytes}
 use Rattle.std.proofs.lemmas.List.Elements.{All-nil}
 use Rattle.proto_files.specs.GivenFiles.{FileOf}
 use Rattle.proto_entries.specs.Entries.{ChangeOf}
 use Rattle.proto_entries.specs.declared.refusal.Refusal.{Refusal}
 use Rattle.proto_entries.specs.declared.refusal.Refusal.TheVariants as refusal
 use Rattle.proto_entries.specs.RefusalTable.{number_of}
-use Rattle.proto_edit.specs.Workspaces.{Asked, IsLeastCase, IsMappedStep, IsUndo}
-use Rattle.proto_edit.proofs.OneAnswer.{steps_once}
+use Rattle.proto_edit.specs.Compiled.{AreCompiled}
+use Rattle.proto_edit.specs.Workspaces.{Asked, IsLeastCase, IsMappedStep, IsPlaceOf, IsUndo}
+use Rattle.proto_edit.proofs.OneAnswer.{least_once, place_once, steps_once}
 use Rattle.proto_edit.proofs.Steps.{undo_once}
 use Rattle.proto_records.specs.declared.fault.JournalFault.{JournalFault}
 use Rattle.proto_records.specs.declared.fault.JournalFault.TheVariants as fault
@@ -18,7 +20,7 @@ use Rattle.proto_records.specs.Journals.{IsJournal, IsRecord, is_last_open, done
 use Rattle.proto_records.specs.Laws.{IsReadInOneWay}
 use Rattle.proto_store.specs.Stores.{Held}
 use Rattle.proto_journal.specs.Commits.{CommitOutcome, HasOpenEntry, IsCommitted, IsFull, IsReady, IsUnreadable, Stays}
-use Rattle.proto_journal.specs.Laws.{CommitsAreOne, IsSettled, UndosAreOne}
+use Rattle.proto_journal.specs.Laws.{CommitsAreOne, IsSameAnswer, IsSameRefusal, IsSettled, UndosAreOne}
 use Rattle.proto_journal.specs.Torn.{Keeps}
 use Rattle.proto_journal.specs.Undoing.{EndsIn, IsStale, IsUndone, UndoOutcome}
 use Rattle.proto_journal.proofs.Recorded.{last_of}
@@ -44,28 +46,46 @@ plain n =
     else (if n == 16 then refusal.TooLarge
     else refusal.Stale)))))))))))))
 
+-- a refusal has no place, and its number tells it; or it has the place that the edit is refused with
+data IsTold (from : List FileOf) (e : Asked) : Refusal → Type 0 where
+  by_number : (r : Refusal) → plain (number_of r) ≡ r → (number_of r == 7) ≡ false → (number_of r == 15) ≡ false → IsTold from e r
+  captured : (path : String Global) (offset : ℕ) → IsPlaceOf from e (string_bytes path) offset → IsTold from e (refusal.Captured path offset)
+  needed : (path : String Global) (offset : ℕ) → IsPlaceOf from e (string_bytes path) offset → IsTold from e (refusal.Needed path offset)
+
 -- a refused edit: the store was ready, and the refusal is the least case
 record IsRefused (e : Asked) (from to : List FileOf) (old : Held) (new : Option Held) (r : Refusal) : Type 0 where
   stay : Stays from to (Some old) new
   ready : IsReady old
   least : IsLeastCase from e (number_of r)
-  is : plain (number_of r) ≡ r
+  is : IsTold from e r
 
 is_refused : (e : Asked) (from to : List FileOf) (old : Held) (new : Option Held) (r : Refusal) → CommitOutcome e from to (Some old) new (Err (fault.Refused r)) → IsRefused e from to old new r
 unfolding plain
 is_refused e from to old new refusal.NoMemory o = absurd o
-is_refused e from to old new (refusal.Captured path offset) o = absurd o.2
-is_refused e from to old new (refusal.Needed path offset) o = absurd o.2
-is_refused e from to old new r o = record { stay = o.0; ready = o.1; least = o.2; is = refl }
+is_refused e from to old new (refusal.Captured path offset) o = record { stay = o.0; ready = o.1; least = o.2.0; is = captured path offset o.2.1 }
+is_refused e from to old new (refusal.Needed path offset) o = record { stay = o.0; ready = o.1; least = o.2.0; is = needed path offset o.2.1 }
+is_refused e from to old new r o = record { stay = o.0; ready = o.1; least = o.2; is = by_number r refl refl refl }
 
-least_once : (from : List FileOf) (e : Asked) (m n : ℕ) → IsLeastCase from e m → IsLeastCase from e n → m ≡ n
-least_once from e m n x y = elim (cases_lt m n) [
-  | inl lt ↦ absurd (y.least m lt x.is)
-  | inr ge ↦ elim (cases_lt n m) [
-    | inl gt ↦ absurd (x.least n gt y.is)
-    | inr le ↦ omega arith
-  ]
-]
+same_itself : (r : Refusal) → IsSameRefusal r r
+same_itself (refusal.Captured path offset) = (refl, refl)
+same_itself (refusal.Needed path offset) = (refl, refl)
+same_itself r = refl
+
+-- the number is this one, and is not
+numbered : {P : Type 0} (m n : ℕ) → m ≡ n → (n == n) ≡ true → (m == n) ≡ false → P
+numbered m n same itself differs = let e : true ≡ false = sym itself ∙ ap (λ (k : ℕ). k == n) (sym same) ∙ differs in cc
+
+-- one number and one place, one refusal
+told_alike : (from : List FileOf) (e : Asked) (r s : Refusal) → AreCompiled from → number_of r ≡ number_of s → IsTold from e r → IsTold from e s → IsSameRefusal r s
+told_alike from e r s has same (by_number x p a b) (by_number y q c d) = subst (λ (z : Refusal). IsSameRefusal r z) (sym p ∙ ap plain same ∙ q) (same_itself r)
+told_alike from e r s has same (by_number x p a b) (captured path offset there) = numbered (number_of r) 7 same refl a
+told_alike from e r s has same (by_number x p a b) (needed path offset there) = numbered (number_of r) 15 same refl b
+told_alike from e r s has same (captured path offset there) (by_number y q c d) = numbered (number_of s) 7 (sym same) refl c
+told_alike from e r s has same (captured path offset x) (captured file other y) = place_once from e (string_bytes path) (string_bytes file) offset other has x y
+told_alike from e r s has same (captured path offset x) (needed file other y) = numbered 7 15 same refl refl
+told_alike from e r s has same (needed path offset there) (by_number y q c d) = numbered (number_of s) 15 (sym same) refl d
+told_alike from e r s has same (needed path offset x) (captured file other y) = numbered 15 7 same refl refl
+told_alike from e r s has same (needed path offset x) (needed file other y) = place_once from e (string_bytes path) (string_bytes file) offset other has x y
 
 -- ---- stores
 
@@ -137,22 +157,22 @@ module _ (one_way : IsReadInOneWay) where
   ready_full : (e : Asked) (from : List FileOf) (old : Held) → IsFull e from (Some old) → IsReady old
   ready_full e from old f = (f.3.0, f.3.1)
 
-  committed_once : (e : Asked) (x y : List ChangeOf) (from to other : List FileOf) (old : Held) (new now : Option Held) → IsCommitted e x from to (Some old) new → IsCommitted e y from other (Some old) now
+  committed_once : (e : Asked) (x y : List ChangeOf) (from to other : List FileOf) (old : Held) (new now : Option Held) → AreCompiled from → IsCommitted e x from to (Some old) new → IsCommitted e y from other (Some old) now
       → (x ≡ y) × (to ≡ other) × (new ≡ now)
-  committed_once e x y from to other old None now c d = absurd c.store
-  committed_once e x y from to other old (Some n) None c d = absurd d.store
-  committed_once e x y from to other old (Some n) (Some m) c d =
-      let step = steps_once from to other e x y c.step.step d.step.step in
+  committed_once e x y from to other old None now has c d = absurd c.store
+  committed_once e x y from to other old (Some n) None has c d = absurd d.store
+  committed_once e x y from to other old (Some n) (Some m) has c d =
+      let step = steps_once from to other e x y has c.step.step d.step.step in
       let rs : List Record = c.store.0 in
       let ss : List Record = d.store.0 in
       let same : rs ≡ ss = one_way old.journal rs ss c.store.1.journal d.store.1.journal in
       let texts : rs ++ done x ∷ [] ≡ ss ++ done y ∷ [] = λ i. same i ++ done (step.0 i) ∷ [] in
       (step.0, step.1, ap (λ (h : Held). Some h) (same_kept to other (rs ++ done x ∷ []) (ss ++ done y ∷ []) n m step.1 texts c.store.2 d.store.2))
 
-  committed_not_full : {P : Type 0} (e : Asked) (x : List ChangeOf) (from to : List FileOf) (old : Held) (new : Option Held) → IsCommitted e x from to (Some old) new → IsFull e from (Some old) → P
-  committed_not_full e x from to old None c f = absurd c.store
-  committed_not_full e x from to old (Some n) c f =
-      let step = steps_once from to f.1 e x f.0 c.step.step f.2.step in
+  committed_not_full : {P : Type 0} (e : Asked) (x : List ChangeOf) (from to : List FileOf) (old : Held) (new : Option Held) → AreCompiled from → IsCommitted e x from to (Some old) new → IsFull e from (Some old) → P
+  committed_not_full e x from to old None has c f = absurd c.store
+  committed_not_full e x from to old (Some n) has c f =
+      let step = steps_once from to f.1 e x f.0 has c.step.step f.2.step in
       let rs : List Record = c.store.0 in
       let ss : List Record = f.3.0 in
       let same : rs ≡ ss = one_way old.journal rs ss c.store.1.journal f.3.1.journal in
@@ -165,26 +185,26 @@ module _ (one_way : IsReadInOneWay) where
   not_refused : {P : Type 0} (e : Asked) (x : List ChangeOf) (from made to : List FileOf) (old : Held) (new : Option Held) (r : Refusal) → IsMappedStep from e x made → IsRefused e from to old new r → P
   not_refused e x from made to old new r s i = absurd (s.step.admissible (number_of r) i.least.is)
 
-  module _ (e : Asked) (from to other : List FileOf) (old : Held) (new now : Option Held) where
+  module _ (e : Asked) (from to other : List FileOf) (old : Held) (new now : Option Held) (has : AreCompiled from) where
     abbrev Same : Result (List ChangeOf) JournalFault → Result (List ChangeOf) JournalFault → Type 0
-    Same a b = (a ≡ b) × (to ≡ other) × (new ≡ now)
+    Same a b = IsSameAnswer a b × (to ≡ other) × (new ≡ now)
 
-    stay_once : (a : Result (List ChangeOf) JournalFault) → Stays from to (Some old) new → Stays from other (Some old) now → Same a a
-    stay_once a x y = let s = stays_once from to other old new now x y in (refl, s.0, s.1)
+    stay_once : (a : Result (List ChangeOf) JournalFault) → IsSameAnswer a a → Stays from to (Some old) new → Stays from other (Some old) now → Same a a
+    stay_once a same x y = let s = stays_once from to other old new now x y in (same, s.0, s.1)
 
     of_committed : (x : List ChangeOf) (b : Result (List ChangeOf) JournalFault) → IsSettled b → IsCommitted e x from to (Some old) new → CommitOutcome e from other (Some old) now b → Same (Ok x) b
-    of_committed x (Ok y) s p q = let c = committed_once e x y from to other old new now p q in (ap (λ (z : List ChangeOf). Ok z) c.0, c.1, c.2)
+    of_committed x (Ok y) s p q = let c = committed_once e x y from to other old new now has p q in (ap (λ (z : List ChangeOf). Ok z) c.0, c.1, c.2)
     of_committed x (Err fault.BadJournal) s p q = not_unreadable old q.1 (ready_committed e x from to old new p)
     of_committed x (Err fault.NothingToUndo) s p q = absurd q
     of_committed x (Err fault.OpenEntry) s p q = not_open old q.1 (ready_committed e x from to old new p)
     of_committed x (Err fault.Store) s p q = absurd s
-    of_committed x (Err fault.JournalFull) s p q = committed_not_full e x from to old new p q.1
+    of_committed x (Err fault.JournalFull) s p q = committed_not_full e x from to old new has p q.1
     of_committed x (Err fault.NoMemory) s p q = absurd s
     of_committed x (Err (fault.Refused r)) s p q = not_refused e x from to other old now r p.step (is_refused e from other old now r q)
 
     of_unreadable : (b : Result (List ChangeOf) JournalFault) → IsSettled b → Stays from to (Some old) new → IsUnreadable old → CommitOutcome e from other (Some old) now b → Same (Err fault.BadJournal) b
     of_unreadable (Ok y) s p u q = not_unreadable old u (ready_committed e y from other old now q)
-    of_unreadable (Err fault.BadJournal) s p u q = stay_once (Err fault.BadJournal) p q.0
+    of_unreadable (Err fault.BadJournal) s p u q = stay_once (Err fault.BadJournal) refl p q.0
     of_unreadable (Err fault.NothingToUndo) s p u q = absurd q
     of_unreadable (Err fault.OpenEntry) s p u q = neither old u q.1
     of_unreadable (Err fault.Store) s p u q = absurd s
@@ -196,19 +216,19 @@ module _ (one_way : IsReadInOneWay) where
     of_open (Ok y) s p o q = not_open old o (ready_committed e y from other old now q)
     of_open (Err fault.BadJournal) s p o q = neither old q.1 o
     of_open (Err fault.NothingToUndo) s p o q = absurd q
-    of_open (Err fault.OpenEntry) s p o q = stay_once (Err fault.OpenEntry) p q.0
+    of_open (Err fault.OpenEntry) s p o q = stay_once (Err fault.OpenEntry) refl p q.0
     of_open (Err fault.Store) s p o q = absurd s
     of_open (Err fault.JournalFull) s p o q = not_open old o (ready_full e from old q.1)
     of_open (Err fault.NoMemory) s p o q = absurd s
     of_open (Err (fault.Refused r)) s p o q = not_open old o (is_refused e from other old now r q).ready
 
     of_full : (b : Result (List ChangeOf) JournalFault) → IsSettled b → Stays from to (Some old) new → IsFull e from (Some old) → CommitOutcome e from other (Some old) now b → Same (Err fault.JournalFull) b
-    of_full (Ok y) s p f q = committed_not_full e y from other old now q f
+    of_full (Ok y) s p f q = committed_not_full e y from other old now has q f
     of_full (Err fault.BadJournal) s p f q = not_unreadable old q.1 (ready_full e from old f)
     of_full (Err fault.NothingToUndo) s p f q = absurd q
     of_full (Err fault.OpenEntry) s p f q = not_open old q.1 (ready_full e from old f)
     of_full (Err fault.Store) s p f q = absurd s
-    of_full (Err fault.JournalFull) s p f q = stay_once (Err fault.JournalFull) p q.0
+    of_full (Err fault.JournalFull) s p f q = stay_once (Err fault.JournalFull) refl p q.0
     of_full (Err fault.NoMemory) s p f q = absurd s
     of_full (Err (fault.Refused r)) s p f q = not_refused e f.0 from f.1 other old now r f.2 (is_refused e from other old now r q)
 
@@ -222,19 +242,18 @@ module _ (one_way : IsReadInOneWay) where
     of_refused a (Err fault.NoMemory) s p q = absurd s
     of_refused a (Err (fault.Refused r)) s p q =
         let i : IsRefused e from other old now r = is_refused e from other old now r q in
-        let same : a ≡ r = sym p.is ∙ ap plain (least_once from e (number_of a) (number_of r) p.least i.least) ∙ i.is in
         let x = stays_once from to other old new now p.stay i.stay in
-        (ap (λ (z : Refusal). Err (fault.Refused z)) same, x.0, x.1)
+        (told_alike from e a r has (least_once from e (number_of a) (number_of r) p.least i.least) p.is i.is, x.0, x.1)
 
   pub commits_are_one : CommitsAreOne
-  commits_are_one e from to other old new now (Ok x) b s t p q = of_committed e from to other old new now x b t p q
-  commits_are_one e from to other old new now (Err fault.BadJournal) b s t p q = of_unreadable e from to other old new now b t p.0 p.1 q
-  commits_are_one e from to other old new now (Err fault.NothingToUndo) b s t p q = absurd p
-  commits_are_one e from to other old new now (Err fault.OpenEntry) b s t p q = of_open e from to other old new now b t p.0 p.1 q
-  commits_are_one e from to other old new now (Err fault.Store) b s t p q = absurd s
-  commits_are_one e from to other old new now (Err fault.JournalFull) b s t p q = of_full e from to other old new now b t p.0 p.1 q
-  commits_are_one e from to other old new now (Err fault.NoMemory) b s t p q = absurd s
-  commits_are_one e from to other old new now (Err (fault.Refused r)) b s t p q = of_refused e from to other old new now r b t (is_refused e from to old new r p) q
+  commits_are_one e from to other old new now (Ok x) b has s t p q = of_committed e from to other old new now has x b t p q
+  commits_are_one e from to other old new now (Err fault.BadJournal) b has s t p q = of_unreadable e from to other old new now has b t p.0 p.1 q
+  commits_are_one e from to other old new now (Err fault.NothingToUndo) b has s t p q = absurd p
+  commits_are_one e from to other old new now (Err fault.OpenEntry) b has s t p q = of_open e from to other old new now has b t p.0 p.1 q
+  commits_are_one e from to other old new now (Err fault.Store) b has s t p q = absurd s
+  commits_are_one e from to other old new now (Err fault.JournalFull) b has s t p q = of_full e from to other old new now has b t p.0 p.1 q
+  commits_are_one e from to other old new now (Err fault.NoMemory) b has s t p q = absurd s
+  commits_are_one e from to other old new now (Err (fault.Refused r)) b has s t p q = of_refused e from to other old new now has r b t (is_refused e from to old new r p) q
 
   -- ---- undos
 

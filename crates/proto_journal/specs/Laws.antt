@@ -1,8 +1,12 @@
 -- The laws of commits and undos, and of torn stores.
 use Rattle.std.specs.Prelude.{◌≡◌, List, Option, Some, Result, Err}
+use Rattle.std.specs.String.{string_bytes}
 use Rattle.proto_files.specs.GivenFiles.{FileOf}
 use Rattle.proto_entries.specs.Entries.{ChangeOf, IsEntry}
 use Rattle.proto_entries.specs.Putting.{IsPut}
+use Rattle.proto_entries.specs.declared.refusal.Refusal.{Refusal}
+use Rattle.proto_entries.specs.declared.refusal.Refusal.TheVariants as refusal
+use Rattle.proto_edit.specs.Compiled.{AreCompiled}
 use Rattle.proto_edit.specs.Workspaces.{Asked, IsUndo}
 use Rattle.proto_records.specs.declared.fault.JournalFault.{JournalFault}
 use Rattle.proto_records.specs.declared.fault.JournalFault.TheVariants as fault
@@ -18,10 +22,21 @@ IsSettled (Err fault.Store) = ⊥
 IsSettled (Err fault.NoMemory) = ⊥
 IsSettled _ = Unit {0}
 
--- Where no call of the store fails and memory is there, the store and the workspace decide what a commit answers and leaves.
+-- two refusals are the same; of those that tell of a place, the path as text
+abbrev pub IsSameRefusal : Refusal → Refusal → Type 0
+IsSameRefusal (refusal.Captured path offset) (refusal.Captured file other) = (string_bytes path ≡ string_bytes file) × (offset ≡ other)
+IsSameRefusal (refusal.Needed path offset) (refusal.Needed file other) = (string_bytes path ≡ string_bytes file) × (offset ≡ other)
+IsSameRefusal r s = r ≡ s
+
+-- two answers are the same
+abbrev pub IsSameAnswer : Result (List ChangeOf) JournalFault → Result (List ChangeOf) JournalFault → Type 0
+IsSameAnswer (Err (fault.Refused r)) (Err (fault.Refused s)) = IsSameRefusal r s
+IsSameAnswer a b = a ≡ b
+
+-- Where no call of the store fails and memory is there, the store and the workspace, whose files compile, decide what a commit answers and leaves.
 abbrev pub CommitsAreOne : Type 0
-CommitsAreOne = (e : Asked) (from to other : List FileOf) (old : Held) (new now : Option Held) (a b : Result (List ChangeOf) JournalFault) → IsSettled a → IsSettled b
-    → CommitOutcome e from to (Some old) new a → CommitOutcome e from other (Some old) now b → (a ≡ b) × (to ≡ other) × (new ≡ now)
+CommitsAreOne = (e : Asked) (from to other : List FileOf) (old : Held) (new now : Option Held) (a b : Result (List ChangeOf) JournalFault) → AreCompiled from → IsSettled a → IsSettled b
+    → CommitOutcome e from to (Some old) new a → CommitOutcome e from other (Some old) now b → IsSameAnswer a b × (to ≡ other) × (new ≡ now)
 
 -- And so for an undo.
 abbrev pub UndosAreOne : Type 0

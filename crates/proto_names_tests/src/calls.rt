@@ -4,6 +4,7 @@ use proto_faults::{Fault, NoMemory, SchemaFault};
 use proto_files::{Files, Paths};
 use proto_names::{Kind, Link, SymbolId};
 use std::alloc::Global;
+use std::process::Abort;
 use std::test::Fail;
 
 /// Files for a workspace: paths and texts.
@@ -32,33 +33,24 @@ fn fault_text(alloc: Global, fault: &Fault) -> Result<String, NoMemory> {
     Ok(format!(in alloc; "{path}:{offset}: {number} {name}")?)
 }
 
-fn files_fault(alloc: Global, fault: SchemaFault) -> Result<String, NoMemory> {
+fn told_of_fault(alloc: Global, fault: &SchemaFault) -> Result<String, NoMemory> {
     match fault {
-        SchemaFault::Schema(fault) => fault_text(alloc, &fault),
+        SchemaFault::Schema(fault) => fault_text(alloc, fault),
         SchemaFault::NoMemory => Ok(String::from_str(alloc, "no memory")?),
     }
 }
 
-fn link_fault(alloc: Global, fault: SchemaFault) -> Result<String, NoMemory> {
-    match fault {
-        SchemaFault::Schema(fault) => fault_text(alloc, &fault),
-        SchemaFault::NoMemory => Ok(String::from_str(alloc, "no memory")?),
-    }
-}
-
-/// `links`, or the fault of the link.
-pub(crate) fn answer_of_files(alloc: Global, files: &Files) -> Result<String, NoMemory> {
-    match Link::new(alloc, files) {
-        Ok(_) => Ok(String::from_str(alloc, "links")?),
-        Err(fault) => link_fault(alloc, fault),
-    }
+// The files of a workspace, linked.
+fn linked(alloc: Global, given: Vec<(String, Vec<u8>)>) -> Result<Link, SchemaFault> {
+    let files = read(alloc, given)?;
+    Link::new(alloc, &files)
 }
 
 /// `links`, or the fault.
 pub(crate) fn answer_of(alloc: Global, given: Vec<(String, Vec<u8>)>) -> Result<String, NoMemory> {
-    match read(alloc, given) {
-        Ok(files) => answer_of_files(alloc, &files),
-        Err(fault) => files_fault(alloc, fault),
+    match linked(alloc, given) {
+        Ok(_) => Ok(String::from_str(alloc, "links")?),
+        Err(fault) => told_of_fault(alloc, &fault),
     }
 }
 
@@ -66,9 +58,14 @@ pub(crate) fn answer(alloc: Global, texts: &[(&str, &str)]) -> Result<String, No
     answer_of(alloc, given(alloc, texts)?)
 }
 
-/// Of one file, `a.proto`.
-pub(crate) fn answer_of_text(alloc: Global, text: &str) -> Result<String, NoMemory> {
-    answer(alloc, &[("a.proto", text)])
+/// Files, and what is answered for them.
+pub(crate) type Answer = (&'static [(&'static str, &'static str)], &'static str);
+
+pub(crate) fn expect_answers<R: AllocGlobal + Abort>(rt: &R, rows: &[Answer]) -> Result<(), Fail> {
+    for (texts, said) in rows {
+        assert_eq!(rt; answer(rt.alloc(), texts)?.as_str(), *said);
+    }
+    Ok(())
 }
 
 pub(crate) fn read_texts(alloc: Global, texts: &[(&str, &str)]) -> Result<Files, Fail> {
@@ -117,13 +114,8 @@ fn place_of_token(alloc: Global, files: &Files, file: u32, token: u32) -> Result
     }
 }
 
-/// What a link says of a name: `name kind path:offset`.
-pub(crate) fn told_of_name(
-    alloc: Global,
-    link: &Link,
-    files: &Files,
-    name: &str,
-) -> Result<String, NoMemory> {
+// What a link says of a name: `name kind path:offset`.
+fn told_of_name(alloc: Global, link: &Link, files: &Files, name: &str) -> Result<String, NoMemory> {
     match link.symbol(name) {
         Some(id) => told_of_id(alloc, link, files, id),
         None => Ok(String::from_str(alloc, "unknown")?),
@@ -141,8 +133,8 @@ fn told_of_id(alloc: Global, link: &Link, files: &Files, id: SymbolId) -> Result
     Ok(format!(in alloc; "{name} {kind} {place}")?)
 }
 
-/// The references of a name: `path:offset` each, joined by commas.
-pub(crate) fn references_of(
+// The references of a name: `path:offset` each, joined by commas.
+fn references_of(
     alloc: Global,
     link: &Link,
     files: &Files,
@@ -160,4 +152,63 @@ pub(crate) fn references_of(
         out.push_str(place.as_str())?;
     }
     Ok(out)
+}
+
+/// What a link is asked of a name.
+#[derive(Clone, Copy)]
+pub(crate) enum Ask {
+    /// What it is.
+    Name,
+    /// Where it is referred to.
+    References,
+    /// Whether a file sees it.
+    Seen(u32),
+}
+
+/// What is asked, of which name, and the answer.
+pub(crate) type Told = (Ask, &'static str, &'static str);
+
+fn told(
+    alloc: Global,
+    link: &Link,
+    files: &Files,
+    ask: Ask,
+    name: &str,
+) -> Result<String, NoMemory> {
+    match ask {
+        Ask::Name => told_of_name(alloc, link, files, name),
+        Ask::References => references_of(alloc, link, files, name),
+        Ask::Seen(file) => {
+            let said = if link.visible(file, name) {
+                "seen"
+            } else {
+                "not seen"
+            };
+            Ok(String::from_str(alloc, said)?)
+        }
+    }
+}
+
+fn expect_rows<R: AllocGlobal + Abort>(
+    rt: &R,
+    link: &Link,
+    files: &Files,
+    rows: &[Told],
+) -> Result<(), Fail> {
+    for (ask, name, said) in rows {
+        let found = told(rt.alloc(), link, files, *ask, name)?;
+        assert_eq!(rt; found.as_str(), *said, "{name}");
+    }
+    Ok(())
+}
+
+/// Links the files, and asks for each row.
+pub(crate) fn expect_told<R: AllocGlobal + Abort>(
+    rt: &R,
+    texts: &[(&str, &str)],
+    rows: &[Told],
+) -> Result<(), Fail> {
+    let files = read_texts(rt.alloc(), texts)?;
+    let link = link(rt.alloc(), &files)?;
+    expect_rows(rt, &link, &files, rows)
 }

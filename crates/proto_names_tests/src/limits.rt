@@ -3,6 +3,7 @@
 use super::calls::{answer, answer_of, link, read};
 use proto_faults::NoMemory;
 use std::alloc::Global;
+use std::process::Abort;
 use std::test::Fail;
 
 // Empty files, `f0.proto` and so on.
@@ -18,11 +19,11 @@ fn empty_files(alloc: Global, count: u32) -> Result<Vec<(String, Vec<u8>)>, NoMe
 #[test]
 fn many_files(rt: HostRuntime) -> Result<(), Fail> {
     let alloc = rt.alloc();
-    let said = answer_of(alloc, empty_files(alloc, 4096)?)?;
-    assert_eq!(rt; said.as_str(), "links");
     // The last by the bytes of the paths is the one too many.
-    let said = answer_of(alloc, empty_files(alloc, 4097)?)?;
-    assert_eq!(rt; said.as_str(), "f999.proto:0: 35 TooManyFiles");
+    for (count, wanted) in [(4096, "links"), (4097, "f999.proto:0: 35 TooManyFiles")] {
+        let said = answer_of(alloc, empty_files(alloc, count)?)?;
+        assert_eq!(rt; said.as_str(), wanted);
+    }
     Ok(())
 }
 
@@ -72,35 +73,45 @@ fn chain(
     Ok(files)
 }
 
-#[test]
-fn a_long_chain(rt: HostRuntime) -> Result<(), Fail> {
-    let alloc = rt.alloc();
-    let files = read(alloc, chain(alloc, 4000, "", "")?)?;
-    let link = link(alloc, &files)?;
-    assert!(rt; link.visible(0, "M1002"));
-    assert!(rt; !link.visible(0, "M1003"));
-    assert!(rt; link.visible(3999, "M5000"));
+// Whether files see messages of a chain of 4,000 files, whose imports are written so.
+fn expect_seen<R: AllocGlobal + Abort>(
+    rt: &R,
+    how: &str,
+    rows: &[(u32, &str, bool)],
+) -> Result<(), Fail> {
+    let files = read(rt.alloc(), chain(rt.alloc(), 4000, how, "")?)?;
+    let link = link(rt.alloc(), &files)?;
+    for (file, name, wanted) in rows {
+        assert!(rt; link.visible(*file, name) == *wanted, "{file} {name}");
+    }
     Ok(())
 }
 
 #[test]
+fn a_long_chain(rt: HostRuntime) -> Result<(), Fail> {
+    let rows = [
+        (0, "M1002", true),
+        (0, "M1003", false),
+        (3999, "M5000", true),
+    ];
+    expect_seen(&rt, "", &rows)
+}
+
+#[test]
 fn a_long_public_chain(rt: HostRuntime) -> Result<(), Fail> {
-    let alloc = rt.alloc();
-    let files = read(alloc, chain(alloc, 4000, "public ", "")?)?;
-    let link = link(alloc, &files)?;
-    assert!(rt; link.visible(0, "M5000"));
-    assert!(rt; !link.visible(3999, "M4999"));
-    Ok(())
+    let rows = [(0, "M5000", true), (3999, "M4999", false)];
+    expect_seen(&rt, "public ", &rows)
 }
 
 #[test]
 fn a_long_cycle(rt: HostRuntime) -> Result<(), Fail> {
     let alloc = rt.alloc();
-    let files = chain(alloc, 4000, "", "import \"f1001.proto\";")?;
-    let said = answer_of(alloc, files)?;
-    assert_eq!(rt; said.as_str(), "f1001.proto:7: 12 ImportCycle");
-    let files = chain(alloc, 4000, "", "import \"f4999.proto\";")?;
-    let said = answer_of(alloc, files)?;
-    assert_eq!(rt; said.as_str(), "f4999.proto:7: 12 ImportCycle");
+    for (last, wanted) in [
+        ("import \"f1001.proto\";", "f1001.proto:7: 12 ImportCycle"),
+        ("import \"f4999.proto\";", "f4999.proto:7: 12 ImportCycle"),
+    ] {
+        let said = answer_of(alloc, chain(alloc, 4000, "", last)?)?;
+        assert_eq!(rt; said.as_str(), wanted);
+    }
     Ok(())
 }

@@ -1,18 +1,5 @@
-pub mod AimedAt
-pub mod Cases
-pub mod Compiled
-pub mod FieldCases
-pub mod KeptWords
-pub mod Listed
-pub mod Marks
-pub mod OneReading
-pub mod RenameParts
-pub mod SentencesKept
-pub mod Spans
-pub mod TargetTests
-pub mod TreeWords
-pub mod Worded
-pub mod PlainNames
-pub mod Made
-pub mod MadeEntries
-pub mod EveryLanguage
+mod LeastCases
+mod OneAim
+mod Placed
+mod Refused
+mod WholeChanges

@@ -1,19 +1,19 @@
--- The cases of a rename as tests of fields.
-use Rattle.std.specs.Prelude.{ℕ, Bool, ◌==◌, ◌&&◌, not, List}
-use Rattle.std.specs.List.{list_any}
-use Rattle.std.specs.Str.{bytes_eq}
-use Rattle.proto_rename.specs.declared.shape.FieldAt.{FieldAt}
-use Rattle.proto_rename.specs.declared.shape.MessageAt.{MessageAt}
-use Rattle.proto_rename.specs.Named.{json_name}
+-- The cases of a rename in their order.
+use Rattle.std.specs.Prelude.{◌≡◌, ◌<◌, List, ℕ, string_bytes}
+use Rattle.proto_text.specs.declared.lexer.Token.{Token}
+use Rattle.proto_text.specs.Texts.{offset_at}
+use Rattle.proto_text.specs.Tokens.{AreTokens}
+use Rattle.proto_files.specs.GivenFiles.{FileOf, file_at}
+use Rattle.proto_entries.specs.declared.refusal.Refusal.{Refusal}
+use Rattle.proto_entries.specs.declared.refusal.Refusal.TheVariants.{Captured}
+use Rattle.proto_rename.specs.Renames.{IsRenameCase}
 
--- another field has the name
-abbrev pub has_other : (ℕ → List ℕ) → ℕ → List ℕ → List FieldAt → Bool
-has_other text field to fields = list_any (λ f. bytes_eq (text f.name) to && not (f.name == field)) fields
+-- no case before this one refuses it
+abbrev pub IsFreeBefore : List FileOf → List ℕ → List ℕ → ℕ → Type 0
+IsFreeBefore files name to n = (k : ℕ) → k < n → IsRenameCase files name to k → ⊥
 
--- another field has the JSON name
-abbrev pub has_clash : (ℕ → List ℕ) → ℕ → List ℕ → List FieldAt → Bool
-has_clash text field json fields = list_any (λ f. bytes_eq (json_name (text f.name)) json && not (f.name == field)) fields
-
--- so has another field of a message with this field
-abbrev pub clashes_in : (ℕ → List ℕ) → ℕ → List ℕ → List MessageAt → Bool
-clashes_in text field json ms = list_any (λ m. list_any (λ f. f.name == field) m.fields && has_clash text field json m.fields) ms
+-- captured, at the path of the file and where the token begins
+abbrev pub IsCapturedPlace : List FileOf → ℕ → ℕ → Refusal → Type 0
+IsCapturedPlace files file token (Captured path offset) =
+    (string_bytes path ≡ (file_at files file).path) × ((tokens : List Token) → AreTokens (file_at files file).bytes tokens → offset ≡ offset_at tokens token)
+IsCapturedPlace files file token _ = ⊥

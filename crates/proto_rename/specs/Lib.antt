@@ -1,9 +1,3 @@
-pub mod Shape
-pub mod Shaped
-pub mod Named
-pub mod Descriptors
-pub mod Renames
 pub mod Cases
-pub mod Regular
-pub mod Targets
-pub mod Laws
+pub mod Changes
+pub mod Renames

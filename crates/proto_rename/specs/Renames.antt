@@ -1,68 +1,36 @@
--- What a file says, what a rename aims at, and the cases that refuse one.
-use Rattle.std.specs.Prelude.{◌≡◌, ◌≢◌, ℕ, ◌+◌, ◌<◌, ◌≤◌, ◌==◌, false, if◌then◌else◌, List, [], ◌∷◌, length, Option, Some, None}
-use Rattle.std.specs.List.{Contains}
-use Rattle.std.specs.Str.{IsUtf8, bytes_eq}
-use Rattle.proto_text.specs.declared.lexer.Token.{Token as Lexed}
-use Rattle.proto_tree.specs.Tree.{Tree}
-use Rattle.proto_case.specs.Camel.{entry_name}
-use Rattle.proto_meaning.specs.Names.{Reference}
-use Rattle.proto_meaning.specs.Edits.{Renaming, Collides, IsCaptured}
-use Rattle.proto_meaning.specs.Skeleton.{Token, renaming_of}
-use Rattle.proto_meaning.specs.Joined.{joined}
-use Rattle.proto_text.specs.Texts.{words}
-use Rattle.proto_text.specs.Words.{is_run}
-use Rattle.proto_tree.specs.Reads.{Reads}
-use Rattle.proto_rename.specs.declared.shape.FieldAt.{FieldAt}
-use Rattle.proto_rename.specs.declared.shape.MessageAt.{MessageAt}
-use Rattle.proto_rename.specs.Shape.{messages_of, IsFirstLanguage}
-use Rattle.proto_rename.specs.Named.{names, json_name, IsSound}
-use Rattle.proto_rename.specs.Descriptors.{NamedMessage, desc}
+-- The rename of a name over the files of a workspace: the case that refuses it, and what it changes.
+use Rattle.std.specs.Prelude.{◌≡◌, ℕ, ◌<◌, List, string_bytes}
+use Rattle.proto_files.specs.FilesRead.{ReadOf, AreRead}
+use Rattle.proto_files.specs.GivenFiles.{FileOf}
+use Rattle.proto_entries.specs.declared.refusal.Refusal.{Refusal}
+use Rattle.proto_entries.specs.declared.refusal.Refusal.TheVariants as refusal
+use Rattle.proto_entries.specs.Entries.{ChangeOf}
+use Rattle.proto_entries.specs.RefusalTable.{number_of}
+use Rattle.proto_rename_laws.specs.Cases.{Captures, IsFirstPlace, RenameCase}
+use Rattle.proto_rename_laws.specs.Changes.{changes_of_words}
+use Rattle.proto_rename_laws.specs.Targets.{Target, IsNamed, renamed_words}
 
--- ---- a file that compiles
+-- case n refuses the rename
+abbrev pub IsRenameCase : List FileOf → List ℕ → List ℕ → ℕ → Type 0
+IsRenameCase files name to n = (reads : List ReadOf) × AreRead files reads × RenameCase files reads name to n
 
--- bytes that compile, as they are read
-pub record Compiles (text : List ℕ) (tokens : List Lexed) (tree : Tree) : Type 0 where
-  pub short : length text ≤ 1048576
-  pub utf8 : IsUtf8 text
-  pub reads : Reads text tokens tree
-  pub language : IsFirstLanguage (words text tokens) tree
-  pub sound : IsSound (words text tokens) (messages_of tree)
+-- case n refuses it, and none before it
+pub record IsLeastRenameCase (files : List FileOf) (name to : List ℕ) (n : ℕ) : Type 0 where
+  pub is : IsRenameCase files name to n
+  pub least : (k : ℕ) → k < n → IsRenameCase files name to k → ⊥
 
--- bytes that compile to descriptors
-abbrev pub TextCompilesTo : List ℕ → List NamedMessage → Type 0
-TextCompilesTo text d = (tokens : List Lexed) × (tree : Tree) × Compiles text tokens tree × (desc (words text tokens) (messages_of tree) ≡ d)
+-- the path and offset of the least captured reference
+abbrev pub IsCapturedAt : List FileOf → List ℕ → List ℕ → List ℕ → ℕ → Type 0
+IsCapturedAt files name to path offset = (reads : List ReadOf) × AreRead files reads × ((t : Target) × IsNamed files reads name t × IsFirstPlace files reads (Captures files reads t to) path offset)
 
--- ---- the target
+-- The least case, with its place where a reference is captured; memory may come in the place of any.
+abbrev pub IsRenameRefusal : List FileOf → List ℕ → List ℕ → Refusal → Type 0
+IsRenameRefusal files name to refusal.NoMemory = Unit {0}
+IsRenameRefusal files name to (refusal.Captured path offset) = IsLeastRenameCase files name to 7 × IsCapturedAt files name to (string_bytes path) offset
+IsRenameRefusal files name to (refusal.Needed path offset) = ⊥
+IsRenameRefusal files name to r = IsLeastRenameCase files name to (number_of r)
 
--- what a name may stand for in a file
-pub data Target : Type 0 where
-  absent : Target
-  no_field : Target
-  a_field : (m : MessageAt) (f : FieldAt) → Target
-
-abbrev pub field_target : (ℕ → List ℕ) → List ℕ → MessageAt → List FieldAt → Target → Target
-field_target text name m [] other = other
-field_target text name m (f ∷ fs) other = if bytes_eq (joined (text m.name ∷ text f.name ∷ [])) name then a_field m f else field_target text name m fs other
-
-abbrev pub target_in : (ℕ → List ℕ) → List ℕ → List MessageAt → Target
-target_in text name [] = absent
-target_in text name (m ∷ ms) = if bytes_eq (text m.name) name then no_field else field_target text name m m.fields (target_in text name ms)
-
--- the name map
-abbrev pub renaming : (ℕ → List ℕ) → MessageAt → FieldAt → List ℕ → Renaming
-renaming text m f to = renaming_of text entry_name f.name (Token m.name ∷ []) false to
-
--- ---- the cases, of a target
-pub data Refused (text : ℕ → List ℕ) (ms : List MessageAt) (size : ℕ) (to : List ℕ) : Target → ℕ → Type 0 where
-  unknown_target : Refused text ms size to absent 1
-  kind_not_allowed : Refused text ms size to no_field 2
-  not_an_identifier : (m : MessageAt) (f : FieldAt) → is_run to ≡ false → Refused text ms size to (a_field m f) 3
-  same_name : (m : MessageAt) (f : FieldAt) → to ≡ text f.name → Refused text ms size to (a_field m f) 5
-  collision : (m : MessageAt) (f : FieldAt) → Collides (renaming text m f to) (names text ms) → Refused text ms size to (a_field m f) 6
-  captured : (m : MessageAt) (f : FieldAt) (r : Reference) → Contains (names text ms).references r → IsCaptured (renaming text m f to) (names text ms) r → Refused text ms size to (a_field m f) 7
-  json_clash : (m : MessageAt) (f : FieldAt) (n : MessageAt) (a g : FieldAt) → Contains ms n → Contains n.fields a → a.name ≡ f.name → Contains n.fields g → g.name ≢ f.name → json_name (text g.name) ≡ json_name to → Refused text ms size to (a_field m f) 9
-  too_large : (m : MessageAt) (f : FieldAt) → 1048576 + length (text f.name) < size + length to → Refused text ms size to (a_field m f) 16
-
--- the words after the rename
-abbrev pub change : FieldAt → List ℕ → ℕ → Option (List ℕ)
-change f to i = if i == f.name then Some to else None
+-- no case refuses it, and these are the changes of its new words
+pub record IsRenamed (files : List FileOf) (name to : List ℕ) (cs : List ChangeOf) : Type 0 where
+  pub admissible : (n : ℕ) → IsRenameCase files name to n → ⊥
+  pub changes : (reads : List ReadOf) × AreRead files reads × ((t : Target) × IsNamed files reads name t × (cs ≡ changes_of_words (renamed_words files reads t to) files reads))

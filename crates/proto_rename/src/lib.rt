@@ -1,15 +1,10 @@
-//! The rename of a field in a file of the first language: what a name aims at, which case refuses, what is changed and
-//! what it leaves.
+//! The rename of a name: the least case that refuses it, or what it changes.
 #![tactic(auto)]
 
-mod json;
-mod language;
-pub mod laws;
-mod rename;
-mod rename_cases;
-mod shape;
-mod target;
+mod aimed;
+mod changes;
+mod checks;
+mod places;
+mod renaming;
 
-pub use language::is_first_language;
-pub use rename::{deletion_refusal, rename_in};
-pub use shape::{FieldAt, FileAt, MessageAt, plain_file};
+pub use renaming::rename;

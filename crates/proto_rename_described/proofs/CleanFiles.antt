@@ -46,8 +46,7 @@ use Rattle.proto_files.specs.Faults.{HasNoFault}
 use Rattle.proto_files.specs.FilesRead.{ReadOf, read_at}
 use Rattle.proto_files.specs.GivenFiles.{FileOf, file_at}
 use Rattle.proto_files.specs.ReadFaults.{IsGrammarFault, IsText, IsTextFault, ReadFaults}
-use Rattle.proto_schema.specs.Whole.{of_read}
-use Rattle.proto_rename_described.specs.CleanFiles.{CleanFilesAreRead, CompiledFilesAreRead}
+use Rattle.proto_rename_described.specs.CleanFiles.{CleanFilesAreRead}
 
 -- ---- a text has tokens, or a fault
 
@@ -291,6 +290,3 @@ pub clean_files_are_read : CleanFilesAreRead
 clean_files_are_read files clean =
     let all = all_read files (λ f c. file_read files clean f c) in
     (all.0, record { same = all.1; tokens = λ k l. (all.2 k l).tokens_are; trees = all.2 })
-
-pub compiled_files_are_read : CompiledFilesAreRead
-compiled_files_are_read files compiled = clean_files_are_read files (λ x h. compiled.clean x (of_read x h))

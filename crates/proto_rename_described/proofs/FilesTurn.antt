@@ -61,7 +61,7 @@ use Rattle.proto_rename_laws.proofs.Scenes.{find_agree, find_there, scenes_are_a
 use Rattle.proto_rename_described.specs.Allowed.{IsAllowed}
 use Rattle.proto_rename_described.specs.FilesTurn.{AllAreMapped, FilesTurn, RenamesAreMapped}
 use Rattle.proto_rename_described.specs.Mapped.{Taken, dotted, is_name_of, mapped, mapped_default, mapped_file, words_of}
-use Rattle.proto_rename_described.specs.Workspaces.{WritesJson, of_another, of_field}
+use Rattle.proto_rename_described.specs.Renamed.{WritesJson, of_another, of_field}
 use Rattle.proto_rename_described.specs.Turns.{FileTurns, is_target, written_json}
 use Rattle.proto_rename_described.proofs.Allowed.{allowed_roles, clean, empty_each, is_rename}
 use Rattle.proto_rename_described.proofs.DefaultWords.{fields_have_roles}
@@ -431,12 +431,5 @@ all_are_mapped files reads name to t after seen al w written writes =
 
 pub renames_are_mapped : RenamesAreMapped
 renames_are_mapped files reads name to t after seen al w ds new old later =
-    let j = writes_json files reads t in (
-      reads,
-      al.read,
-      (
-        t,
-        al.named,
-        (j.0, j.1, later seen w.read ∙ all_are_mapped files reads name to t after seen al w j.0 j.1 ∙ ap (mapped (name_map files reads t to) (record { written = j.0; enum = t.enum })) (sym (old reads al.read))),
-      ),
-    )
+    let j = writes_json files reads t in
+    (j.0, j.1, later seen w.read ∙ all_are_mapped files reads name to t after seen al w j.0 j.1 ∙ ap (mapped (name_map files reads t to) (record { written = j.0; enum = t.enum })) (sym (old reads al.read)))

@@ -8,7 +8,6 @@ mod Examples
 mod FileStays
 pub mod FilesTurn
 pub mod Mapped
-pub mod MappedSteps
 pub mod NamesKept
 pub mod OtherTokens
 pub mod ScenesTurn

@@ -11,7 +11,7 @@ use Rattle.proto_parts.specs.Scenes.{text, value}
 use Rattle.proto_checks_laws.proofs.OneField.{names_are_of_one_field}
 use Rattle.proto_scenes.specs.SceneOf.{lexemes_of, scene_of}
 use Rattle.proto_rename_roles.proofs.TokenRoles.{block_inside, spelled}
-use Rattle.proto_rename_described.specs.Workspaces.{of_another, of_field}
+use Rattle.proto_rename_described.specs.Renamed.{of_another, of_field}
 use Rattle.proto_rename_described.specs.WrittenJson.{JsonIsWrittenOnce, JsonIsWrittenOrNot}
 
 search_fields : (token : ℕ) (fs : List FieldOf) → ((f : FieldOf) × Contains fs f × (f.name ≡ token)) ⊎ ((f : FieldOf) → Contains fs f → f.name ≡ token → ⊥)

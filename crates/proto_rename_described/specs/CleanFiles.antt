@@ -4,12 +4,7 @@ use Rattle.proto_files.specs.Faults.{HasNoFault}
 use Rattle.proto_files.specs.FilesRead.{ReadOf, AreRead}
 use Rattle.proto_files.specs.GivenFiles.{FileOf}
 use Rattle.proto_files.specs.ReadFaults.{ReadFaults}
-use Rattle.proto_rename_described.specs.Workspaces.{AreCompiled}
 
 -- They have tokens and trees.
 abbrev pub CleanFilesAreRead : Type 0
 CleanFilesAreRead = (files : List FileOf) → HasNoFault (ReadFaults files) → (reads : List ReadOf) × AreRead files reads
-
--- So have files that compile.
-abbrev pub CompiledFilesAreRead : Type 0
-CompiledFilesAreRead = (files : List FileOf) → AreCompiled files → (reads : List ReadOf) × AreRead files reads

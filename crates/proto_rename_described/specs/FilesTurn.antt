@@ -9,7 +9,7 @@ use Rattle.proto_rename_laws.specs.Rewording.{AreReworded}
 use Rattle.proto_rename_laws.specs.Targets.{Target, name_map, renamed_words}
 use Rattle.proto_rename_described.specs.Allowed.{IsAllowed}
 use Rattle.proto_rename_described.specs.Mapped.{mapped}
-use Rattle.proto_rename_described.specs.Workspaces.{AreMapped, WritesJson, rename}
+use Rattle.proto_rename_described.specs.Renamed.{AreRenamed, WritesJson}
 use Rattle.proto_rename_described.specs.Turns.{FileTurns}
 
 -- What makes the descriptor afterwards the mapped one, file by file.
@@ -26,8 +26,8 @@ AllAreMapped = (files : List FileOf) (reads : List ReadOf) (name to : List ℕ) 
     → (written : Bool) → WritesJson files reads t written
     → described after seen ≡ mapped (name_map files reads t to) (record { written = written; enum = t.enum }) (described files reads)
 
--- So a rename leaves descriptors that are the old ones, mapped, as a mapped step wants it.
+-- So a rename leaves descriptors that are the old ones under its name map.
 abbrev pub RenamesAreMapped : Type 0
 RenamesAreMapped = (files : List FileOf) (reads : List ReadOf) (name to : List ℕ) (t : Target) (after : List FileOf) (seen : List ReadOf)
     → IsAllowed files reads name to t → AreReworded (renamed_words files reads t to) files reads after seen
-    → (ds new : List FileDesc) → AreDescribed files ds → AreDescribed after new → AreMapped files (rename name to) ds new
+    → (ds new : List FileDesc) → AreDescribed files ds → AreDescribed after new → AreRenamed files reads t to ds new

@@ -5,10 +5,9 @@ pub mod DefaultsKept
 pub mod EnumDefaults
 pub mod FilesTurn
 pub mod Mapped
-pub mod MappedSteps
 pub mod NamesKept
 pub mod OtherTokens
+pub mod Renamed
 pub mod ScenesTurn
 pub mod Turns
-pub mod Workspaces
 pub mod WrittenJson

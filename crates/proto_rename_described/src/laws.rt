@@ -1,12 +1,11 @@
 //! The laws, as functions that do nothing.
 
 ghost use Rattle.proto_rename_described.specs.Allowed.{RenamesLeaveNoFault};
-ghost use Rattle.proto_rename_described.specs.CleanFiles.{CleanFilesAreRead, CompiledFilesAreRead};
+ghost use Rattle.proto_rename_described.specs.CleanFiles.{CleanFilesAreRead};
 ghost use Rattle.proto_rename_described.specs.DefaultsFit.{AllDefaultsFit, FieldsHaveRoles};
 ghost use Rattle.proto_rename_described.specs.DefaultsKept.{DefaultsStayValues};
 ghost use Rattle.proto_rename_described.specs.EnumDefaults.{EnumDefaultsFit};
 ghost use Rattle.proto_rename_described.specs.FilesTurn.{AllAreMapped, FilesTurn, RenamesAreMapped};
-ghost use Rattle.proto_rename_described.specs.MappedSteps.{AdmissibleRenamesStep, RenamesAreSteps};
 ghost use Rattle.proto_rename_described.specs.NamesKept.{JsonNamesStay, ReservedNamesStay};
 ghost use Rattle.proto_rename_described.specs.OtherTokens.{LabelsAndScalarsStay, OtherTokensStay};
 ghost use Rattle.proto_rename_described.specs.ScenesTurn.{MeaningsTurn, NamesTurn};
@@ -71,15 +70,7 @@ pub fn files_turn()
     ensures mapped { RenamesAreMapped }
 {}
 
-/// Files whose texts and grammar have no fault have tokens and trees, and so have files that compile.
-pub fn compiled_files_are_read()
-    ensures clean { CleanFilesAreRead }
-    ensures compiled { CompiledFilesAreRead }
-{}
-
-/// A rename that no case refuses is a mapped step: the changes of its words are an entry, and the files with them compile to
-/// the old descriptors under the name map. Each admissible rename has such a step.
-pub fn renames_are_steps()
-    ensures steps { RenamesAreSteps }
-    ensures there { AdmissibleRenamesStep }
+/// Files whose texts and grammar have no fault have tokens and trees.
+pub fn clean_files_are_read()
+    ensures { CleanFilesAreRead }
 {}

@@ -83,6 +83,27 @@ fn note(rt: &HostRuntime, root: &str, text: &str) -> Result<(), StoreFault> {
 }
 
 #[test]
+fn fails_once_its_folder_is_gone(rt: HostRuntime) -> Result<(), Fail> {
+    let root = new_folder(&rt, "gone")?;
+    let root = root.as_str();
+    write(&rt, root, "p/a.proto", "syntax = \"proto3\";")?;
+    let mut store = FolderStore::new(&rt, root);
+    assert!(rt; store.failures() == 0);
+    let paths = store.list()?;
+    assert_eq!(rt; paths.len(), 1);
+    assert_eq!(rt; paths[0].as_str(), "p/a.proto");
+    let bytes = store.read("p/a.proto")?;
+    assert_eq!(rt; bytes.as_slice(), b"syntax = \"proto3\";".as_slice());
+    fs::remove_dir_all(&rt, root)?;
+    assert!(rt; store.failures() < u64::MAX);
+    assert!(rt; store.list().is_err(), "of a folder that is gone");
+    assert!(rt; store.failures() < u64::MAX);
+    assert!(rt; store.read("p/a.proto").is_err(), "of a file that is gone");
+    assert_eq!(rt; store.failures(), 2);
+    Ok(())
+}
+
+#[test]
 fn replaces_files(rt: HostRuntime) -> Result<(), Fail> {
     let root = new_folder(&rt, "files")?;
     let root = root.as_str();

@@ -8,4 +8,6 @@ mod calls;
 #[cfg(test)]
 mod folders;
 #[cfg(test)]
+mod listings;
+#[cfg(test)]
 mod memory;

@@ -33,8 +33,10 @@ struct Declaration {
 
 /// Where a name of the link is declared; none for a package.
 fn place(link: &Link, name: SymbolId) -> Option<Declaration>
-    ensures some { IfSome result (λ p. (n : NameOf) × (name_at link.now name.row ≡ Some n) × (n.kind ≡ p.kind) × (first_place n ≡ at p.file p.token)) }
-    ensures none { IfNone result ((n : NameOf) → name_at link.now name.row ≡ Some n → is_package n.kind ≡ true) }
+    ensures some { IfSome result (λ p. (n : NameOf) × (name_at link.now name.row ≡ Some n)
+        × (n.kind ≡ p.kind) × (first_place n ≡ at p.file p.token)) }
+    ensures none { IfNone result ((n : NameOf) → name_at link.now name.row ≡ Some n
+        → is_package n.kind ≡ true) }
 {
     let kind = link.kind_of(name)?;
     let file = link.file_of(name)?;
@@ -82,8 +84,11 @@ fn is_entry_at(link: &Link, name: &str, file: u32, token: u32) -> bool
 fn has_entry(alloc: Global, files: &Files, link: &Link, aim: Aim) -> Result<bool, NoMemory>
     requires { IsSpelled files.now aim }
     ensures { (reads : List ReadOf) → AreRead files.now reads
-        → (front : List ℕ) → aim.entry.name.now ≡ front ++ text_of files.now reads (at aim.entry.file aim.entry.token)
-        → IfOk result (λ is. IsTrue is ↔ HasDeclared link.now (front ++ entry_name (text_of files.now reads (at aim.entry.file aim.entry.token))) Kind.Entry (at aim.entry.file aim.entry.token)) }
+        → (front : List ℕ)
+        → aim.entry.name.now ≡ front ++ text_of files.now reads (at aim.entry.file aim.entry.token)
+        → IfOk result (λ is. IsTrue is ↔ HasDeclared link.now
+        (front ++ entry_name (text_of files.now reads (at aim.entry.file aim.entry.token)))
+        Kind.Entry (at aim.entry.file aim.entry.token)) }
 {
     are_read(files);
     let own = word(files, aim.file, aim.token);
@@ -95,7 +100,8 @@ fn has_entry(alloc: Global, files: &Files, link: &Link, aim: Aim) -> Result<bool
 
 /// The declaration of this name in a link; it is not yet asked whether it is a map field.
 fn declared<'a>(link: &Link, name: &'a str) -> Result<Aim<'a>, NoTarget>
-    ensures ok { IfOk result (λ aim. HasDeclared link.now aim.name.now aim.kind (at aim.file aim.token)) }
+    ensures ok { IfOk result (λ aim.
+        HasDeclared link.now aim.name.now aim.kind (at aim.file aim.token)) }
     ensures named { IfOk result (λ aim. aim.name.now ≡ name.entry.now) }
     ensures kind { IfOk result (λ aim. may_rename aim.kind ≡ true) }
     ensures err { IfErr result (IsNotDeclared link.now name.entry.now) }
@@ -131,7 +137,8 @@ pub fn target<'a>(
     ensures named { IfOk result (λ aim. aim.name.now ≡ name.entry.now) }
     // It stands at a token of a file.
     ensures file { IfOk result (λ aim. aim.file < length files.now) }
-    ensures inside { IfOk result (λ aim. (reads : List ReadOf) → AreRead files.now reads → IsInside files.now reads (at aim.file aim.token)) }
+    ensures inside { IfOk result (λ aim. (reads : List ReadOf) → AreRead files.now reads
+        → IsInside files.now reads (at aim.file aim.token)) }
     ensures err { IfErr result (IsNoTarget files.now name.entry.now) }
 {
     are_read(files);

@@ -46,7 +46,8 @@ fn is_taken(
     entry: Option<&str>,
     word: &str,
 ) -> Result<bool, NoMemory>
-    ensures { IfOk result (λ is. IsTrue is ↔ IsTakenText link.now front.now own.now (option_map (λ x. x.now) entry.entry) word.now) }
+    ensures { IfOk result (λ is. IsTrue is ↔ IsTakenText link.now front.now own.now
+        (option_map (λ x. x.now) entry.entry) word.now) }
 {
     if is_freed(own, entry, word) {
         return Ok(false);
@@ -64,7 +65,8 @@ fn is_one_taken(
     to: &str,
     new_entry: Option<&str>,
 ) -> Result<bool, NoMemory>
-    ensures { IfOk result (λ is. IsTrue is ↔ IsOneTaken link.now front.now own.now (option_map (λ x. x.now) entry.entry) to.now (option_map (λ x. x.now) new_entry.entry)) }
+    ensures { IfOk result (λ is. IsTrue is ↔ IsOneTaken link.now front.now own.now
+        (option_map (λ x. x.now) entry.entry) to.now (option_map (λ x. x.now) new_entry.entry)) }
 {
     if is_taken(alloc, link, front, own, entry, to)? {
         return Ok(true);
@@ -88,8 +90,10 @@ pub fn collides(
     requires linked { HasNoFault (LinkFaults files.now) }
     requires aim { IsAimOf files.now aim }
     requires word { is_run to.now ≡ true }
-    ensures { (reads : List ReadOf) → AreRead files.now reads → (t : Target) → IsAimedAt files.now reads aim.entry t
-        → IfOk result (λ is. IsTrue is ↔ Collides (name_map files.now reads t to.now) (names_of_files files.now reads)) }
+    ensures { (reads : List ReadOf) → AreRead files.now reads → (t : Target)
+        → IsAimedAt files.now reads aim.entry t
+        → IfOk result (λ is.
+        IsTrue is ↔ Collides (name_map files.now reads t to.now) (names_of_files files.now reads)) }
 {
     are_read(files);
     let own = word(files, aim.file, aim.token);

@@ -43,7 +43,8 @@ pub(crate) fn beside(alloc: Global, front: &str, word: &str) -> Result<String, N
 
 /// The name of a map field's entry; none for what is no map field.
 pub(crate) fn entry_of(alloc: Global, is_map: bool, word: &str) -> Result<Option<String>, NoMemory>
-    ensures { IfOk result (λ entry. option_map string_bytes entry ≡ (if is_map then Some (entry_name word.now) else None)) }
+    ensures { IfOk result (λ entry.
+        option_map string_bytes entry ≡ (if is_map then Some (entry_name word.now) else None)) }
 {
     if is_map {
         Ok(Some(entry_name(alloc, word)?))

@@ -53,13 +53,22 @@ fn expect_refused<R: AllocGlobal + Abort>(
 #[test]
 fn is_refused_by_the_least_case(rt: HostRuntime) -> Result<(), Fail> {
     let two = "syntax = \"proto3\"; message M { string fooBar = 1; string x = 2; }";
+    let inner =
+        "syntax = \"proto3\"; package p; message Inner {} message A { message B {} Inner x = 1; }";
     for (text, name, to, line) in [
         (ROW, "A.q", "r", "refused: 1 UnknownTarget\n"),
         (ROW, "", "", "refused: 1 UnknownTarget\n"),
         (ROW, "A.b_c", "9x", "refused: 3 NotAnIdentifier\n"),
         (ROW, "A.b_c", "-x", "refused: 3 NotAnIdentifier\n"),
+        (ROW, "A", "message", "refused: 4 KeywordName\n"),
         (ROW, "A.b_c", "b_c", "refused: 5 SameName\n"),
         (two, "M.x", "fooBar", "refused: 6 Collision\n"),
+        (
+            inner,
+            "p.A.B",
+            "Inner",
+            "refused: 7 Captured a.proto:1:73\n",
+        ),
         (two, "M.x", "foo_bar", "refused: 9 JsonClash\n"),
     ] {
         expect_refused(&rt, rename(rt.alloc(), name, to)?, text, line)?;

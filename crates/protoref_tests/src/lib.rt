@@ -4,11 +4,7 @@
 #[cfg(test)]
 mod calls;
 #[cfg(test)]
-mod command_lines;
-#[cfg(test)]
 mod compiling;
-#[cfg(test)]
-mod folders;
 #[cfg(test)]
 mod lint_rows;
 #[cfg(test)]

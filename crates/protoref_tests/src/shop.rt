@@ -1,310 +1,42 @@
 //! The schemas of `examples/shop`, and what protoc says of them.
 
-/// The files, by their paths.
+/// The files, by their paths, each in one line.
 pub(crate) const FILES: &[(&str, &str)] = &[
     (
         "shop/api/v1/shop_service.proto",
-        r#"syntax = "proto3";
-
-package shop.api.v1;
-
-import "shop/catalog/v1/product.proto";
-import "shop/common/v1/common.proto";
-import "shop/orders/v1/order.proto";
-
-service CatalogService {
-  option deprecated = false;
-
-  rpc GetProduct(GetProductRequest) returns (GetProductResponse) {
-    option idempotency_level = NO_SIDE_EFFECTS;
-  }
-  rpc ListProducts(ListProductsRequest) returns (catalog.v1.ProductList);
-  rpc WatchProducts(ListProductsRequest) returns (stream catalog.v1.Product) {}
-}
-
-service OrderService {
-  rpc PlaceOrders(stream orders.v1.Order) returns (PlaceOrdersResponse);
-  rpc Negotiate(stream .shop.orders.v1.Order) returns (stream orders.v1.Order) {
-    option deprecated = true;
-    option idempotency_level = IDEMPOTENCY_UNKNOWN;
-  }
-}
-
-message GetProductRequest {
-  string id = 1;
-}
-
-message GetProductResponse {
-  catalog.v1.Product product = 1;
-}
-
-message ListProductsRequest {
-  common.v1.PageRequest page = 1;
-  repeated catalog.v1.Product.State states = 2;
-}
-
-message PlaceOrdersResponse {
-  repeated string order_ids = 1;
-  common.v1.Money total = 2;
-}
-"#,
+        "syntax = \"proto3\";\n\npackage shop.api.v1;\n\nimport \"shop/catalog/v1/product.proto\";\nimport \"shop/common/v1/common.proto\";\nimport \"shop/orders/v1/order.proto\";\n\nservice CatalogService {\n  option deprecated = false;\n\n  rpc GetProduct(GetProductRequest) returns (GetProductResponse) {\n    option idempotency_level = NO_SIDE_EFFECTS;\n  }\n  rpc ListProducts(ListProductsRequest) returns (catalog.v1.ProductList);\n  rpc WatchProducts(ListProductsRequest) returns (stream catalog.v1.Product) {}\n}\n\nservice OrderService {\n  rpc PlaceOrders(stream orders.v1.Order) returns (PlaceOrdersResponse);\n  rpc Negotiate(stream .shop.orders.v1.Order) returns (stream orders.v1.Order) {\n    option deprecated = true;\n    option idempotency_level = IDEMPOTENCY_UNKNOWN;\n  }\n}\n\nmessage GetProductRequest {\n  string id = 1;\n}\n\nmessage GetProductResponse {\n  catalog.v1.Product product = 1;\n}\n\nmessage ListProductsRequest {\n  common.v1.PageRequest page = 1;\n  repeated catalog.v1.Product.State states = 2;\n}\n\nmessage PlaceOrdersResponse {\n  repeated string order_ids = 1;\n  common.v1.Money total = 2;\n}\n",
     ),
     (
         "shop/catalog/v1/product.proto",
-        r#"syntax = "proto3";
-
-package shop.catalog.v1;
-
-import "shop/common/v1/common.proto";
-
-option optimize_for = CODE_SIZE;
-option objc_class_prefix = "SHP";
-
-message Product {
-  reserved 4, 9 to 11, 100 to max;
-  reserved "colour", 'weight_grams';
-
-  string id = 1;
-  string title = 2;
-  .shop.common.v1.Money price = 3;
-
-  enum State {
-    option allow_alias = true;
-    reserved 7 to 9, -5 to -3;
-    reserved "STATE_DRAFT";
-
-    STATE_UNSPECIFIED = 0;
-    STATE_ACTIVE = 1;
-    STATE_LISTED = 1 [deprecated = true];
-    STATE_RETIRED = 0x10;
-  }
-  State state = 5;
-
-  message Image {
-    string url = 1;
-    oneof size {
-      uint32 width = 2;
-      uint32 height = 3;
-    }
-    map<string, Alt> alt_texts = 4;
-    message Alt {
-      string text = 1;
-    }
-  }
-  repeated Image images = 6;
-  map<int32, Image> images_by_rank = 7;
-  map<string, State> state_by_region = 8;
-  repeated double ratings = 12 [packed = false];
-  repeated State history = 13 [packed = true];
-  bytes sku_hash = 14 [json_name = "sku"];
-
-  oneof availability {
-    bool in_stock = 20;
-    common.v1.Money reserve_price = 21;
-    string note = 22;
-  }
-}
-
-message ProductList {
-  repeated Product products = 1;
-  common.v1.PageResponse page = 2;
-}
-"#,
+        "syntax = \"proto3\";\n\npackage shop.catalog.v1;\n\nimport \"shop/common/v1/common.proto\";\n\noption optimize_for = CODE_SIZE;\noption objc_class_prefix = \"SHP\";\n\nmessage Product {\n  reserved 4, 9 to 11, 100 to max;\n  reserved \"colour\", 'weight_grams';\n\n  string id = 1;\n  string title = 2;\n  .shop.common.v1.Money price = 3;\n\n  enum State {\n    option allow_alias = true;\n    reserved 7 to 9, -5 to -3;\n    reserved \"STATE_DRAFT\";\n\n    STATE_UNSPECIFIED = 0;\n    STATE_ACTIVE = 1;\n    STATE_LISTED = 1 [deprecated = true];\n    STATE_RETIRED = 0x10;\n  }\n  State state = 5;\n\n  message Image {\n    string url = 1;\n    oneof size {\n      uint32 width = 2;\n      uint32 height = 3;\n    }\n    map<string, Alt> alt_texts = 4;\n    message Alt {\n      string text = 1;\n    }\n  }\n  repeated Image images = 6;\n  map<int32, Image> images_by_rank = 7;\n  map<string, State> state_by_region = 8;\n  repeated double ratings = 12 [packed = false];\n  repeated State history = 13 [packed = true];\n  bytes sku_hash = 14 [json_name = \"sku\"];\n\n  oneof availability {\n    bool in_stock = 20;\n    common.v1.Money reserve_price = 21;\n    string note = 22;\n  }\n}\n\nmessage ProductList {\n  repeated Product products = 1;\n  common.v1.PageResponse page = 2;\n}\n",
     ),
     (
         "shop/common/v1/common.proto",
-        r#"syntax = "proto3";
-
-// One import for all that is shared.
-package shop.common.v1;
-
-import public "shop/common/v1/money.proto";
-import public "shop/common/v1/page.proto";
-"#,
+        "syntax = \"proto3\";\n\n// One import for all that is shared.\npackage shop.common.v1;\n\nimport public \"shop/common/v1/money.proto\";\nimport public \"shop/common/v1/page.proto\";\n",
     ),
     (
         "shop/common/v1/money.proto",
-        r#"syntax = "proto3";
-
-package shop.common.v1;
-
-option java_package = "com.example.shop.common.v1";
-option java_multiple_files = true;
-option go_package = "example.com/shop/common/v1;commonv1";
-
-// An amount in the minor units of a currency.
-message Money {
-  // ISO 4217, as in "EUR".
-  string currency_code = 1;
-  int64 minor_units = 2;
-}
-
-enum Rounding {
-  ROUNDING_UNSPECIFIED = 0;
-  ROUNDING_HALF_EVEN = 1;
-  ROUNDING_UP = 2;
-}
-"#,
+        "syntax = \"proto3\";\n\npackage shop.common.v1;\n\noption java_package = \"com.example.shop.common.v1\";\noption java_multiple_files = true;\noption go_package = \"example.com/shop/common/v1;commonv1\";\n\n// An amount in the minor units of a currency.\nmessage Money {\n  // ISO 4217, as in \"EUR\".\n  string currency_code = 1;\n  int64 minor_units = 2;\n}\n\nenum Rounding {\n  ROUNDING_UNSPECIFIED = 0;\n  ROUNDING_HALF_EVEN = 1;\n  ROUNDING_UP = 2;\n}\n",
     ),
     (
         "shop/common/v1/page.proto",
-        r#"syntax = "proto3";
-
-package shop.common.v1;
-
-option java_multiple_files = true;
-
-message PageRequest {
-  optional int32 page_size = 1;
-  string page_token = 2;
-}
-
-message PageResponse {
-  string next_page_token = 1;
-  optional int64 total_size = 2 [deprecated = true];
-}
-"#,
+        "syntax = \"proto3\";\n\npackage shop.common.v1;\n\noption java_multiple_files = true;\n\nmessage PageRequest {\n  optional int32 page_size = 1;\n  string page_token = 2;\n}\n\nmessage PageResponse {\n  string next_page_token = 1;\n  optional int64 total_size = 2 [deprecated = true];\n}\n",
     ),
     (
         "shop/legacy/inventory.proto",
-        r#"// Written before proto3; the warehouses still read it.
-package shop.legacy;
-
-import "shop/common/v1/money.proto";
-
-option java_package = "com.example.shop" ".legacy";
-option java_outer_classname = "InventoryProto";
-option optimize_for = SPEED;
-
-enum Zone {
-  NORTH = 1;
-  SOUTH = 2;
-  NOWHERE = -1;
-}
-
-message Bin {
-  required string code = 1;
-  optional Zone zone = 2 [default = SOUTH];
-  optional int32 capacity = 3 [default = -40];
-  optional uint64 serial = 4 [default = 18446744073709551615];
-  optional bool is_cold = 5 [default = true];
-  optional string label = 6 [default = "a \"b\" \n\t\x41\101"];
-  repeated int32 slots = 7 [packed = true];
-  optional shop.common.v1.Money value = 8;
-  extensions 100 to 199, 500 to max;
-  reserved 9, 20 to 29;
-  reserved "aisle";
-  oneof owner {
-    string team = 10;
-    sint64 badge = 11 [default = 07];
-  }
-}
-
-message Shelf {
-  map<string, Bin> bins = 1;
-  repeated group_ items = 3;
-  message group_ {
-    optional string _name = 1;
-    optional string max = 2 [default = "max"];
-  }
-}
-"#,
+        "// Written before proto3; the warehouses still read it.\npackage shop.legacy;\n\nimport \"shop/common/v1/money.proto\";\n\noption java_package = \"com.example.shop\" \".legacy\";\noption java_outer_classname = \"InventoryProto\";\noption optimize_for = SPEED;\n\nenum Zone {\n  NORTH = 1;\n  SOUTH = 2;\n  NOWHERE = -1;\n}\n\nmessage Bin {\n  required string code = 1;\n  optional Zone zone = 2 [default = SOUTH];\n  optional int32 capacity = 3 [default = -40];\n  optional uint64 serial = 4 [default = 18446744073709551615];\n  optional bool is_cold = 5 [default = true];\n  optional string label = 6 [default = \"a \\\"b\\\" \\n\\t\\x41\\101\"];\n  repeated int32 slots = 7 [packed = true];\n  optional shop.common.v1.Money value = 8;\n  extensions 100 to 199, 500 to max;\n  reserved 9, 20 to 29;\n  reserved \"aisle\";\n  oneof owner {\n    string team = 10;\n    sint64 badge = 11 [default = 07];\n  }\n}\n\nmessage Shelf {\n  map<string, Bin> bins = 1;\n  repeated group_ items = 3;\n  message group_ {\n    optional string _name = 1;\n    optional string max = 2 [default = \"max\"];\n  }\n}\n",
     ),
     (
         "shop/legacy/plain.proto",
-        r#"message Unpackaged {
-  optional string text = 1;
-  optional shop.legacy.Bin bin = 2;
-}
-
-import "shop/legacy/inventory.proto";
-"#,
+        "message Unpackaged {\n  optional string text = 1;\n  optional shop.legacy.Bin bin = 2;\n}\n\nimport \"shop/legacy/inventory.proto\";\n",
     ),
     (
         "shop/orders/v1/order.proto",
-        r#"syntax = "proto3";
-
-package shop.orders.v1;
-
-import "shop/catalog/v1/product.proto";
-import "shop/common/v1/common.proto";
-import "shop/payments/v1/payment.proto";
-
-message Order {
-  option deprecated = false;
-
-  string order_id = 1;
-  message Line {
-    catalog.v1.Product product = 1;
-    uint32 quantity = 2;
-    common.v1.Money unit_price = 3;
-  }
-  repeated Line lines = 2;
-  sfixed64 placed_at = 3;
-  optional fixed32 warehouse = 4;
-  payments.v1.Payment payment = 5;
-  map<uint64, Line> lines_by_sku = 6;
-  map<bool, string> flags = 7;
-  Status status = 8;
-
-  message Address {
-    repeated string street_lines = 1;
-    string postal_code = 2;
-    string country = 3;
-  }
-  Address ship_to = 9;
-  Country country_of_origin = 10;
-}
-
-message Country {}
-
-enum Status {
-  STATUS_UNSPECIFIED = 0;
-  STATUS_OPEN = 1;
-  STATUS_SHIPPED = 2;
-  STATUS_CANCELLED = 3;
-}
-"#,
+        "syntax = \"proto3\";\n\npackage shop.orders.v1;\n\nimport \"shop/catalog/v1/product.proto\";\nimport \"shop/common/v1/common.proto\";\nimport \"shop/payments/v1/payment.proto\";\n\nmessage Order {\n  option deprecated = false;\n\n  string order_id = 1;\n  message Line {\n    catalog.v1.Product product = 1;\n    uint32 quantity = 2;\n    common.v1.Money unit_price = 3;\n  }\n  repeated Line lines = 2;\n  sfixed64 placed_at = 3;\n  optional fixed32 warehouse = 4;\n  payments.v1.Payment payment = 5;\n  map<uint64, Line> lines_by_sku = 6;\n  map<bool, string> flags = 7;\n  Status status = 8;\n\n  message Address {\n    repeated string street_lines = 1;\n    string postal_code = 2;\n    string country = 3;\n  }\n  Address ship_to = 9;\n  Country country_of_origin = 10;\n}\n\nmessage Country {}\n\nenum Status {\n  STATUS_UNSPECIFIED = 0;\n  STATUS_OPEN = 1;\n  STATUS_SHIPPED = 2;\n  STATUS_CANCELLED = 3;\n}\n",
     ),
     (
         "shop/payments/v1/payment.proto",
-        r#"syntax = "proto3";
-
-package shop.payments.v1;
-
-import "shop/common/v1/money.proto";
-
-option csharp_namespace = "Shop.Payments.V1";
-option php_namespace = "Shop\\Payments\\V1";
-option cc_enable_arenas = true;
-
-message Payment {
-  string id = 1;
-  shop.common.v1.Money amount = 2;
-  oneof method {
-    Card card = 3;
-    Transfer transfer = 4;
-    string voucher_code = 5 [json_name = "voucher", deprecated = true];
-  }
-  oneof outcome {
-    bool captured = 6;
-    string failure = 7;
-  }
-  shop.common.v1.Rounding rounding = 8;
-}
-
-message Card {
-  string last_four_digits = 1;
-  uint32 expiry_month = 2;
-  uint32 expiry_year = 3;
-}
-
-message Transfer {
-  string iban = 1;
-  bytes reference_ = 2;
-  sint32 retries = 3;
-}
-"#,
+        "syntax = \"proto3\";\n\npackage shop.payments.v1;\n\nimport \"shop/common/v1/money.proto\";\n\noption csharp_namespace = \"Shop.Payments.V1\";\noption php_namespace = \"Shop\\\\Payments\\\\V1\";\noption cc_enable_arenas = true;\n\nmessage Payment {\n  string id = 1;\n  shop.common.v1.Money amount = 2;\n  oneof method {\n    Card card = 3;\n    Transfer transfer = 4;\n    string voucher_code = 5 [json_name = \"voucher\", deprecated = true];\n  }\n  oneof outcome {\n    bool captured = 6;\n    string failure = 7;\n  }\n  shop.common.v1.Rounding rounding = 8;\n}\n\nmessage Card {\n  string last_four_digits = 1;\n  uint32 expiry_month = 2;\n  uint32 expiry_year = 3;\n}\n\nmessage Transfer {\n  string iban = 1;\n  bytes reference_ = 2;\n  sint32 retries = 3;\n}\n",
     ),
 ];
 

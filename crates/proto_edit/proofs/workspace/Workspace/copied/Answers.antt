@@ -4,7 +4,7 @@ use Rattle.proto_files.specs.Faults.{fault_at}
 use Rattle.proto_files.specs.GivenFiles.{FileOf, files_of}
 use Rattle.proto_schema.specs.Answers.{IsOpenError}
 use Rattle.proto_schema.specs.Whole.{IsSortedOf}
-use Rattle.proto_edit.proofs.WholeFirst.{opens_again, sorted_again}
+use Rattle.proto_edit.proofs.GivenAgain.{opens_again, sorted_again}
 use Rattle.proto_edit.proofs.workspace.Workspace.copied.Goals as goal
 
 pub unreachable-requires : goal.unreachable-requires

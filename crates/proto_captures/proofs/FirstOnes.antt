@@ -1,0 +1,100 @@
+-- The first of the references that are read in step with what they mean.
+use Rattle.std.proofs.Common.{◌≡◌, ℕ, suc, ◌<◌, Bool, true, List, [], ◌∷◌, length, drop, map, min, Option, Some, None, refl, sym, ap, subst, ◌∙◌, inl, inr, arith}
+use Rattle.std.specs.List.{AllPairs, Contains}
+use Rattle.std.proofs.lemmas.Bool.{both_ways, cases_Bool, cases_lt, cond-false, cond-true}
+use Rattle.std.proofs.lemmas.List.{drop_all}
+use Rattle.std.proofs.lemmas.Option.{none-some, same_Some}
+use Rattle.proto_text.proofs.Lists.{contains_cases, contains_head, contains_later, contains_map, from_map}
+use Rattle.proto_files.specs.FilesRead.{ReadOf}
+use Rattle.proto_files.specs.GivenFiles.{FileOf}
+use Rattle.proto_meaning.specs.Skeleton.{Used}
+use Rattle.proto_names.specs.LinkOfFiles.{TextMeant, meant_by_link, meant_by_use}
+use Rattle.proto_names.specs.Linking.{LinkOf}
+use Rattle.proto_listing.specs.declared.listing.Use.{Use}
+use Rattle.proto_names.specs.declared.references.Meant.{Meant}
+use Rattle.proto_captures.specs.FirstCaptured.{first_of}
+
+none_left : (test : Use → Meant → Bool) (us : List Use) → first_of test us [] ≡ None
+none_left test [] = refl
+none_left test (u ∷ us) = refl
+
+pub none_behind : (test : Use → Meant → Bool) (us : List Use) (ms : List Meant) (n : ℕ) → n ≡ min (length us) (length ms) → first_of test (drop n us) (drop n ms) ≡ None
+none_behind test us ms n e = elim (cases_lt (length us) (length ms)) [
+  | inl l ↦ ap (λ z. first_of test z (drop n ms)) (drop_all n us (omega (arith, e, l)))
+  | inr l ↦ ap (first_of test (drop n us)) (drop_all n ms (omega (arith, e, l))) ∙ none_left test (drop n us)
+]
+
+-- ---- where each is decided
+
+module _ (files : List FileOf) (reads : List ReadOf) (l : LinkOf) (file : ℕ) (P : Used ℕ → Type 0) (test : Use → Meant → Bool) (used : Use → Used ℕ) where
+  -- what is known of one reference and what it means
+  abbrev IsDecided : Use → Type 0
+  IsDecided u = (m : Meant) → meant_by_link l m ≡ meant_by_use files reads file (used u) → (test u m ≡ true → P (used u)) × (P (used u) → test u m ≡ true)
+
+  token_is : (m : Meant) (u : Used ℕ) → meant_by_link l m ≡ meant_by_use files reads file u → m.token ≡ u.first
+  token_is m u h = ap (λ (z : TextMeant). z.token) h
+
+  -- each token behind is greater
+  later : (m : Meant) (ms : List Meant) → AllPairs (λ a b. a.token < b.token) (m ∷ ms) → (us : List (Used ℕ)) → map (meant_by_link l) ms ≡ map (meant_by_use files reads file) us → (v : Used ℕ) → Contains us v → m.token < v.first
+  later m ms rise us same v cv =
+      let there = subst (λ (z : List TextMeant). Contains z (meant_by_use files reads file v)) (sym same) (contains_map (meant_by_use files reads file) us v cv) in
+      let x = from_map (meant_by_link l) ms (meant_by_use files reads file v) there in
+      let c = x.1 in
+      let above = rise 0 (suc c.0) x.0 (omega arith) (let lt = c.1 in omega (arith, lt)) in
+      let e1 = ap (λ (z : Meant). z.token) c.2 in
+      let e2 = token_is x.0 v x.2 in
+      omega (arith, above, e1, e2)
+
+  pub none_passes : (us : List Use) (ms : List Meant) → map (meant_by_link l) ms ≡ map (meant_by_use files reads file) (map used us) → ((u : Use) → Contains us u → IsDecided u) → first_of test us ms ≡ None
+      → (v : Used ℕ) → Contains (map used us) v → P v → ⊥
+  none_passes [] ms same decided h v cv pv = absurd (omega (arith, cv.1))
+  none_passes (u ∷ us) [] same decided h v cv pv = absurd cc
+  none_passes (u ∷ us) (m ∷ ms) same decided h v cv pv =
+      let head : meant_by_link l m ≡ meant_by_use files reads file (used u) = cc in
+      let tail : map (meant_by_link l) ms ≡ map (meant_by_use files reads file) (map used us) = cc in
+      let d = decided u (contains_head u us) m head in
+      elim (cases_Bool (test u m)) [
+        | inl t ↦ absurd (some_none (sym (cond-true (test u m) (Some m.token) (first_of test us ms) t) ∙ h))
+        | inr f ↦ elim (contains_cases (used u) v (map used us) cv) [
+          | inl e ↦ both_ways (test u m) f (d.1 (subst P (sym e) pv))
+          | inr c ↦ none_passes us ms tail (λ x cx. decided x (contains_later u x us cx)) (sym (cond-false (test u m) (Some m.token) (first_of test us ms) f) ∙ h) v c pv
+        ]
+      ]
+    where
+      some_none : ◌≡◌ {A = Option ℕ} (Some m.token) None → ⊥
+      some_none z = cc
+
+  pub one_passes : (us : List Use) (ms : List Meant) (t : ℕ) → map (meant_by_link l) ms ≡ map (meant_by_use files reads file) (map used us) → AllPairs (λ a b. a.token < b.token) ms
+      → ((u : Use) → Contains us u → IsDecided u) → first_of test us ms ≡ Some t
+      → (u : Used ℕ) × Contains (map used us) u × P u × (u.first ≡ t) × ((v : Used ℕ) → Contains (map used us) v → v.first < t → P v → ⊥)
+  one_passes [] ms t same rise decided h = absurd (none-some t h)
+  one_passes (u ∷ us) [] t same rise decided h = absurd (none-some t h)
+  one_passes (u ∷ us) (m ∷ ms) t same rise decided h =
+      let head : meant_by_link l m ≡ meant_by_use files reads file (used u) = cc in
+      let tail : map (meant_by_link l) ms ≡ map (meant_by_use files reads file) (map used us) = cc in
+      let d = decided u (contains_head u us) m head in
+      let here = token_is m (used u) head in
+      elim (cases_Bool (test u m)) [
+        | inl hit ↦
+            let token : m.token ≡ t = same_Some m.token t (sym (cond-true (test u m) (Some m.token) (first_of test us ms) hit) ∙ h) in (
+              used u,
+              contains_head (used u) (map used us),
+              d.0 hit,
+              sym here ∙ token,
+              λ v cv below pv. elim (contains_cases (used u) v (map used us) cv) [
+                | inl e ↦ (let z = ap (λ (x : Used ℕ). x.first) e in absurd (omega (arith, below, z, here, token)))
+                | inr c ↦ (let z = later m ms rise (map used us) tail v c in absurd (omega (arith, below, z, token)))
+              ],
+            )
+        | inr miss ↦
+            let r = one_passes us ms t tail (λ i j x a b. rise (suc i) (suc j) x (omega (arith, a)) (omega (arith, b))) (λ x cx. decided x (contains_later u x us cx)) (sym (cond-false (test u m) (Some m.token) (first_of test us ms) miss) ∙ h) in (
+              r.0,
+              contains_later (used u) r.0 (map used us) r.1,
+              r.2,
+              r.3,
+              λ v cv below pv. elim (contains_cases (used u) v (map used us) cv) [
+                | inl e ↦ both_ways (test u m) miss (d.1 (subst P (sym e) pv))
+                | inr c ↦ r.4 v c below pv
+              ],
+            )
+      ]

@@ -1,0 +1,11 @@
+mod AllFiles
+mod ByTexts
+mod CapturedWords
+mod FileCaptures
+mod FirstOnes
+mod FrontLengths
+mod KindNamed
+mod NewlyShown
+mod PlainWords
+mod ScopePaths
+mod UsesByTexts

@@ -1,0 +1,40 @@
+-- The parts of the code's answer for one reference, put together.
+use Rattle.std.proofs.Common.{◌≡◌, ℕ, ◌-◌, Bool, true, false, not, ◌&&◌, List, [], ◌∷◌, length, map, sym, ap, ◌∙◌, arith}
+use Rattle.std.specs.Prelude.{◌==◌, is_some}
+use Rattle.std.proofs.lemmas.Bool.{ne_eqb}
+use Rattle.proto_case.specs.Camel.{entry_name}
+use Rattle.proto_listing.specs.Listing.{path_of, read}
+use Rattle.proto_listing.specs.declared.listing.Listed.{Listed}
+use Rattle.proto_listing.specs.declared.listing.Use.{Use}
+use Rattle.proto_meaning.specs.Skeleton.{name_of}
+use Rattle.proto_names.specs.Linking.{LinkOf}
+use Rattle.proto_captures.specs.Capturing.{bytes_before, captures_use, first_now, is_cons, shown_from}
+use Rattle.proto_captures.specs.NewTexts.{NewTexts, is_new_word}
+use Rattle.proto_captures.specs.ShownTexts.{shown_below}
+
+pub cons_is : {A B : Type 0} (f : A → B) (xs : List A) (b : Bool) → b ≡ (length xs == 0) → not b ≡ is_cons (map f xs)
+cons_is f [] b e = ap not e
+cons_is f (x ∷ xs) b e = ap not (e ∙ ne_eqb (length (x ∷ xs)) 0 (λ z. omega (arith, z)))
+
+module _ (l : LinkOf) (file : ℕ) (n : NewTexts) (text : ℕ → List ℕ) (declared : List Listed) (u : Use) (meaning : List ℕ) where
+  abbrev rest : List (List ℕ)
+  rest = map (λ b. text b.item) u.reference.now.words.rest
+
+  abbrev shown : Bool → List ℕ → ℕ → List (List ℕ) → Bool
+  shown is_long word least scope = shown_from (λ front. shown_below l file is_long n front word) least [] scope
+
+  pub captures_is : (len least : ℕ) (word first : List ℕ) (is_long : Bool) (scope : List (List ℕ)) → is_some u.reference.now.dot ≡ false → first ≡ text u.reference.now.words.first
+      → len ≡ bytes_before (length meaning) rest → word ≡ first_now n meaning len first → is_new_word n word ≡ true → is_long ≡ is_cons rest → least ≡ len - length first → scope ≡ name_of text entry_name (path_of (read declared) u.scope)
+      → shown is_long word least scope ≡ captures_use l file n text declared u meaning
+  captures_is len least word first is_long scope relative f b w new long ll s =
+      let start = text u.reference.now.words.first in
+      let size = bytes_before (length meaning) rest in
+      let names = name_of text entry_name (path_of (read declared) u.scope) in
+      let word_is : word ≡ first_now n meaning size start = w ∙ ap (λ z. first_now n meaning z first) b ∙ ap (first_now n meaning size) f in
+      let least_is : least ≡ size - length start = ll ∙ ap (λ z. z - length first) b ∙ ap (λ z. size - length z) f in
+      ap (λ z. shown z word least scope) long
+      ∙ ap (λ z. shown (is_cons rest) z least scope) word_is
+      ∙ ap (λ z. shown (is_cons rest) (first_now n meaning size start) z scope) least_is
+      ∙ ap (λ z. shown (is_cons rest) (first_now n meaning size start) (size - length start) z) s
+      ∙ ap (λ z. z && shown (is_cons rest) (first_now n meaning size start) (size - length start) names) (sym (ap (is_new_word n) (sym word_is) ∙ new))
+      ∙ ap (λ z. not z && (is_new_word n (first_now n meaning size start) && shown (is_cons rest) (first_now n meaning size start) (size - length start) names)) (sym relative)

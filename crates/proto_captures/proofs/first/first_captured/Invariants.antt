@@ -1,0 +1,9 @@
+use Rattle.std.proofs.Common.{ℕ, ◌<◌, List, None}
+use Rattle.proto_files.specs.FilesRead.{ReadOf, AreRead}
+use Rattle.proto_rename_laws.specs.Targets.{Target}
+use Rattle.proto_targets.specs.Aims.{IsAimedAt}
+use Rattle.proto_captures.specs.FirstCaptured.{IsFirstIn}
+use Rattle.proto_captures.proofs.first.first_captured.Given as goal
+
+abbrev pub invariant-loop-place : goal.invariant-loop-place
+invariant-loop-place l = (k : ℕ) → k < l.place → (reads : List ReadOf) → AreRead l.files reads → (t : Target) → IsAimedAt l.files reads l.aim t → IsFirstIn l.files reads t l.to k None

@@ -1,0 +1,10 @@
+use Rattle.std.proofs.Common.{◌≡◌, length, drop}
+use Rattle.proto_text.specs.Texts.{word_at}
+use Rattle.proto_captures.specs.FirstCaptured.{captures_by, first_of}
+use Rattle.proto_captures.specs.NewTexts.{texts_of}
+use Rattle.proto_captures.proofs.first.first_of.Given as goal
+
+abbrev pub invariant-loop-used : goal.invariant-loop-used
+invariant-loop-used l =
+    first_of (captures_by l.link l.file (texts_of l.names) (word_at l.words) l.listing.declared.items) l.listing.used.items l.fn.meant
+    ≡ first_of (captures_by l.link l.file (texts_of l.names) (word_at l.words) l.listing.declared.items) (drop (length l.yielded) l.listing.used.items) (drop (length l.yielded) l.fn.meant)

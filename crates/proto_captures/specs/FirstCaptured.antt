@@ -1,0 +1,61 @@
+-- The first reference that a rename captures.
+use Rattle.std.specs.Prelude.{◌≡◌, ℕ, ◌<◌, Bool, if◌then◌else◌, List, [], ◌∷◌, Option, Some, None}
+use Rattle.std.specs.List.{Contains}
+use Rattle.proto_files.specs.Faults.{HasNoFault}
+use Rattle.proto_files.specs.FilesRead.{ReadOf, AreRead}
+use Rattle.proto_files.specs.GivenFiles.{FileOf}
+use Rattle.proto_imports.specs.Links.{LinkFaults, names_of_files, text_of}
+use Rattle.proto_listing.specs.declared.listing.Listed.{Listed}
+use Rattle.proto_listing.specs.declared.listing.Use.{Use}
+use Rattle.proto_meaning.specs.Edits.{Collides}
+use Rattle.proto_meaning.specs.Grown.{at, used_in}
+use Rattle.proto_meaning.specs.Joined.{IsPlain, joined}
+use Rattle.proto_meaning.specs.Edits.{target}
+use Rattle.proto_meaning.specs.Skeleton.{Used}
+use Rattle.proto_names.specs.FileReferences.{uses_of}
+use Rattle.proto_names.specs.Linking.{LinkOf, text_at}
+use Rattle.proto_names.specs.declared.link.RefId.{RefId}
+use Rattle.proto_names.specs.declared.references.Meant.{Meant}
+use Rattle.proto_rename_laws.specs.Cases.{Captures, StandsBefore}
+use Rattle.proto_rename_laws.specs.Targets.{Target, IsNamed, name_map}
+use Rattle.proto_captures.specs.Capturing.{captures_use}
+use Rattle.proto_captures.specs.NewTexts.{NewTexts, texts_by}
+
+-- nothing is captured; or this is, and nothing that stands before it
+abbrev pub IsFirstCaptured : List FileOf → List ReadOf → Target → List ℕ → Option RefId → Type 0
+IsFirstCaptured files reads t to None = (u : Used _) → Captures files reads t to u → ⊥
+IsFirstCaptured files reads t to (Some id) = (u : Used _) × Captures files reads t to u × (u.first ≡ at id.file id.token) × ((v : Used _) → Captures files reads t to v → StandsBefore v.first u.first → ⊥)
+
+-- the same among the references of one file
+abbrev pub IsFirstIn : List FileOf → List ReadOf → Target → List ℕ → ℕ → Option ℕ → Type 0
+IsFirstIn files reads t to file None = (u : Used ℕ) → Contains (uses_of reads file) u → Captures files reads t to (used_in file u) → ⊥
+IsFirstIn files reads t to file (Some token) = (u : Used ℕ) × Contains (uses_of reads file) u × Captures files reads t to (used_in file u) × (u.first ≡ token)
+    × ((v : Used ℕ) → Contains (uses_of reads file) v → v.first < token → Captures files reads t to (used_in file v) → ⊥)
+
+-- a rename of a target that these linked files have, to a word, without collision
+pub record IsRenameOf (files : List FileOf) (reads : List ReadOf) (t : Target) (to : List ℕ) : Type 0 where
+  pub read : AreRead files reads
+  pub clean : HasNoFault (LinkFaults files)
+  pub name : List ℕ
+  pub named : IsNamed files reads name t
+  pub word : IsPlain to
+  pub free : Collides (name_map files reads t to) (names_of_files files reads) → ⊥
+
+-- these are its names
+abbrev pub AreNewNames : List FileOf → List ReadOf → Target → List ℕ → NewTexts → Type 0
+AreNewNames files reads t to n = n ≡ texts_by (joined (target (name_map files reads t to))) (text_of files reads t.token) t.is_map to
+
+-- the text, where there is one
+abbrev pub or_nothing : Option (List ℕ) → List ℕ
+or_nothing None = []
+or_nothing (Some text) = text
+
+-- of a reference, by what the link says that it means
+abbrev pub captures_by : LinkOf → ℕ → NewTexts → (ℕ → List ℕ) → List Listed → Use → Meant → Bool
+captures_by l file n text declared u m = captures_use l file n text declared u (or_nothing (text_at l m.row))
+
+-- the token of the first that passes
+abbrev pub first_of : (Use → Meant → Bool) → List Use → List Meant → Option ℕ
+first_of test [] ms = None
+first_of test (u ∷ us) [] = None
+first_of test (u ∷ us) (m ∷ ms) = if test u m then Some m.token else first_of test us ms

@@ -1,0 +1,44 @@
+-- The names that a rename changes, as text.
+use Rattle.std.specs.Prelude.{ℕ, Bool, true, false, ◌||◌, List, Option, Some, None, string_bytes}
+use Rattle.std.specs.Str.{bytes_eq}
+use Rattle.proto_case.specs.Camel.{entry_name}
+use Rattle.proto_captures.specs.declared.names.EntryNames.{EntryNames}
+use Rattle.proto_captures.specs.declared.names.NewNames.{NewNames}
+
+-- the target's full name, its simple names before and after, and for a map field those of its entry
+pub record NewTexts : Type 0 where
+  pub target : List ℕ
+  pub old : List ℕ
+  pub new : List ℕ
+  pub entry : Option (List ℕ × List ℕ)
+
+-- an entry's two names
+abbrev pub entry_pair : EntryNames → List ℕ × List ℕ
+entry_pair p = (string_bytes p.old, string_bytes p.new)
+
+-- those of the entry, if there is one
+abbrev pub entry_texts : Option EntryNames → Option (List ℕ × List ℕ)
+entry_texts None = None
+entry_texts (Some p) = Some (entry_pair p)
+
+-- the names as text
+abbrev pub texts_of : NewNames → NewTexts
+texts_of n = record { target = n.target.now; old = n.old.now; new = n.new.now; entry = entry_texts n.entry }
+
+-- a map field's entry has a name of its own
+abbrev pub entry_words : Bool → List ℕ → List ℕ → Option (List ℕ × List ℕ)
+entry_words false old new = None
+entry_words true old new = Some (entry_name old, entry_name new)
+
+-- the names of a rename, by the target's full name, its word and the new one
+abbrev pub texts_by : List ℕ → List ℕ → Bool → List ℕ → NewTexts
+texts_by target old is_map new = record { target = target; old = old; new = new; entry = entry_words is_map old new }
+
+-- the new name of the entry, if there is one
+abbrev pub is_new_by : Option (List ℕ × List ℕ) → List ℕ → Bool
+is_new_by None word = false
+is_new_by (Some p) word = bytes_eq word p.1
+
+-- the new word, or the new entry's name
+abbrev pub is_new_word : NewTexts → List ℕ → Bool
+is_new_word n word = bytes_eq word n.new || is_new_by n.entry word

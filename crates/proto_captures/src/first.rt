@@ -1,0 +1,111 @@
+//! The first reference that a rename captures.
+
+ghost use Rattle.std.specs.Prelude.{◌≡◌, ◌<◌, ℕ, List, length, true, IfOk};
+ghost use Rattle.proto_captures.specs.FirstCaptured.{IsFirstCaptured, IsFirstIn, IsRenameOf, AreNewNames, first_of, captures_by};
+ghost use Rattle.proto_captures.specs.NewTexts.{texts_of};
+ghost use Rattle.proto_files.specs.FilesRead.{ReadOf, AreRead};
+ghost use Rattle.proto_files.specs.Faults.{HasNoFault};
+ghost use Rattle.proto_imports.specs.Links.{LinkFaults, names_of_files};
+ghost use Rattle.proto_listing.specs.Listing.{IsSound};
+ghost use Rattle.proto_meaning.specs.Edits.{Collides};
+ghost use Rattle.proto_names.specs.LinkOfFiles.{IsLinkOf};
+ghost use Rattle.proto_rename_laws.specs.Targets.{Target, name_map};
+ghost use Rattle.proto_targets.specs.Aims.{IsAimOf, IsAimedAt};
+ghost use Rattle.proto_text.specs.Texts.{word_at};
+ghost use Rattle.proto_text.specs.Words.{is_run};
+
+use crate::capturing::is_captured;
+use crate::names::NewNames;
+use proto_faults::NoMemory;
+use proto_files::{Files, Words, are_read};
+use proto_listing::file_listing::list_file;
+use proto_listing::listing::Listing;
+use proto_names::laws::visible_is_seen;
+use proto_names::{Link, Meant, RefId};
+use proto_targets::Aim;
+use std::alloc::Global;
+
+/// The first token of the first reference of a list that is captured. What they mean is given in the same order.
+fn first_of<'a>(
+    alloc: Global,
+    link: &Link,
+    names: &NewNames<'a>,
+    words: &Words<'a>,
+    file: u32,
+    listing: &Listing,
+    meant: &[Meant],
+) -> Result<Option<u32>, NoMemory>
+    requires { IsSound listing.now }
+    ensures { IfOk result (λ first. first ≡ first_of (captures_by link.now file (texts_of names.now) (word_at words.now) listing.now.declared.items) listing.now.used.items meant.now) }
+{
+    for (used, meant) in listing.used.iter().zip(meant) {
+        let meaning = link.name_of(meant.symbol()).unwrap_or("");
+        if is_captured(
+            alloc,
+            link,
+            names,
+            words,
+            file,
+            &listing.declared,
+            used,
+            meaning,
+        )? {
+            return Ok(Some(meant.token()));
+        }
+    }
+    Ok(None)
+}
+
+/// The first reference of a file that is captured, by its first token.
+fn first_in<'a>(
+    alloc: Global,
+    files: &'a Files,
+    link: &Link,
+    names: &NewNames<'a>,
+    file: u32,
+) -> Result<Option<u32>, NoMemory>
+    requires file { file < length files.now }
+    requires link { IsLinkOf files.now link.now }
+    ensures { IfOk result (λ first. (reads : List ReadOf) (t : Target) (to : List ℕ) → IsRenameOf files.now reads t to → AreNewNames files.now reads t to (texts_of names.now)
+        → IsFirstIn files.now reads t to file first) }
+{
+    visible_is_seen();
+    let words = Words::new(files, file as usize);
+    let listing = list_file(alloc, files.tree(file as usize))?;
+    first_of(
+        alloc,
+        link,
+        names,
+        &words,
+        file,
+        &listing,
+        link.meant_in(file),
+    )
+}
+
+/// The first reference that a rename captures, by file and first token, where nothing collides.
+pub fn first_captured<'a>(
+    alloc: Global,
+    files: &'a Files,
+    link: &Link,
+    aim: &Aim<'a>,
+    to: &'a str,
+) -> Result<Option<RefId>, NoMemory>
+    requires link { IsLinkOf files.now link.now }
+    requires linked { HasNoFault (LinkFaults files.now) }
+    requires aim { IsAimOf files.now aim.now }
+    requires word { is_run to.now ≡ true }
+    requires free { (reads : List ReadOf) → AreRead files.now reads → (t : Target) → IsAimedAt files.now reads aim.now t → Collides (name_map files.now reads t to.now) (names_of_files files.now reads) → ⊥ }
+    ensures { IfOk result (λ first. (reads : List ReadOf) → AreRead files.now reads → (t : Target) → IsAimedAt files.now reads aim.now t → IsFirstCaptured files.now reads t to.now first) }
+{
+    are_read(files);
+    let own = Words::new(files, aim.file as usize);
+    let names = NewNames::new(alloc, &own, aim, to)?;
+    for place in 0..files.len() {
+        let file = place as u32;
+        if let Some(token) = first_in(alloc, files, link, &names, file)? {
+            return Ok(Some(RefId { file, token }));
+        }
+    }
+    Ok(None)
+}

@@ -1,0 +1,21 @@
+-- A rename that no case refuses is a mapped step: it leaves files that compile, to the old descriptors under its name map.
+use Rattle.std.specs.Prelude.{List, ℕ}
+use Rattle.proto_files.specs.FilesRead.{ReadOf, AreRead}
+use Rattle.proto_files.specs.GivenFiles.{FileOf}
+use Rattle.proto_entries.specs.Entries.{ChangeOf, IsEntry}
+use Rattle.proto_rename_laws.specs.Changes.{changes_of_words}
+use Rattle.proto_rename_laws.specs.Rewording.{AreReworded}
+use Rattle.proto_rename_laws.specs.Targets.{Target, IsNamed, renamed_words}
+use Rattle.proto_edit.specs.Compiled.{AreCompiled}
+use Rattle.proto_edit.specs.Workspaces.{IsAdmissible, IsMappedStep, rename}
+
+-- The files with the new words are one edit away, and the changes of these words are its entry.
+abbrev pub RenamesAreSteps : Type 0
+RenamesAreSteps = (files : List FileOf) (reads : List ReadOf) (name to : List ℕ) (t : Target) (after : List FileOf) (seen : List ReadOf)
+    → AreCompiled files → AreRead files reads → IsNamed files reads name t → IsAdmissible files (rename name to) → AreReworded (renamed_words files reads t to) files reads after seen
+    → IsMappedStep files (rename name to) (changes_of_words (renamed_words files reads t to) files reads) after × IsEntry (changes_of_words (renamed_words files reads t to) files reads)
+
+-- So each admissible rename has its step.
+abbrev pub AdmissibleRenamesStep : Type 0
+AdmissibleRenamesStep = (files : List FileOf) (name to : List ℕ) → AreCompiled files → IsAdmissible files (rename name to)
+    → (cs : List ChangeOf) × (after : List FileOf) × IsMappedStep files (rename name to) cs after × IsEntry cs

@@ -1,0 +1,389 @@
+//! Renames with their answers by the rules of docs/edits.md. Places are counted in the texts.
+
+use super::calls::Texts;
+
+pub(crate) struct Row {
+    pub(crate) files: Texts,
+    pub(crate) steps: &'static [Step],
+    /// The files afterwards; none where they are as before.
+    pub(crate) after: Texts,
+    /// What stands in the descriptors afterwards.
+    pub(crate) json: &'static str,
+}
+
+/// What is renamed, its new name, and the answer: a refusal, or each changed file with its lengths before and after and with
+/// its splices by place, old and new text.
+pub(crate) type Step = (&'static str, &'static str, &'static str);
+
+pub(crate) const ONE: Texts = &[(
+    "a.proto",
+    "syntax = \"proto3\"; message A { string b_c = 1; }",
+)];
+
+pub(crate) const DONE: Texts = &[(
+    "a.proto",
+    "syntax = \"proto3\"; message A { string d_e = 1; }",
+)];
+
+/// Fields, values with their defaults, methods and services.
+pub(crate) const MEMBERS: &[Row] = &[
+    Row {
+        files: ONE,
+        steps: &[("A.b_c", "d_e", "a.proto 48 48 (38 b_c d_e);")],
+        after: DONE,
+        json: "{\"file\":[{\"messageType\":[{\"field\":[{\"jsonName\":\"dE\",\"label\":\"LABEL_OPTIONAL\",\"name\":\"d_e\",\"number\":1,\"type\":\"TYPE_STRING\"}],\"name\":\"A\"}],\"name\":\"a.proto\",\"syntax\":\"proto3\"}]}",
+    },
+    Row {
+        files: &[(
+            "a.proto",
+            "syntax = \"proto3\"; message A { string b_c = 1 [json_name = \"q\"]; }",
+        )],
+        steps: &[("A.b_c", "d_e", "a.proto 66 66 (38 b_c d_e);")],
+        after: &[(
+            "a.proto",
+            "syntax = \"proto3\"; message A { string d_e = 1 [json_name = \"q\"]; }",
+        )],
+        json: "{\"jsonName\":\"q\",\"label\":\"LABEL_OPTIONAL\",\"name\":\"d_e\",\"number\":1,\"type\":\"TYPE_STRING\"}",
+    },
+    Row {
+        files: &[(
+            "a.proto",
+            "message M { optional string fooBar = 1; optional string x = 2; }",
+        )],
+        steps: &[("M.x", "foo_bar", "a.proto 64 70 (56 x foo_bar);")],
+        after: &[(
+            "a.proto",
+            "message M { optional string fooBar = 1; optional string foo_bar = 2; }",
+        )],
+        json: "{\"jsonName\":\"fooBar\",\"label\":\"LABEL_OPTIONAL\",\"name\":\"foo_bar\",\"number\":2,\"type\":\"TYPE_STRING\"}",
+    },
+    Row {
+        files: &[(
+            "a.proto",
+            "message M { enum E { V = 0; } optional E e = 1 [default = V]; } message N { enum F { V = 0; } optional F f = 1 [default = V]; }",
+        )],
+        steps: &[("M.V", "W", "a.proto 127 127 (21 V W) (58 V W);")],
+        after: &[(
+            "a.proto",
+            "message M { enum E { W = 0; } optional E e = 1 [default = W]; } message N { enum F { V = 0; } optional F f = 1 [default = V]; }",
+        )],
+        json: "[{\"enumType\":[{\"name\":\"E\",\"value\":[{\"name\":\"W\",\"number\":0}]}],\"field\":[{\"defaultValue\":\"W\",\"jsonName\":\"e\",\"label\":\"LABEL_OPTIONAL\",\"name\":\"e\",\"number\":1,\"type\":\"TYPE_ENUM\",\"typeName\":\".M.E\"}],\"name\":\"M\"},{\"enumType\":[{\"name\":\"F\",\"value\":[{\"name\":\"V\",\"number\":0}]}],\"field\":[{\"defaultValue\":\"V\",",
+    },
+    Row {
+        files: &[(
+            "a.proto",
+            "message M {} service S { rpc Get(M) returns (M); }",
+        )],
+        steps: &[("S.Get", "M", "a.proto 50 48 (29 Get M);")],
+        after: &[(
+            "a.proto",
+            "message M {} service S { rpc M(M) returns (M); }",
+        )],
+        json: "\"service\":[{\"method\":[{\"inputType\":\".M\",\"name\":\"M\",\"outputType\":\".M\"}],\"name\":\"S\"}]",
+    },
+];
+
+/// Messages and enums, with the words that stand for them.
+pub(crate) const TYPES: &[Row] = &[
+    Row {
+        files: &[(
+            "a.proto",
+            "syntax = \"proto3\"; package p; message Inner {} message A { message B {} .p.Inner x = 1; }",
+        )],
+        steps: &[("p.A.B", "Inner", "a.proto 89 93 (67 B Inner);")],
+        after: &[(
+            "a.proto",
+            "syntax = \"proto3\"; package p; message Inner {} message A { message Inner {} .p.Inner x = 1; }",
+        )],
+        json: "\"typeName\":\".p.Inner\"}],\"name\":\"A\",\"nestedType\":[{\"name\":\"Inner\"}]",
+    },
+    Row {
+        files: &[(
+            "a.proto",
+            "syntax = \"proto3\"; package p; message M {} message A { p . /* x */ M f = 1; }",
+        )],
+        steps: &[("p.M", "N", "a.proto 77 77 (38 M N) (67 M N);")],
+        after: &[(
+            "a.proto",
+            "syntax = \"proto3\"; package p; message N {} message A { p . /* x */ N f = 1; }",
+        )],
+        json: "\"typeName\":\".p.N\"",
+    },
+    Row {
+        files: &[(
+            "a.proto",
+            "syntax = \"proto3\"; package p; message A { message B { message C {} } A.B.C c = 1; }",
+        )],
+        steps: &[("p.A.B", "X", "a.proto 83 83 (50 B X) (71 B X);")],
+        after: &[(
+            "a.proto",
+            "syntax = \"proto3\"; package p; message A { message X { message C {} } A.X.C c = 1; }",
+        )],
+        json: "\"typeName\":\".p.A.X.C\"}],\"name\":\"A\",\"nestedType\":[{\"name\":\"X\",\"nestedType\":[{\"name\":\"C\"}]}]",
+    },
+    Row {
+        files: &[
+            ("a.proto", "syntax = \"proto3\"; message M {}"),
+            (
+                "b.proto",
+                "syntax = \"proto3\"; import \"a.proto\"; message B { M m = 1; }",
+            ),
+            (
+                "c.proto",
+                "syntax = \"proto3\"; import \"a.proto\"; message C { M m = 1; }",
+            ),
+        ],
+        steps: &[(
+            "M",
+            "N",
+            "a.proto 31 31 (27 M N);b.proto 59 59 (49 M N);c.proto 59 59 (49 M N);",
+        )],
+        after: &[
+            ("a.proto", "syntax = \"proto3\"; message N {}"),
+            (
+                "b.proto",
+                "syntax = \"proto3\"; import \"a.proto\"; message B { N m = 1; }",
+            ),
+            (
+                "c.proto",
+                "syntax = \"proto3\"; import \"a.proto\"; message C { N m = 1; }",
+            ),
+        ],
+        json: "\"typeName\":\".N\"}],\"name\":\"C\"",
+    },
+    Row {
+        files: &[
+            ("a.proto", "package p; enum E { V = 0; }"),
+            ("b.proto", "import public \"a.proto\";"),
+            (
+                "c.proto",
+                "import \"b.proto\"; message M { map<int32, p.E> E = 1; optional p.E e = 2 [default = V]; }",
+            ),
+        ],
+        steps: &[(
+            "p.E",
+            "Kind",
+            "a.proto 28 31 (16 E Kind);c.proto 88 94 (43 E Kind) (64 E Kind);",
+        )],
+        after: &[
+            ("a.proto", "package p; enum Kind { V = 0; }"),
+            ("b.proto", "import public \"a.proto\";"),
+            (
+                "c.proto",
+                "import \"b.proto\"; message M { map<int32, p.Kind> E = 1; optional p.Kind e = 2 [default = V]; }",
+            ),
+        ],
+        json: "\"type\":\"TYPE_ENUM\",\"typeName\":\".p.Kind\"}",
+    },
+];
+
+/// Map fields, whose entries are renamed with them.
+pub(crate) const MAPS: &[Row] = &[
+    Row {
+        files: &[(
+            "a.proto",
+            "syntax = \"proto3\"; message M { map<string,int32> foo = 1; }",
+        )],
+        steps: &[("M.foo", "FooEntry", "a.proto 59 64 (49 foo FooEntry);")],
+        after: &[(
+            "a.proto",
+            "syntax = \"proto3\"; message M { map<string,int32> FooEntry = 1; }",
+        )],
+        json: "{\"field\":[{\"jsonName\":\"FooEntry\",\"label\":\"LABEL_REPEATED\",\"name\":\"FooEntry\",\"number\":1,\"type\":\"TYPE_MESSAGE\",\"typeName\":\".M.FooEntryEntry\"}],\"name\":\"M\",\"nestedType\":[{\"field\":[{\"jsonName\":\"key\",\"label\":\"LABEL_OPTIONAL\",\"name\":\"key\",\"number\":1,\"type\":\"TYPE_STRING\"},{\"jsonName\":\"value\",\"label\":\"LABEL_OPTIONAL\",\"name\":\"value\",\"number\":2,\"type\":\"TYPE_INT32\"}],\"name\":\"FooEntryEntry\",\"options\":{\"mapEntry\":true}}]}",
+    },
+    Row {
+        files: &[("a.proto", "message M { map<int32,int32> FooEntry = 1; }")],
+        steps: &[("M.FooEntry", "foo", "a.proto 44 39 (29 FooEntry foo);")],
+        after: &[("a.proto", "message M { map<int32,int32> foo = 1; }")],
+        json: "\"name\":\"foo\",\"number\":1,\"type\":\"TYPE_MESSAGE\",\"typeName\":\".M.FooEntry\"}",
+    },
+    Row {
+        files: &[("a.proto", "message M { map<int32,int32> foo = 1; }")],
+        steps: &[("M.foo", "f_oo", "a.proto 39 40 (29 foo f_oo);")],
+        after: &[("a.proto", "message M { map<int32,int32> f_oo = 1; }")],
+        json: "\"jsonName\":\"fOo\",\"label\":\"LABEL_REPEATED\",\"name\":\"f_oo\",\"number\":1,\"type\":\"TYPE_MESSAGE\",\"typeName\":\".M.FOoEntry\"}",
+    },
+    Row {
+        files: &[("a.proto", "message M { map<int32,int32> foo = 1; }")],
+        steps: &[("M.foo", "Foo", "a.proto 39 39 (29 foo Foo);")],
+        after: &[("a.proto", "message M { map<int32,int32> Foo = 1; }")],
+        json: "\"typeName\":\".M.FooEntry\"}",
+    },
+];
+
+/// Names and kinds, and the symbols beside.
+pub(crate) const NAMES: &[Row] = &[
+    Row {
+        files: ONE,
+        steps: &[
+            ("A.q", "r", "1 UnknownTarget"),
+            (".A.b_c", "r", "1 UnknownTarget"),
+            ("A.b_c", "9x", "3 NotAnIdentifier"),
+            ("A.b_c", "", "3 NotAnIdentifier"),
+            ("A", "message", "4 KeywordName"),
+            ("A", "A", "5 SameName"),
+            ("A.b_c", "message", "a.proto 48 52 (38 b_c message);"),
+        ],
+        after: &[(
+            "a.proto",
+            "syntax = \"proto3\"; message A { string message = 1; }",
+        )],
+        json: "\"jsonName\":\"message\"",
+    },
+    Row {
+        files: &[(
+            "a.proto",
+            "syntax = \"proto3\"; package p; message M { reserved \"q\"; map<string,int32> b = 1; oneof o { M c = 2; } }",
+        )],
+        steps: &[
+            ("p", "q", "2 KindNotAllowed"),
+            ("p.M.o", "9x", "2 KindNotAllowed"),
+            ("p.M.BEntry", "q", "2 KindNotAllowed"),
+            ("p.M.BEntry.key", "q", "2 KindNotAllowed"),
+            ("p.M.c", "b", "6 Collision"),
+            ("p.M.c", "BEntry", "6 Collision"),
+            ("p.M.b", "q", "8 NameReserved"),
+            ("p.M.c", "q", "8 NameReserved"),
+        ],
+        after: &[],
+        json: "",
+    },
+    Row {
+        files: &[("a.proto", "enum E { V = 0; reserved \"W\"; } service S {}")],
+        steps: &[
+            ("V", "option", "4 KeywordName"),
+            ("S", "max", "4 KeywordName"),
+            ("V", "S", "6 Collision"),
+            ("V", "W", "8 NameReserved"),
+        ],
+        after: &[],
+        json: "",
+    },
+    Row {
+        files: &[(
+            "a.proto",
+            "syntax = \"proto3\"; message M { string fooBar = 1; string x = 2; }",
+        )],
+        steps: &[
+            ("M.x", "fooBar", "6 Collision"),
+            ("M.x", "foo_bar", "9 JsonClash"),
+        ],
+        after: &[],
+        json: "",
+    },
+    Row {
+        files: &[
+            ("a.proto", "package p; message A {}"),
+            ("b.proto", "package p.q;"),
+        ],
+        steps: &[("p.A", "q", "6 Collision")],
+        after: &[],
+        json: "",
+    },
+];
+
+/// References that would mean something else.
+pub(crate) const CAPTURES: &[Row] = &[
+    Row {
+        files: &[(
+            "a.proto",
+            "syntax = \"proto3\"; package p; message Inner {} message A { message B {} Inner x = 1; }",
+        )],
+        steps: &[("p.A.B", "Inner", "7 Captured a.proto 72")],
+        after: &[],
+        json: "",
+    },
+    Row {
+        files: &[(
+            "a.proto",
+            "syntax = \"proto3\"; package p; message M {} message Q { message N {} M x = 1; }",
+        )],
+        steps: &[("p.M", "N", "7 Captured a.proto 68")],
+        after: &[],
+        json: "",
+    },
+    Row {
+        files: &[
+            (
+                "a.proto",
+                "syntax = \"proto3\"; package a.b; import \"c.proto\"; message A { c.X f = 1; } service S {}",
+            ),
+            ("c.proto", "syntax = \"proto3\"; package a.c; message X {}"),
+        ],
+        steps: &[("a.b.S", "c", "7 Captured a.proto 62")],
+        after: &[],
+        json: "",
+    },
+    Row {
+        files: &[(
+            "a.proto",
+            "message BarEntry {} message M { map<string,int32> foo = 1; optional BarEntry x = 2; }",
+        )],
+        steps: &[("M.foo", "bar", "7 Captured a.proto 68")],
+        after: &[],
+        json: "",
+    },
+];
+
+/// Edits one after another, with refused ones among them.
+pub(crate) const RUNS: &[Row] = &[
+    Row {
+        files: ONE,
+        steps: &[
+            ("A.b_c", "d_e", "a.proto 48 48 (38 b_c d_e);"),
+            ("A.b_c", "x", "1 UnknownTarget"),
+            ("A.d_e", "f", "a.proto 48 46 (38 d_e f);"),
+        ],
+        after: &[(
+            "a.proto",
+            "syntax = \"proto3\"; message A { string f = 1; }",
+        )],
+        json: "\"jsonName\":\"f\"",
+    },
+    Row {
+        files: &[
+            (
+                "a.proto",
+                "syntax = \"proto3\"; package p; message M { string b_c = 1; } enum E { V = 0; }",
+            ),
+            (
+                "b.proto",
+                "import \"a.proto\"; message B { optional p.M m = 1; optional p.E e = 2 [default = V]; } service S { rpc Get(p.M) returns (stream B); }",
+            ),
+        ],
+        steps: &[
+            (
+                "p.M",
+                "N",
+                "a.proto 77 77 (38 M N);b.proto 132 132 (41 M N) (108 M N);",
+            ),
+            ("p.M", "X", "1 UnknownTarget"),
+            ("p.N.b_c", "dEf", "a.proto 77 77 (49 b_c dEf);"),
+            (
+                "p.V",
+                "NONE",
+                "a.proto 77 80 (69 V NONE);b.proto 132 135 (80 V NONE);",
+            ),
+            (
+                "p.E",
+                "Kind",
+                "a.proto 80 83 (65 E Kind);b.proto 135 138 (61 E Kind);",
+            ),
+            ("p.Kind", "N", "6 Collision"),
+            ("S", "T", "b.proto 138 138 (100 S T);"),
+            ("T.Get", "Put", "b.proto 138 138 (108 Get Put);"),
+            ("B", "message", "4 KeywordName"),
+        ],
+        after: &[
+            (
+                "a.proto",
+                "syntax = \"proto3\"; package p; message N { string dEf = 1; } enum Kind { NONE = 0; }",
+            ),
+            (
+                "b.proto",
+                "import \"a.proto\"; message B { optional p.N m = 1; optional p.Kind e = 2 [default = NONE]; } service T { rpc Put(p.N) returns (stream B); }",
+            ),
+        ],
+        json: "\"service\":[{\"method\":[{\"inputType\":\".p.N\",\"name\":\"Put\",\"outputType\":\".B\",\"serverStreaming\":true}],\"name\":\"T\"}]",
+    },
+];

@@ -1,0 +1,100 @@
+//! The cases that refuse a rename, in the order of their numbers.
+
+ghost use Rattle.std.specs.Prelude.{◌≡◌, ◌<◌, ◌↔◌, List, ℕ, true, length, IfOk, IfErr};
+ghost use Rattle.proto_files.specs.Faults.{HasNoFault};
+ghost use Rattle.proto_files.specs.FilesRead.{ReadOf, AreRead};
+ghost use Rattle.proto_imports.specs.Links.{LinkFaults};
+ghost use Rattle.proto_names.specs.LinkOfFiles.{IsLinkOf};
+ghost use Rattle.proto_rename.specs.Cases.{IsFreeBefore, IsCapturedPlace};
+ghost use Rattle.proto_rename.specs.Renames.{IsRenameRefusal};
+ghost use Rattle.proto_targets.specs.Aims.{IsAimOf};
+ghost use Rattle.proto_text.specs.Words.{is_run};
+
+use proto_captures::first_captured;
+use proto_entries::Refusal;
+use proto_faults::NoMemory;
+use proto_files::{Files, are_read, offset_of};
+use proto_members::{clashes, is_reserved};
+use proto_names::{Link, RefId};
+use proto_targets::{Aim, collides, has_name, is_keyword};
+use proto_text::is_word;
+use std::alloc::Global;
+
+/// Cases 3 to 5: the new name is a word, one that what is aimed at may have, and not the one that it has.
+pub(crate) fn check_word(files: &Files, aim: Aim, to: &str) -> Result<(), Refusal>
+    requires linked { HasNoFault (LinkFaults files.now) }
+    requires aim { IsAimOf files.now aim }
+    requires before { IsFreeBefore files.now aim.name.now to.now 3 }
+    ensures free { IfOk result (λ _. IsFreeBefore files.now aim.entry.name.now to.now 6) }
+    ensures word { IfOk result (λ _. is_run to.now ≡ true) }
+    ensures err { IfErr result (IsRenameRefusal files.now aim.entry.name.now to.now) }
+{
+    are_read(files);
+    if !is_word(to) {
+        return Err(Refusal::NotAnIdentifier);
+    }
+    if is_keyword(aim.kind, to) {
+        return Err(Refusal::KeywordName);
+    }
+    if has_name(files, aim, to) {
+        return Err(Refusal::SameName);
+    }
+    Ok(())
+}
+
+/// The refusal for a captured reference, with its place.
+fn captured(alloc: Global, files: &Files, reference: RefId) -> Result<Refusal, NoMemory>
+    requires { reference.file < length files.now }
+    ensures { IfOk result (IsCapturedPlace files.now reference.file reference.token) }
+{
+    let file = reference.file as usize;
+    Ok(Refusal::Captured {
+        path: files.path(file).to_string(alloc)?,
+        offset: offset_of(files.tokens(file), reference.token),
+    })
+}
+
+/// Cases 6 and 7: no new name is taken, and no reference is captured.
+pub(crate) fn check_names<'a>(
+    alloc: Global,
+    files: &'a Files,
+    link: &Link,
+    aim: Aim<'a>,
+    to: &'a str,
+) -> Result<(), Refusal>
+    requires link { IsLinkOf files.now link.now }
+    requires linked { HasNoFault (LinkFaults files.now) }
+    requires aim { IsAimOf files.now aim }
+    requires word { is_run to.now ≡ true }
+    requires before { IsFreeBefore files.now aim.name.now to.now 6 }
+    ensures free { IfOk result (λ _.
+        IsFreeBefore files.entry.now aim.entry.name.now to.entry.now 8) }
+    ensures err { IfErr result (IsRenameRefusal files.entry.now aim.entry.name.now to.entry.now) }
+{
+    are_read(files);
+    if collides(alloc, files, link, aim, to)? {
+        return Err(Refusal::Collision);
+    }
+    match first_captured(alloc, files, link, &aim, to)? {
+        None => Ok(()),
+        Some(reference) => Err(captured(alloc, files, reference)?),
+    }
+}
+
+/// Cases 8 and 9: the new name is not reserved, and no two fields get one JSON name.
+pub(crate) fn check_members(alloc: Global, files: &Files, aim: Aim, to: &str) -> Result<(), Refusal>
+    requires linked { HasNoFault (LinkFaults files.now) }
+    requires aim { IsAimOf files.now aim }
+    requires before { IsFreeBefore files.now aim.name.now to.now 8 }
+    ensures free { IfOk result (λ _. IsFreeBefore files.now aim.entry.name.now to.now 10) }
+    ensures err { IfErr result (IsRenameRefusal files.now aim.entry.name.now to.now) }
+{
+    are_read(files);
+    if is_reserved(alloc, files, aim, to)? {
+        return Err(Refusal::NameReserved);
+    }
+    if clashes(alloc, files, aim, to)? {
+        return Err(Refusal::JsonClash);
+    }
+    Ok(())
+}

@@ -1,0 +1,82 @@
+//! The tokens of a file that a rename changes.
+
+ghost use Rattle.std.specs.Prelude.{◌≡◌, ◌<◌, ◌++◌, List, [], length, IfOk, OnOk, option_map, string_bytes};
+ghost use Rattle.proto_files.specs.Faults.{HasNoFault};
+ghost use Rattle.proto_files.specs.FilesRead.{ReadOf, AreRead};
+ghost use Rattle.proto_imports.specs.Links.{LinkFaults, text_of};
+ghost use Rattle.proto_meaning.specs.Grown.{at};
+ghost use Rattle.proto_meaning.specs.Joined.{joined};
+ghost use Rattle.proto_names.specs.LinkOfFiles.{IsLinkOf};
+ghost use Rattle.proto_rename_laws.specs.Targets.{Target};
+ghost use Rattle.proto_rename.specs.Changes.{ArePlacesIn, IsValueOf, HasDefaultsIn, or_own};
+ghost use Rattle.proto_targets.specs.Aims.{IsAimOf, IsAimedAt};
+
+use proto_faults::NoMemory;
+use proto_files::{Files, are_read};
+use proto_members::renamed_defaults_in;
+use proto_names::Link;
+use proto_rewording::standing_in;
+use proto_targets::Aim;
+use std::alloc::Global;
+
+/// The token, if it is one of this file.
+fn push_own(places: &mut Vec<u32>, aim: Aim, file: u32) -> Result<(), NoMemory>
+    ensures { OnOk result (places.new.items ≡ places.old.items ++ or_own aim.entry.file aim.entry.token file) }
+{
+    if aim.file == file {
+        places.push(aim.token)?;
+    }
+    Ok(())
+}
+
+fn push_all(places: &mut Vec<u32>, more: &[u32]) -> Result<(), NoMemory>
+    ensures { OnOk result (places.new.items ≡ places.old.items ++ more.now) }
+{
+    places.extend_from_slice(more)?;
+    Ok(())
+}
+
+/// The defaults of a file that mean a value with this old word of the enum; none where there is no enum.
+fn defaults_in<'a>(
+    alloc: Global,
+    files: &Files,
+    link: &'a Link,
+    file: u32,
+    enum_name: Option<&'a str>,
+    old: &'a str,
+) -> Result<Vec<u32>, NoMemory>
+    requires link { IsLinkOf files.now link.now }
+    requires file { file < length files.now }
+    ensures { IfOk result (λ found. HasDefaultsIn files.now file
+        (option_map (λ x. x.now) enum_name.entry) old.entry.now found.items) }
+{
+    match enum_name {
+        Some(enum_name) => renamed_defaults_in(alloc, files, link, file, enum_name, old),
+        None => Ok(Vec::new(alloc)),
+    }
+}
+
+/// The tokens of a file that the rename changes: the declaring one, where it is of this file, the words of references that
+/// stand for what is aimed at, and for a value the defaults that mean it. The enum's name and the old word are given.
+pub(crate) fn places_in<'a>(
+    alloc: Global,
+    files: &Files,
+    link: &'a Link,
+    aim: Aim,
+    enum_name: Option<&'a str>,
+    old: &'a str,
+    file: u32,
+) -> Result<Vec<u32>, NoMemory>
+    requires link { IsLinkOf files.now link.now }
+    requires linked { HasNoFault (LinkFaults files.now) }
+    requires aim { IsAimOf files.now aim }
+    requires value { IsValueOf files.now aim (option_map (λ x. x.now) enum_name) old.now }
+    requires file { file < length files.now }
+    ensures { IfOk result (λ found. ArePlacesIn files.now aim.entry file found.items) }
+{
+    let mut places = standing_in(alloc, files, link, aim, file)?;
+    push_own(&mut places, aim, file)?;
+    let defaults = defaults_in(alloc, files, link, file, enum_name, old)?;
+    push_all(&mut places, &defaults)?;
+    Ok(places)
+}

@@ -1,0 +1,181 @@
+//! What the folder store lists, over folders that a test makes up.
+
+use proto_store::{FolderStore, Store, StoreFault};
+use std::alloc::{Allocator, Global};
+use std::fs::{File, Metadata, OpenOptions};
+use std::io;
+use std::process::Abort;
+use std::rt::Files;
+use std::test::Fail;
+
+// Folders with what their names are, as a system tells them.
+#[derive(Drop)]
+struct Tree<'a> {
+    alloc: Global,
+    // Each folder, and its names, each ended by a zero byte.
+    folders: &'a [(&'a str, &'a [u8])],
+    files: &'a [&'a str],
+    links: &'a [&'a str],
+}
+
+fn absent<T>() -> io::Result<T> {
+    Err(io::Error::from(io::ErrorKind::NotFound))
+}
+
+impl Alloc for Tree<'_> {
+    type A = Global;
+
+    fn alloc(&self) -> Global {
+        self.alloc
+    }
+}
+
+impl<'a> Files for Tree<'a> {
+    type File = File;
+
+    type Dir = &'a [u8];
+
+    fn open_file(&self, _how: &OpenOptions, _path: &str) -> io::Result<File> {
+        absent()
+    }
+
+    fn open_dir(&self, path: &str) -> io::Result<&'a [u8]> {
+        for (folder, names) in self.folders {
+            if path.strip_suffix('/') == Some(*folder) {
+                return Ok(*names);
+            }
+        }
+        absent()
+    }
+
+    fn metadata(&self, _path: &str) -> io::Result<Metadata> {
+        absent()
+    }
+
+    fn symlink_metadata(&self, path: &str) -> io::Result<Metadata> {
+        if self.files.contains(&path) {
+            return Ok(Metadata::of_file(0));
+        }
+        if self.links.contains(&path) {
+            return Ok(Metadata::of_symlink(0));
+        }
+        if self.folders.iter().any(|folder| folder.0 == path) {
+            return Ok(Metadata::of_dir());
+        }
+        absent()
+    }
+
+    fn copy(&self, _from: &str, _to: &str) -> io::Result<u64> {
+        absent()
+    }
+
+    fn rename(&self, _from: &str, _to: &str) -> io::Result<()> {
+        absent()
+    }
+
+    fn remove_file(&self, _path: &str) -> io::Result<()> {
+        absent()
+    }
+
+    fn create_dir(&self, _path: &str) -> io::Result<()> {
+        absent()
+    }
+
+    fn remove_dir(&self, _path: &str) -> io::Result<()> {
+        absent()
+    }
+
+    fn remove_dir_all<B: Allocator>(&self, _alloc: B, _path: &str) -> io::Result<()> {
+        absent()
+    }
+}
+
+// The paths that a store of a folder lists, in order, or none where it fails.
+fn listed(rt: &impl Abort, tree: &Tree<'_>, root: &str) -> Result<Option<Vec<String>>, Fail> {
+    let mut store = FolderStore::new(tree, root);
+    assert!(rt; store.failures() == 0);
+    match store.list() {
+        Ok(mut paths) => {
+            paths.sort_unstable();
+            Ok(Some(paths))
+        }
+        Err(StoreFault::Failed) => {
+            assert_eq!(rt; store.failures(), 1);
+            Ok(None)
+        }
+    }
+}
+
+#[test]
+fn lists_schema_files(rt: HostRuntime) -> Result<(), Fail> {
+    let tree = Tree {
+        alloc: rt.alloc(),
+        folders: &[
+            (
+                "r",
+                b"b.proto\0p\0.git\0.x.proto\0.\xff\0notes.txt\0link.proto\0linked\0d.proto\0.proto\0proto\0".as_slice(),
+            ),
+            ("r/p", b"\0v1\0a.proto\0".as_slice()),
+            ("r/p/v1", b"c.proto\0".as_slice()),
+            ("r/d.proto", b"e.proto\0".as_slice()),
+            ("r/.git", b"g.proto\0".as_slice()),
+        ],
+        files: &[
+            "r/b.proto",
+            "r/notes.txt",
+            "r/proto",
+            "r/p/a.proto",
+            "r/p/v1/c.proto",
+            "r/d.proto/e.proto",
+        ],
+        links: &["r/link.proto", "r/linked"],
+    };
+    let Some(paths) = listed(&rt, &tree, "r")? else {
+        panic!(rt; "the store failed");
+    };
+    let wanted = ["b.proto", "d.proto/e.proto", "p/a.proto", "p/v1/c.proto"];
+    assert_eq!(rt; paths.len(), wanted.len());
+    for (path, wanted) in paths.iter().zip(wanted) {
+        assert_eq!(rt; path.as_str(), wanted);
+    }
+    Ok(())
+}
+
+#[test]
+fn fails_at_what_it_cannot_read(rt: HostRuntime) -> Result<(), Fail> {
+    for folders in [
+        // No folder is there.
+        [].as_slice(),
+        // A name that is no text.
+        &[("r", b"a.proto\0b\xff\0".as_slice())],
+        // A name that nothing has, and a folder that does not open.
+        &[("r", b"a.proto\0gone\0".as_slice())],
+        &[("r", b"p\0".as_slice()), ("r/p", b"q\0".as_slice())],
+    ] {
+        let tree = Tree {
+            alloc: rt.alloc(),
+            folders,
+            files: &["r/a.proto"],
+            links: &[],
+        };
+        assert!(rt; listed(&rt, &tree, "r")?.is_none());
+    }
+    Ok(())
+}
+
+#[test]
+fn takes_an_empty_root_for_missing(rt: HostRuntime) -> Result<(), Fail> {
+    // The root of the file system, and the folder where the program runs, each with a file.
+    let tree = Tree {
+        alloc: rt.alloc(),
+        folders: &[
+            ("", b"a.proto\0".as_slice()),
+            (".", b"a.proto\0".as_slice()),
+        ],
+        files: &["a.proto", "./a.proto"],
+        links: &[],
+    };
+    assert!(rt; listed(&rt, &tree, ".")?.is_some());
+    assert!(rt; listed(&rt, &tree, "")?.is_none());
+    Ok(())
+}

@@ -1,0 +1,108 @@
+"""Renames with their answers, counted by hand. A row has files, the renames asked one after another, and for each what is
+printed, with the splices `path at old new` of an accepted one, and a piece of the descriptors after it.
+"""
+
+P3 = 'syntax = "proto3"; '
+ONE = P3 + "message A { string b_c = 1; }"
+ENUMS = (
+    "message M { enum E { V = 0; } optional E e = 1 [default = V]; }"
+    " message N { enum F { V = 0; } optional F f = 1 [default = V]; }"
+)
+INNER = P3 + "package p; message Inner {} message A { message B {} %s x = 1; }"
+USING_M = P3 + 'import "a.proto"; message %s { M m = 1; }'
+TWO = "message M { %sstring fooBar = 1; %sstring x = 2; }"
+MAP = P3 + "message M { map<string,int32> foo = 1; }"
+MAP_JSON = (
+    '{"field":[{"jsonName":"FooEntry","label":"LABEL_REPEATED","name":"FooEntry","number":1,"type":"TYPE_MESSAGE",'
+    '"typeName":".M.FooEntryEntry"}],"name":"M","nestedType":[{"field":[{"jsonName":"key","label":"LABEL_OPTIONAL",'
+    '"name":"key","number":1,"type":"TYPE_STRING"},{"jsonName":"value","label":"LABEL_OPTIONAL","name":"value",'
+    '"number":2,"type":"TYPE_INT32"}],"name":"FooEntryEntry","options":{"mapEntry":true}}]}'
+)
+
+
+def refused(words):
+    return ("refused: " + words, [], "")
+
+
+def done(*splices, json=""):
+    return ("", [tuple(splice.split()) for splice in splices], json)
+
+
+ROWS = [
+    (ONE, [("A.b_c", "d_e", done("a.proto 38 b_c d_e", json='"jsonName":"dE"'))]),
+    (ONE[:-3] + ' [json_name = "q"]; }', [("A.b_c", "d_e", done("a.proto 38 b_c d_e", json='"jsonName":"q"'))]),
+    (INNER % "Inner", [("p.A.B", "Inner", refused("7 Captured a.proto:1:73"))]),
+    (INNER % ".p.Inner", [("p.A.B", "Inner", done("a.proto 67 B Inner"))]),
+    (
+        P3 + "package p; message M {} message Q { message N {} M x = 1; }",
+        [("p.M", "N", refused("7 Captured a.proto:1:69"))],
+    ),
+    (ENUMS, [("M.V", "W", done("a.proto 21 V W", "a.proto 58 V W"))]),
+    (MAP, [("M.foo", "FooEntry", done("a.proto 49 foo FooEntry", json=MAP_JSON))]),
+    (P3 + TWO % ("", ""), [("M.x", "foo_bar", refused("9 JsonClash"))]),
+    ('syntax = "proto2"; ' + TWO % ("optional ", "optional "), [("M.x", "foo_bar", done("a.proto 75 x foo_bar"))]),
+    (
+        P3 + "package p; message M {} message A { p . /* x */ M f = 1; }",
+        [("p.M", "N", done("a.proto 38 M N", "a.proto 67 M N"))],
+    ),
+    (
+        ONE,
+        [
+            ("A", "message", refused("4 KeywordName")),
+            ("A", "A", refused("5 SameName")),
+            ("A", "9x", refused("3 NotAnIdentifier")),
+            ("A.q", "r", refused("1 UnknownTarget")),
+            ("A.b_c", "message", done("a.proto 38 b_c message")),
+        ],
+    ),
+    (
+        ONE,
+        [
+            ("A.b_c", "d_e", done("a.proto 38 b_c d_e")),
+            ("A.b_c", "x", refused("1 UnknownTarget")),
+            ("A.d_e", "f", done("a.proto 38 d_e f")),
+        ],
+    ),
+    (
+        P3 + "package p; message A { message B { message C {} } A.B.C c = 1; }",
+        [("p.A.B", "X", done("a.proto 50 B X", "a.proto 71 B X"))],
+    ),
+    ({"a.proto": "package p; message A {}", "b.proto": "package p.q;"}, [("p.A", "q", refused("6 Collision"))]),
+    (
+        {
+            "a.proto": P3 + 'package a.b; import "c.proto"; message A { c.X f = 1; } service S {}',
+            "c.proto": P3 + "package a.c; message X {}",
+        },
+        [("a.b.S", "c", refused("7 Captured a.proto:1:63"))],
+    ),
+    (
+        {"a.proto": P3 + "message M {}", "b.proto": USING_M % "B", "c.proto": USING_M % "C"},
+        [("M", "N", done("a.proto 27 M N", "b.proto 49 M N", "c.proto 49 M N"))],
+    ),
+    (
+        "message BarEntry {} message M { map<string,int32> foo = 1; optional BarEntry x = 2; }",
+        [("M.foo", "bar", refused("7 Captured a.proto:1:69"))],
+    ),
+    ("message M { map<int32,int32> FooEntry = 1; }", [("M.FooEntry", "foo", done("a.proto 29 FooEntry foo"))]),
+    ("message M { map<int32,int32> foo = 1; }", [("M.foo", "f_oo", done("a.proto 29 foo f_oo"))]),
+    (
+        P3 + 'package p; message M { reserved "a"; map<string,int32> b = 1; oneof o { M c = 2; } }',
+        [
+            ("p", "q", refused("2 KindNotAllowed")),
+            ("p.M.o", "q", refused("2 KindNotAllowed")),
+            ("p.M.BEntry", "q", refused("2 KindNotAllowed")),
+            ("p.M.BEntry.key", "q", refused("2 KindNotAllowed")),
+            ("p.M.b", "a", refused("8 NameReserved")),
+            ("p.M.c", "a", refused("8 NameReserved")),
+            ("p.M.b", "BEntry", done("a.proto 74 b BEntry")),
+        ],
+    ),
+    (
+        P3 + 'enum E { reserved "W"; V = 0; }',
+        [
+            ("V", "W", refused("8 NameReserved")),
+            ("V", "option", refused("4 KeywordName")),
+            ("V", "message", done("a.proto 42 V message")),
+        ],
+    ),
+]
