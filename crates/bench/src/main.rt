@@ -20,22 +20,23 @@ fn main(rt: HostRuntime) -> io::Result<()> {
     let Some(step) = words.next() else {
         return println!(rt; "no step");
     };
-    let asked = if step.as_str() == "rename" {
-        (words.next(), words.next())
-    } else {
-        (None, None)
-    };
+    let is_rename = step.as_str() == "rename";
+    let name = if is_rename { words.next() } else { None };
+    let to = if is_rename { words.next() } else { None };
     let mut files = Vec::new(rt.alloc());
     for path in words {
         let bytes = fs::read(&rt, path.as_str())?;
         files.push((path, bytes))?;
     }
-    if let (Some(name), Some(to)) = asked {
-        let text = timed(&rt, name.as_str(), to.as_str(), files)?;
-        return print!(rt; "{text}");
-    }
-    match answer(rt.alloc(), step.as_str(), files) {
-        Ok(text) => print!(rt; "{text}"),
-        Err(_) => println!(rt; "no memory"),
-    }
+    let Some(name) = name else {
+        return match answer(rt.alloc(), step.as_str(), files) {
+            Ok(text) => print!(rt; "{text}"),
+            Err(_) => println!(rt; "no memory"),
+        };
+    };
+    let Some(to) = to else {
+        return println!(rt; "no new name");
+    };
+    let text = timed(&rt, name.as_str(), to.as_str(), files)?;
+    print!(rt; "{text}")
 }
