@@ -1,4 +1,4 @@
--- What the deletion of a field leaves of the flaws of its message: no flaw where there was none.
+-- What the deletion of a field leaves of the flaws of its message: no flaw where there was none (for the crates above).
 use Rattle.std.proofs.Common.{◌≡◌, ℕ, ℤ, int_le, Bool, true, false, not, ◌&&◌, List, [], ◌∷◌, ◌++◌, length, map, flat_map, refl, sym, ◌∙◌, ap, subst, inl, inr, if◌then◌else◌, arith}
 use Rattle.std.specs.Prelude.{pos}
 use Rattle.std.specs.List.{list_any}
@@ -118,11 +118,11 @@ meets_nothing so (k ∷ ks) = meets_nothing so ks
 
 -- ---- no flaws
 
-nil_parts : {A : Type 0} (xs ys : List A) → xs ++ ys ≡ [] → (xs ≡ []) × (ys ≡ [])
+pub nil_parts : {A : Type 0} (xs ys : List A) → xs ++ ys ≡ [] → (xs ≡ []) × (ys ≡ [])
 nil_parts [] ys h = (refl, h)
 nil_parts (x ∷ xs) ys h = absurd (cc)
 
-nil_joined : {A : Type 0} (xs ys : List A) → xs ≡ [] → ys ≡ [] → xs ++ ys ≡ []
+pub nil_joined : {A : Type 0} (xs ys : List A) → xs ≡ [] → ys ≡ [] → xs ++ ys ≡ []
 nil_joined [] ys h k = k
 nil_joined (x ∷ xs) ys h k = absurd (cc)
 

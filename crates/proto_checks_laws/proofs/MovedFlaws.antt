@@ -1,4 +1,4 @@
--- The flaws of a file whose imports are others: the same, each at the token that its token became.
+-- The flaws of a file whose imports are others: the same, each at the token that its token became (for the crates above).
 use Rattle.std.proofs.Common.{◌≡◌, ℕ, ℤ, pos, neg_ℤ, Bool, true, false, not, ◌&&◌, if◌then◌else◌, List, [], ◌∷◌, ◌++◌, map, flat_map, find, Option, Some, None, option_map, is_some, is_none, codes, option_and_then, refl, sym, ◌∙◌, ap, ap₂}
 use Rattle.std.specs.List.{list_any}
 use Rattle.std.specs.Ordering.{int_eq}
@@ -46,8 +46,8 @@ use Rattle.proto_checks_laws.proofs.RenamedFlaws.{numbered, ranged}
 -- ---- flaws that are others, moved
 
 -- a record, so that the lists are found from it
-record Moves (g : Move) (xs ys : List Flaw) : Type 0 where
-  same : xs ≡ map (moved g) ys
+pub record Moves (g : Move) (xs ys : List Flaw) : Type 0 where
+  pub same : xs ≡ map (moved g) ys
 
 none : {g : Move} → Moves g [] []
 none = record { same = refl }
@@ -62,7 +62,7 @@ if_at g k t {u} {c} {d} e h = record { same = ap₂ (λ v n. flaw_if v k n) h e 
     go true = refl
     go false = refl
 
-if_moved : (g : Move) (k : FaultKind) (t : ℕ) {c d : Bool} → c ≡ d → Moves g (flaw_if c k (g t)) (flaw_if d k t)
+pub if_moved : (g : Move) (k : FaultKind) (t : ℕ) {c d : Bool} → c ≡ d → Moves g (flaw_if c k (g t)) (flaw_if d k t)
 if_moved g k t = if_at g k t refl
 
 marked_moved : (g : Move) (k : FaultKind) (ts : List ℕ) {us : List ℕ} (bs : List Bool) {cs : List Bool} → us ≡ map g ts → cs ≡ bs → Moves g (marked k us cs) (marked k ts bs)
@@ -73,7 +73,7 @@ marked_moved g k ts {us} bs {cs} e h = record { same = ap₂ (marked k) e h ∙ 
     go (v ∷ vs) [] = refl
     go (v ∷ vs) (d ∷ ds) = ap₂ (λ (l m : List Flaw). l ++ m) (if_moved g k v {c = d} {d = d} refl).same (go vs ds) ∙ sym (map-append (moved g) (flaw_if d k v) (marked k vs ds))
 
-each : {A B : Type 0} (g : Move) (h : A → B) (f : A → List Flaw) (k : B → List Flaw) → ((x : A) → Moves g (k (h x)) (f x)) → (xs : List A) {ys : List B} → ys ≡ map h xs → Moves g (flat_map k ys) (flat_map f xs)
+pub each : {A B : Type 0} (g : Move) (h : A → B) (f : A → List Flaw) (k : B → List Flaw) → ((x : A) → Moves g (k (h x)) (f x)) → (xs : List A) {ys : List B} → ys ≡ map h xs → Moves g (flat_map k ys) (flat_map f xs)
 each g h f k e xs y = record { same = ap (flat_map k) y ∙ flat_moved h (moved g) f k (λ x. (e x).same) xs }
 
 either : {g : Move} {c d : Bool} {xs ys vs ws : List Flaw} → c ≡ d → Moves g xs ys → Moves g vs ws → Moves g (if c then xs else vs) (if d then ys else ws)
@@ -85,10 +85,10 @@ either {g} {c} {d} {xs} {ys} {vs} {ws} e h k = record { same = ap (λ v. if v th
 
 -- ---- numbers and ranges
 
-abbrev move_number_at : Move → NumberAt → NumberAt
+abbrev pub move_number_at : Move → NumberAt → NumberAt
 move_number_at g n = numbered (g n.token) n.number
 
-abbrev move_range_at : Move → RangeAt → RangeAt
+abbrev pub move_range_at : Move → RangeAt → RangeAt
 move_range_at g r = ranged (g r.token) r.first r.last
 
 module _ (g : Move) where
@@ -114,7 +114,7 @@ module _ (g : Move) where
   repeated_kept : (ns : List NumberAt) {ms : List NumberAt} → ms ≡ map (move_number_at g) ns → repeated_numbers ms ≡ repeated_numbers ns
   repeated_kept ns e = ap repeated_numbers e ∙ ap (after_earlier int_eq) (maps_kept (move_number_at g) (λ (n : NumberAt). n.number) (λ (n : NumberAt). n.number) (λ n. refl) ns)
 
-  field_numbers_moved : (rs : List RangeAt) {qs : List RangeAt} (ns : List NumberAt) {ms : List NumberAt} → qs ≡ map (move_range_at g) rs → ms ≡ map (move_number_at g) ns → Moves g (field_number_flaws qs ms) (field_number_flaws rs ns)
+  pub field_numbers_moved : (rs : List RangeAt) {qs : List RangeAt} (ns : List NumberAt) {ms : List NumberAt} → qs ≡ map (move_range_at g) rs → ms ≡ map (move_number_at g) ns → Moves g (field_number_flaws qs ms) (field_number_flaws rs ns)
   field_numbers_moved rs ns r n =
       join (outside_moved is_field_number ns n)
       (join (marked_moved g kind.DuplicateNumber _ _ (tokens_moved ns n) (repeated_kept ns n))
@@ -126,10 +126,10 @@ module _ (g : Move) (a b : Scene) (is : IsMoved g a b) where
   version : b.is_proto3 ≡ a.is_proto3
   version = sym is.version
 
-  number_moved : (t : ℕ) → number_at b (g t) ≡ number_at a t
+  pub number_moved : (t : ℕ) → number_at b (g t) ≡ number_at a t
   number_moved t = ap₂ (λ cap w. pos (up_to cap (number_of w))) (sym is.caps) (is.texts t)
 
-  signed_moved : (s : Signed) → signed_at b (move_signed g s) ≡ signed_at a s
+  pub signed_moved : (s : Signed) → signed_at b (move_signed g s) ≡ signed_at a s
   signed_moved s = ap₂ (λ v n. if v then neg_ℤ n else n) (some_kept g s.minus) (number_moved s.number)
 
   first_moved : (s : Signed) → first_of_signed (move_signed g s) ≡ g (first_of_signed s)
@@ -147,15 +147,15 @@ module _ (g : Move) (a b : Scene) (is : IsMoved g a b) where
       go (range_end.Number n) = e n
       go (range_end.Max i) = refl
 
-  range_moved : (r : Range ℕ) → range_of b (move_range g g r) ≡ move_range_at g (range_of a r)
+  pub range_moved : (r : Range ℕ) → range_of b (move_range g g r) ≡ move_range_at g (range_of a r)
   range_moved r = ap₂ (ranged (g r.first)) (number_moved r.first) (end_moved most_field g (number_at a) (number_at b) number_moved r.first r.up_to)
 
-  enum_range_moved : (r : Range Signed) → enum_range_of b (move_range g (move_signed g) r) ≡ move_range_at g (enum_range_of a r)
+  pub enum_range_moved : (r : Range Signed) → enum_range_of b (move_range g (move_signed g) r) ≡ move_range_at g (enum_range_of a r)
   enum_range_moved r =
       ap (λ t. ranged t (signed_at b (move_signed g r.first)) (end_of most_value (signed_at b) (move_signed g r.first) (move_option (move_up_to g (move_signed g)) r.up_to))) (first_moved r.first)
       ∙ ap₂ (ranged (g (first_of_signed r.first))) (signed_moved r.first) (end_moved most_value (move_signed g) (signed_at a) (signed_at b) signed_moved r.first r.up_to)
 
-  field_number_moved : (f : FieldOf) → number_of_field b (move_field_of g f) ≡ move_number_at g (number_of_field a f)
+  pub field_number_moved : (f : FieldOf) → number_of_field b (move_field_of g f) ≡ move_number_at g (number_of_field a f)
   field_number_moved f = ap (numbered (g f.number)) (number_moved f.number)
 
   value_number_moved : (v : Value) → number_of_value b (move_value g v) ≡ move_number_at g (number_of_value a v)
@@ -163,12 +163,12 @@ module _ (g : Move) (a b : Scene) (is : IsMoved g a b) where
 
   -- ---- options
 
-  word_moved : (c : Constant) → word_of (text b) (move_constant g c) ≡ word_of (text a) c
+  pub word_moved : (c : Constant) → word_of (text b) (move_constant g c) ≡ word_of (text a) c
   word_moved (constant.Word w) = ap Some (is.texts w)
   word_moved (constant.Text j) = refl
   word_moved (constant.Number n) = refl
 
-  text_moved : (c : Constant) → text_of (value b) (move_constant g c) ≡ text_of (value a) c
+  pub text_moved : (c : Constant) → text_of (value b) (move_constant g c) ≡ text_of (value a) c
   text_moved (constant.Text j) = ap Some (flat_kept g (value a) (value b) is.strings (j.first ∷ j.rest))
   text_moved (constant.Word w) = refl
   text_moved (constant.Number n) = refl
@@ -189,10 +189,10 @@ module _ (g : Move) (a b : Scene) (is : IsMoved g a b) where
   allowed_moved : (on : Element) (o : OptionOf) → is_allowed (text b) on (move_option_of g o) ≡ is_allowed (text a) on o
   allowed_moved on o = ap (λ w. fits_kind (text b) (value_kind_of on w) (move_constant g o.value)) (is.texts o.name) ∙ fits_moved (value_kind_of on (text a o.name)) o.value
 
-  named_moved : (w : List ℕ) (o : OptionOf) → is_named (text b) w (move_option_of g o) ≡ is_named (text a) w o
+  pub named_moved : (w : List ℕ) (o : OptionOf) → is_named (text b) w (move_option_of g o) ≡ is_named (text a) w o
   named_moved w o = ap (λ v. bytes_eq v w) (is.texts o.name)
 
-  option_flaws_moved : (on : Element) (os : List OptionOf) {ps : List OptionOf} → ps ≡ map (move_option_of g) os → Moves g (option_flaws b on ps) (option_flaws a on os)
+  pub option_flaws_moved : (on : Element) (os : List OptionOf) {ps : List OptionOf} → ps ≡ map (move_option_of g) os → Moves g (option_flaws b on ps) (option_flaws a on os)
   option_flaws_moved on os e =
       join (each g (move_option_of g) _ _ (λ o. if_moved g kind.BadOption o.name (ap not (allowed_moved on o))) os e)
       (marked_moved g kind.BadOption _ _
@@ -210,7 +210,7 @@ module _ (g : Move) (a b : Scene) (is : IsMoved g a b) where
       go None = refl
       go (Some t) = refl
 
-  enum_moved : (t : FieldType) → enum_of_type b (move_type g t) ≡ enum_of_type a t
+  pub enum_moved : (t : FieldType) → enum_of_type b (move_type g t) ≡ enum_of_type a t
   enum_moved (field_type.Scalar t) = refl
   enum_moved (field_type.Reference r) = is.enums r
 
@@ -222,7 +222,7 @@ module _ (g : Move) (a b : Scene) (is : IsMoved g a b) where
   map_key_moved None = none
   map_key_moved (Some t) = if_moved g kind.BadMap t (ap (is_one_of no_map_keys) (is.texts t))
 
-  label_moved : (w : List ℕ) (o : Option ℕ) → is_label b w (move_option g o) ≡ is_label a w o
+  pub label_moved : (w : List ℕ) (o : Option ℕ) → is_label b w (move_option g o) ≡ is_label a w o
   label_moved w None = refl
   label_moved w (Some t) = ap (λ v. bytes_eq v w) (is.texts t)
 
@@ -267,7 +267,7 @@ module _ (g : Move) (a b : Scene) (is : IsMoved g a b) where
       go None = none
       go (Some o) = if_moved g kind.BadDefault o.name (ap not (may_default_moved f o))
 
-  field_moved : (f : FieldOf) → Moves g (field_flaws b (move_field_of g f)) (field_flaws a f)
+  pub field_moved : (f : FieldOf) → Moves g (field_flaws b (move_field_of g f)) (field_flaws a f)
   field_moved f =
       join (types_moved f)
       (join (option_flaws_moved element.Field f.options refl)
@@ -277,7 +277,7 @@ module _ (g : Move) (a b : Scene) (is : IsMoved g a b) where
 
   -- ---- names
 
-  names_moved : (reserved : List ℕ) {others : List ℕ} (names : List ℕ) {renamed : List ℕ} → others ≡ map g reserved → renamed ≡ map g names → Moves g (name_flaws b others renamed) (name_flaws a reserved names)
+  pub names_moved : (reserved : List ℕ) {others : List ℕ} (names : List ℕ) {renamed : List ℕ} → others ≡ map g reserved → renamed ≡ map g names → Moves g (name_flaws b others renamed) (name_flaws a reserved names)
   names_moved reserved {others} names r n =
       join (each g g _ _ (λ t. if_moved g kind.ReservedName t (ap₂ is_one_of values (is.texts t))) names n)
       (marked_moved g kind.ReservedName _ _ r (ap (after_earlier bytes_eq) values))
@@ -285,7 +285,7 @@ module _ (g : Move) (a b : Scene) (is : IsMoved g a b) where
       values : map (value b) others ≡ map (value a) reserved
       values = ap (map (value b)) r ∙ maps_kept g (value a) (value b) is.strings reserved
 
-  json_name_moved : (f : FieldOf) → json_name_of b (move_field_of g f) ≡ json_name_of a f
+  pub json_name_moved : (f : FieldOf) → json_name_of b (move_field_of g f) ≡ json_name_of a f
   json_name_moved f = ap₂ written_or (ap written first ∙ go (find (is_named (text a) (codes "json_name")) f.options)) (is.texts f.name)
     where
       written : Option OptionOf → Option (List ℕ)
@@ -298,7 +298,7 @@ module _ (g : Move) (a b : Scene) (is : IsMoved g a b) where
       go None = refl
       go (Some o) = text_moved o.value
 
-  clashes_moved : (fs : List FieldOf) {hs : List FieldOf} → hs ≡ map (move_field_of g) fs → Moves g (json_clashes b hs) (json_clashes a fs)
+  pub clashes_moved : (fs : List FieldOf) {hs : List FieldOf} → hs ≡ map (move_field_of g) fs → Moves g (json_clashes b hs) (json_clashes a fs)
   clashes_moved fs e =
       either version
       (marked_moved g kind.JsonClash _ _
@@ -365,7 +365,7 @@ module _ (g : Move) (a b : Scene) (is : IsMoved g a b) where
 
   -- ---- blocks, and the file
 
-  block_moved : (h : Header) (within : Tree) → Moves g (block_flaws b (move_header g h) (move_tree g within)) (block_flaws a h within)
+  pub block_moved : (h : Header) (within : Tree) → Moves g (block_flaws b (move_header g h) (move_tree g within)) (block_flaws a h within)
   block_moved (header.Message h) within = message_moved within
   block_moved (header.Oneof h) within = if_moved g kind.EmptyOneof h.name (ap is_empty (statements_moved g within) ∙ empty_kept (move_statement g) (statements within))
   block_moved (header.Enum h) within = enum_flaws_moved h.name within

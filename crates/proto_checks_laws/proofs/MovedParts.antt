@@ -1,4 +1,4 @@
--- The parts of a tree whose tokens are moved: the moved parts. Imports give no part that flaws are read from.
+-- The parts of a tree whose tokens are moved: the moved parts. Imports give no part that flaws are read from (for the crates above).
 use Rattle.std.proofs.Common.{◌≡◌, ℕ, suc, Bool, true, false, ◌||◌, if◌then◌else◌, List, [], ◌∷◌, ◌++◌, map, flat_map, find, Option, Some, None, option_map, is_some, is_none, refl, sym, ◌∙◌, ap, ap₂}
 use Rattle.std.specs.List.{list_any}
 use Rattle.std.proofs.lemmas.List.{map-append}
@@ -94,7 +94,7 @@ module _ (g : Move) where
   statements_moved (Block h opens within closes rest) = statements_moved rest
 
   -- what each statement gives
-  given_moved : {X : Type 0} (m : X → X) (f : Statement → List X) → ((s : Statement) → f (move_statement g s) ≡ map m (f s)) → (t : Tree) → flat_map f (statements (move_tree g t)) ≡ map m (flat_map f (statements t))
+  pub given_moved : {X : Type 0} (m : X → X) (f : Statement → List X) → ((s : Statement) → f (move_statement g s) ≡ map m (f s)) → (t : Tree) → flat_map f (statements (move_tree g t)) ≡ map m (flat_map f (statements t))
   given_moved m f e t = ap (flat_map f) (statements_moved t) ∙ flat_moved (move_statement g) m f f e (statements t)
 
   -- ---- options
@@ -103,7 +103,7 @@ module _ (g : Move) where
   settings_moved None = refl
   settings_moved (Some s) = ap (map option_of_setting) (separated_moved (move_setting g) s.list) ∙ maps_moved (move_setting g) (move_option_of g) option_of_setting option_of_setting (λ x. refl) (separated s.list)
 
-  statement_options_moved : (s : Statement) → statement_options (move_statement g s) ≡ map (move_option_of g) (statement_options s)
+  pub statement_options_moved : (s : Statement) → statement_options (move_statement g s) ≡ map (move_option_of g) (statement_options s)
   statement_options_moved (statement.Option o) = refl
   statement_options_moved _ = refl
 
@@ -112,7 +112,7 @@ module _ (g : Move) where
 
   -- ---- fields
 
-  statement_fields_moved : (oneof : Option ℕ) (s : Statement) → statement_fields oneof (move_statement g s) ≡ map (move_field_of g) (statement_fields oneof s)
+  pub statement_fields_moved : (oneof : Option ℕ) (s : Statement) → statement_fields oneof (move_statement g s) ≡ map (move_field_of g) (statement_fields oneof s)
   statement_fields_moved oneof (statement.Field f) = ap (λ os. record { label = move_option g f.label; map_key = None; oneof = oneof; kind = move_type g f.kind; name = g f.name; number = g f.number; options = os } ∷ []) (settings_moved f.settings)
   statement_fields_moved oneof (statement.MapField f) = ap (λ os. record { label = None; map_key = Some (g f.key); oneof = None; kind = move_type g f.value; name = g f.name; number = g f.number; options = os } ∷ []) (settings_moved f.settings)
   statement_fields_moved oneof _ = refl
@@ -137,19 +137,19 @@ module _ (g : Move) where
   names_of_moved f (reserved_list.Names names) = separated_moved g names
   names_of_moved f (reserved_list.Ranges ranges) = refl
 
-  reserved_ranges_moved : (s : Statement) → reserved_ranges (move_statement g s) ≡ map (move_range g g) (reserved_ranges s)
+  pub reserved_ranges_moved : (s : Statement) → reserved_ranges (move_statement g s) ≡ map (move_range g g) (reserved_ranges s)
   reserved_ranges_moved (statement.Reserved r) = ranges_of_moved g r.list
   reserved_ranges_moved _ = refl
 
-  extension_ranges_moved : (s : Statement) → extension_ranges (move_statement g s) ≡ map (move_range g g) (extension_ranges s)
+  pub extension_ranges_moved : (s : Statement) → extension_ranges (move_statement g s) ≡ map (move_range g g) (extension_ranges s)
   extension_ranges_moved (statement.Extensions e) = separated_moved (move_range g g) e.ranges
   extension_ranges_moved _ = refl
 
+  pub statement_ranges_moved : (s : Statement) → closed_ranges (move_statement g s) ≡ map (move_range g g) (closed_ranges s)
+  statement_ranges_moved s = ap₂ (λ (rs qs : List (Range ℕ)). rs ++ qs) (reserved_ranges_moved s) (extension_ranges_moved s) ∙ sym (map-append (move_range g g) (reserved_ranges s) (extension_ranges s))
+
   pub closed_ranges_moved : (t : Tree) → flat_map closed_ranges (statements (move_tree g t)) ≡ map (move_range g g) (flat_map closed_ranges (statements t))
-  closed_ranges_moved = given_moved (move_range g g) closed_ranges both
-    where
-      both : (s : Statement) → closed_ranges (move_statement g s) ≡ map (move_range g g) (closed_ranges s)
-      both s = ap₂ (λ (rs qs : List (Range ℕ)). rs ++ qs) (reserved_ranges_moved s) (extension_ranges_moved s) ∙ sym (map-append (move_range g g) (reserved_ranges s) (extension_ranges s))
+  closed_ranges_moved = given_moved (move_range g g) closed_ranges statement_ranges_moved
 
   statement_enum_ranges_moved : (s : Statement) → enum_ranges (move_statement g s) ≡ map (move_range g (move_signed g)) (enum_ranges s)
   statement_enum_ranges_moved (statement.EnumReserved r) = ranges_of_moved (move_signed g) r.list
@@ -158,7 +158,7 @@ module _ (g : Move) where
   pub enum_ranges_moved : (t : Tree) → flat_map enum_ranges (statements (move_tree g t)) ≡ map (move_range g (move_signed g)) (flat_map enum_ranges (statements t))
   enum_ranges_moved = given_moved (move_range g (move_signed g)) enum_ranges statement_enum_ranges_moved
 
-  statement_names_moved : (s : Statement) → reserved_names (move_statement g s) ≡ map g (reserved_names s)
+  pub statement_names_moved : (s : Statement) → reserved_names (move_statement g s) ≡ map g (reserved_names s)
   statement_names_moved (statement.Reserved r) = names_of_moved g r.list
   statement_names_moved (statement.EnumReserved r) = names_of_moved (move_signed g) r.list
   statement_names_moved _ = refl
@@ -166,7 +166,7 @@ module _ (g : Move) where
   pub reserved_names_moved : (t : Tree) → reserved_names_in (move_tree g t) ≡ map g (reserved_names_in t)
   reserved_names_moved = given_moved g reserved_names statement_names_moved
 
-  statement_words_moved : (s : Statement) → extension_words (move_statement g s) ≡ map g (extension_words s)
+  pub statement_words_moved : (s : Statement) → extension_words (move_statement g s) ≡ map g (extension_words s)
   statement_words_moved (statement.Extensions e) = refl
   statement_words_moved _ = refl
 

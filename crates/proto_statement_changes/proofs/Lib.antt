@@ -1,0 +1,7 @@
+mod Apart
+mod DeletionChanges
+mod FieldNames
+mod FieldsThere
+mod ImportChanges
+pub mod OneFile
+mod Paths

@@ -1,0 +1,3 @@
+pub mod DeletionChanges
+pub mod ImportChanges
+pub mod OneFile

@@ -1,0 +1,47 @@
+-- The statements that edits put in: their text, their tokens, and their trees.
+use Rattle.std.specs.Prelude.{ℕ, ◌+◌, List, [], ◌∷◌, ◌++◌, codes, None}
+use Rattle.std.specs.Fmt.{decimal}
+use Rattle.proto_text.specs.declared.kind.TokenKind.{TokenKind}
+use Rattle.proto_text.specs.declared.kind.TokenKind.TheVariants.{Word, Number, Text, Punctuation}
+use Rattle.proto_text.specs.Segments.{quoted}
+use Rattle.proto_text.specs.Tokens.{Lexeme}
+use Rattle.proto_tree.specs.declared.piece.Statement.TheVariants as statement
+use Rattle.proto_tree.specs.declared.tree.ReservedList.TheVariants as reserved_list
+use Rattle.proto_tree.specs.Tree.{Tree, End, Leaf}
+
+abbrev pub token : TokenKind → List ℕ → Lexeme
+token kind text = record { kind = kind; text = text }
+
+abbrev pub semicolon : Lexeme
+semicolon = token Punctuation (codes ";")
+
+-- ---- a number and a name that are reserved
+
+-- `reserved N; reserved "name";`
+abbrev pub reservation_text : ℕ → List ℕ → List ℕ
+reservation_text number name = codes "reserved " ++ (decimal number ++ (codes "; reserved " ++ (quoted name ++ codes ";")))
+
+abbrev pub reservation_tokens : ℕ → List ℕ → List Lexeme
+reservation_tokens number name =
+    token Word (codes "reserved") ∷ token Number (decimal number) ∷ semicolon
+    ∷ token Word (codes "reserved") ∷ token Text (quoted name) ∷ semicolon
+    ∷ []
+
+-- the two statements, whose tokens begin with this index
+abbrev pub reservation : ℕ → Tree
+reservation i =
+    Leaf (statement.Reserved (record { keyword = i; list = reserved_list.Ranges (record { first = record { first = i + 1; up_to = None }; rest = [] }); semicolon = i + 2 }))
+    (Leaf (statement.Reserved (record { keyword = i + 3; list = reserved_list.Names (record { first = i + 4; rest = [] }); semicolon = i + 5 })) End)
+
+-- ---- an import
+
+-- `import "PATH";`
+abbrev pub import_text : List ℕ → List ℕ
+import_text path = codes "import " ++ (quoted path ++ codes ";")
+
+abbrev pub import_tokens : List ℕ → List Lexeme
+import_tokens path = token Word (codes "import") ∷ token Text (quoted path) ∷ semicolon ∷ []
+
+-- the statement, whose tokens begin with this index
+abbrev pub import_at : ℕ → Tree
+import_at i = Leaf (statement.Import (record { keyword = i; public = None; path = i + 1; semicolon = i + 2 })) End

@@ -1,0 +1,156 @@
+-- Without some of its fields and entries a workspace gives each reference the meaning that it had (for the crates above).
+use Rattle.std.proofs.Common.{◌≡◌, ◌≢◌, ℕ, ◌<◌, Bool, true, false, ◌&&◌, ◌||◌, ◌==◌, List, [], ◌∷◌, ◌++◌, length, take, Option, Some, None, refl, sym, ◌∙◌, ap, ap₂, subst, inl, inr, arith, append_assoc, length-append}
+use Rattle.std.specs.List.{Contains, list_any}
+use Rattle.std.proofs.lemmas.Bool.{true≢false, both_ways, and_from, cases_Bool, cond-true, cond-false, false_from_ne_true}
+use Rattle.std.proofs.lemmas.Option.{none-some}
+use Rattle.std.proofs.lemmas.List.{append-nil}
+use Rattle.proto_text.proofs.Lists.{any_from}
+use Rattle.proto_meaning.specs.Linked.{AreApart, is_leaf, IsLinked}
+use Rattle.proto_meaning.specs.declared.kind.Kind.{Kind}
+use Rattle.proto_meaning.specs.declared.kind.Kind.TheVariants.{Package, Message, Entry, Enum, Service, Field, EntryField, Oneof, Value, Method}
+use Rattle.proto_meaning.specs.Names.{Import, Symbol, Reference, Workspace, same_name, is_type, is_outer, fits, greatest, reaches, sees, shows, hit, hits_at, meaning, meaning_at, typed}
+use Rattle.proto_meaning.proofs.Basics.{same_from_name}
+use Rattle.proto_meaning.proofs.Rename.{first_and_rest, hit_from, hit_relative, typed_from, typed_is}
+use Rattle.proto_meaning.proofs.Renamed.{has_meaning, meant}
+use Rattle.proto_meaning.proofs.Symbols.{front_of, one_symbol, shown, type_not_leaf}
+use Rattle.proto_statement_names.specs.Less.{HasLess, LessIsLinked, LessMeans, MayGo, goes_with_field}
+use Rattle.proto_statement_names.specs.Lists.{IsAny}
+use Rattle.proto_statement_names.proofs.Lists.{more_has, more_or, more_pairs}
+
+-- what holds others stays, but for entries
+outer_stays : (k : Kind) → is_outer k ≡ true → k ≢ Entry → goes_with_field k ≡ false
+outer_stays Package h ne = refl
+outer_stays Message h ne = refl
+outer_stays Entry h ne = absurd (ne refl)
+outer_stays Enum h ne = refl
+outer_stays Service h ne = refl
+outer_stays Field h ne = absurd (true≢false (sym h))
+outer_stays EntryField h ne = absurd (true≢false (sym h))
+outer_stays Oneof h ne = refl
+outer_stays Value h ne = refl
+outer_stays Method h ne = refl
+
+type_is_outer : (k : Kind) → is_type k ≡ true → is_outer k ≡ true
+type_is_outer Message h = refl
+type_is_outer Entry h = refl
+type_is_outer Enum h = refl
+type_is_outer Package h = absurd (true≢false (sym h))
+type_is_outer Service h = absurd (true≢false (sym h))
+type_is_outer Field h = absurd (true≢false (sym h))
+type_is_outer EntryField h = absurd (true≢false (sym h))
+type_is_outer Oneof h = absurd (true≢false (sym h))
+type_is_outer Value h = absurd (true≢false (sym h))
+type_is_outer Method h = absurd (true≢false (sym h))
+
+type_stays : (k : Kind) → is_type k ≡ true → k ≢ Entry → goes_with_field k ≡ false
+type_stays k h ne = outer_stays k (type_is_outer k h) ne
+
+some_words : (front words : List (List ℕ)) → 0 < length words → 0 < length (front ++ take 1 words)
+some_words front [] l = absurd (omega (arith, l))
+some_words front (p ∷ words) l = omega (arith, length-append front (p ∷ []))
+
+-- a reference that hits has a word
+has_word : (w : Workspace) (r : Reference) (k : ℕ) → hits_at w r k ≡ true → 0 < length r.words
+has_word w r k h = let s = shown w r.file (fits r.words) (take k r.scope ++ take 1 r.words) h in go s.0.kind r.words s.3
+  where
+    go : (kind : Kind) (words : List (List ℕ)) → fits words kind ≡ true → 0 < length words
+    go kind [] e = absurd (true≢false (sym e))
+    go kind (p ∷ words) e = omega arith
+
+-- Where the same front is the longest at which it hits, and the type is shown, the meaning is the same.
+module _ (w v : Workspace) (r : Reference) (m : List (List ℕ)) (h : meaning w r ≡ Some m) (seen : shows v r.file is_type m ≡ true) where
+  typed_still : (o : Option ℕ) → meaning_at w r o ≡ Some m → meaning_at v r o ≡ Some m
+  typed_still None e = elim (cases_Bool r.is_absolute) [
+    | inl abs ↦
+        let t = typed_is w r.file r.words m (sym (cond-true r.is_absolute (typed w r.file r.words) None abs) ∙ e) in
+        cond-true r.is_absolute (typed v r.file r.words) None abs ∙ ap (typed v r.file) t.1 ∙ typed_from v r.file m seen
+    | inr rel ↦ absurd (none-some m (sym (cond-false r.is_absolute (typed w r.file r.words) None rel) ∙ e))
+  ]
+  typed_still (Some k) e = ap (typed v r.file) (typed_is w r.file (take k r.scope ++ r.words) m e).1 ∙ typed_from v r.file m seen
+
+  same_hit : ((k : ℕ) → hit w r ≡ Some k → hits_at v r k ≡ true) → ((j : ℕ) → hits_at v r j ≡ true → hits_at w r j ≡ true) → hit v r ≡ hit w r
+  same_hit again back = go (hit w r) refl
+    where
+      go : (o : Option ℕ) → hit w r ≡ o → hit v r ≡ o
+      go None e = elim (cases_Bool r.is_absolute) [
+        | inl abs ↦ cond-true r.is_absolute None (greatest (hits_at v r) (length r.scope)) abs
+        | inr rel ↦ absurd (none-some m (sym (cond-false r.is_absolute (typed w r.file r.words) None rel) ∙ ap (meaning_at w r) (sym e) ∙ h))
+      ]
+      go (Some k) e =
+          let a = hit_relative w r k e in
+          hit_from v r k a.0 (record { within = a.1.within; passes = again k e; last = λ j above below. false_from_ne_true (hits_at v r j) (λ q. both_ways (hits_at w r j) (a.1.last j above below) (back j q)) })
+
+  means_still : ((k : ℕ) → hit w r ≡ Some k → hits_at v r k ≡ true) → ((j : ℕ) → hits_at v r j ≡ true → hits_at w r j ≡ true) → meaning v r ≡ Some m
+  means_still again back = ap (meaning_at v r) (same_hit again back) ∙ typed_still (hit w r) h
+
+module _ (w v : Workspace) (ok : IsLinked w) (less : HasLess w v) where
+  sees_same : (f g : ℕ) → sees v f g ≡ sees w f g
+  sees_same f g = ap₂ (λ (n : ℕ) (imports : List Import). (f == g) || list_any (λ i. (i.from == f) && reaches imports n i.to g) imports) less.files less.imports
+
+  shows_by : (a b : Workspace) (f : ℕ) (good : Kind → Bool) (x : List (List ℕ)) → ((g : ℕ) → sees a f g ≡ sees b f g) → (s : Symbol) → Contains b.symbols s → s.name ≡ x → good s.kind ≡ true → sees a f s.file ≡ true → shows b f good x ≡ true
+  shows_by a b f good x same s c n k e = any_from (λ s. same_name s.name x && (good s.kind && sees b f s.file)) b.symbols s c (and_from _ _ (same_from_name s.name x n) (and_from _ _ k (sym (same s.file) ∙ e)))
+
+  shows_before : (f : ℕ) (good : Kind → Bool) (x : List (List ℕ)) → shows v f good x ≡ true → shows w f good x ≡ true
+  shows_before f good x h = let s = shown v f good x h in shows_by v w f good x (sees_same f) s.0 (more_has MayGo v.symbols w.symbols less.symbols s.0 s.1) s.2 s.3 s.4
+
+  -- what is shown by symbols that stay is shown still
+  shows_kept : (a : List (List ℕ)) → ((s : Symbol) → Contains w.symbols s → s.name ≡ a → goes_with_field s.kind ≡ false) → (f : ℕ) (good : Kind → Bool) → shows w f good a ≡ true → shows v f good a ≡ true
+  shows_kept a stays f good h =
+      let s = shown w f good a h in
+      elim (more_or MayGo v.symbols w.symbols less.symbols s.0 s.1) [
+        | inl there ↦ shows_by w v f good a (λ g. sym (sees_same f g)) s.0 there s.2 s.3 s.4
+        | inr gone ↦ absurd (both_ways (goes_with_field s.0.kind) (stays s.0 s.1 s.2) gone)
+      ]
+
+  -- of two symbols of one name neither goes where one is of a kind that stays
+  named_stays : (s t : Symbol) → Contains w.symbols s → Contains w.symbols t → s.name ≡ t.name → goes_with_field t.kind ≡ false → goes_with_field s.kind ≡ false
+  named_stays s t cs ct n k = elim (one_symbol w.symbols ok.unique s t cs ct n) [
+    | inl same ↦ subst (λ z. goes_with_field z ≡ false) (ap (λ (y : Symbol). y.kind) (sym same)) k
+    | inr both ↦ ap goes_with_field both.0
+  ]
+
+  -- a type that is no entry, and each front of it, are shown still
+  module _ (t : Symbol) (ct : Contains w.symbols t) (ty : is_type t.kind ≡ true) (ne : t.kind ≢ Entry) where
+    shows_type : (f : ℕ) (good : Kind → Bool) → shows w f good t.name ≡ true → shows v f good t.name ≡ true
+    shows_type = shows_kept t.name (λ s cs n. named_stays s t cs ct n (type_stays t.kind ty ne))
+
+    shows_front : (a b : List (List ℕ)) → a ++ b ≡ t.name → 0 < length a → (f : ℕ) (good : Kind → Bool) → shows w f good a ≡ true → shows v f good a ≡ true
+    shows_front a b whole long = shows_kept a stays
+      where
+        stays : (s : Symbol) → Contains w.symbols s → s.name ≡ a → goes_with_field s.kind ≡ false
+        stays s cs n = elim (front_of w.symbols ok.nested a b t ct (sym whole) long) [
+          | inl none ↦ named_stays s t cs ct (n ∙ sym (append-nil a) ∙ ap (λ z. a ++ z) (sym none) ∙ whole) (type_stays t.kind ty ne)
+          | inr u ↦ named_stays s u.it cs u.within (n ∙ sym u.name) (outer_stays u.it.kind u.outer (λ e. both_ways (is_leaf t.kind) (type_not_leaf t.kind ty) (u.entry e)))
+        ]
+
+  means : (r : Reference) → Contains w.references r → (m : List (List ℕ)) → meaning w r ≡ Some m → meaning v r ≡ Some m
+  means r cr m h =
+      let t = meant w r m h in
+      let ne = ok.no_entry r cr t.0 t.1 (h ∙ ap Some (sym t.2)) in
+      let seen : shows w r.file is_type t.0.name ≡ true = shows_by w w r.file is_type t.0.name (λ g. refl) t.0 t.1 refl t.3 t.4 in
+      means_still w v r m h (subst (λ z. shows v r.file is_type z ≡ true) t.2 (shows_type t.0 t.1 t.3 ne r.file is_type seen))
+      (λ k q.
+      (let a = hit_relative w r k q in
+      let y = typed_is w r.file (take k r.scope ++ r.words) m (ap (meaning_at w r) (sym q) ∙ h) in
+      let first = first_and_rest r.words in
+      let whole : (take k r.scope ++ take 1 r.words) ++ first.0 ≡ t.0.name = append_assoc (take k r.scope) (take 1 r.words) first.0 ∙ ap (λ l. take k r.scope ++ l) first.1 ∙ y.1 ∙ sym t.2 in
+      shows_front t.0 t.1 t.3 ne (take k r.scope ++ take 1 r.words) first.0 whole (some_words (take k r.scope) r.words (has_word w r k a.1.passes)) r.file (fits r.words) a.1.passes))
+      (λ j q. shows_before r.file (fits r.words) (take j r.scope ++ take 1 r.words) q)
+
+pub less_means : LessMeans
+less_means = means
+
+pub less_is_linked : LessIsLinked
+less_is_linked w v ok less nested = record {
+  nested = nested;
+  unique = more_pairs MayGo AreApart v.symbols w.symbols less.symbols ok.unique;
+  resolved = λ r c none. (let m = has_meaning (meaning w r) (ok.resolved r (sub r c)) in none-some m.0 (sym none ∙ means w v ok less r (sub r c) m.0 m.1));
+  no_entry = λ r c s cs h. ok.no_entry r (sub r c) s (more_has MayGo v.symbols w.symbols less.symbols s cs) (before r c s h);
+  right_kind = λ r c s cs h. ok.right_kind r (sub r c) s (more_has MayGo v.symbols w.symbols less.symbols s cs) (before r c s h);
+}
+  where
+    sub : (r : Reference) → Contains v.references r → Contains w.references r
+    sub = more_has IsAny v.references w.references less.references
+
+    before : (r : Reference) → Contains v.references r → (s : Symbol) → meaning v r ≡ Some s.name → meaning w r ≡ Some s.name
+    before r c s h = let m = has_meaning (meaning w r) (ok.resolved r (sub r c)) in m.1 ∙ sym (means w v ok less r (sub r c) m.0 m.1) ∙ h

@@ -1,0 +1,11 @@
+pub mod Fields
+pub mod Imports
+pub mod Kept
+pub mod Less
+pub mod Lists
+pub mod MovedNames
+pub mod NamesOut
+pub mod Places
+mod Sight
+pub mod Spelled
+mod Walks

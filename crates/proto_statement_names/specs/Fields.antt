@@ -1,0 +1,23 @@
+-- A name that neither case 1 nor case 2 refuses to delete is that of one written field.
+use Rattle.std.specs.Prelude.{◌≡◌, ℕ, List}
+use Rattle.proto_files.specs.Faults.{HasNoFault}
+use Rattle.proto_files.specs.GivenFiles.{FileOf}
+use Rattle.proto_files.specs.FilesRead.{ReadOf, AreRead}
+use Rattle.proto_imports.specs.Links.{LinkFaults}
+use Rattle.proto_rename_laws.specs.Targets.{Target}
+use Rattle.proto_statement_names.specs.Cases.{DeletionCase, IsField}
+
+-- There is a field,
+abbrev pub FieldsAreThere : Type 0
+FieldsAreThere = (files : List FileOf) (reads : List ReadOf) (name : List ℕ) → AreRead files reads
+    → (DeletionCase files reads name 1 → ⊥) → (DeletionCase files reads name 2 → ⊥) → (t : Target) × IsField files reads name t
+
+-- one alone,
+abbrev pub FieldsAreOne : Type 0
+FieldsAreOne = (files : List FileOf) (reads : List ReadOf) (name : List ℕ) (t u : Target) → AreRead files reads → HasNoFault (LinkFaults files)
+    → IsField files reads name t → IsField files reads name u → t ≡ u
+
+-- and its name is refused by neither case.
+abbrev pub FieldsMayGo : Type 0
+FieldsMayGo = (files : List FileOf) (reads : List ReadOf) (name : List ℕ) (t : Target) → AreRead files reads → HasNoFault (LinkFaults files)
+    → IsField files reads name t → (DeletionCase files reads name 1 → ⊥) × (DeletionCase files reads name 2 → ⊥)

@@ -1,0 +1,9 @@
+pub mod Cases
+pub mod Clean
+pub mod Fields
+pub mod Files
+pub mod Kept
+pub mod Less
+pub mod Lists
+pub mod Places
+pub mod Trees
