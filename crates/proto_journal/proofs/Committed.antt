@@ -13,10 +13,11 @@ use Rattle.proto_records.specs.FaultTable.{fault_of}
 use Rattle.proto_records.specs.RecordText.{record_text}
 use Rattle.proto_records.specs.Journals.{IsJournal, done, opened, journal_text}
 use Rattle.proto_store.specs.Stores.{Held, HoldsJournal}
-use Rattle.proto_journal.specs.Commits.{journal_limit, IsReadyWith, IsReady, IsCommitted, IsCommitCut, CommitOutcome, Stays}
-use Rattle.proto_journal.specs.Known.{CountsFault, Over, OverBoth}
+use Rattle.proto_journal.specs.Commits.{journal_limit, IsCommitted, IsCommitCut, CommitOutcome, Stays}
+use Rattle.proto_recovery.specs.ReadJournals.{IsReady, IsReadyWith}
+use Rattle.proto_recovery.specs.Known.{CountsFault, Over, OverBoth}
 use Rattle.proto_journal.specs.Loads.{IsUnready}
-use Rattle.proto_journal.specs.Torn.{IsBetween, IsTornBetween, Keeps}
+use Rattle.proto_recovery.specs.Torn.{IsBetween, IsTornBetween, Keeps}
 use Rattle.proto_journal.specs.Written.{AddsTo, IsUnprepared, Passes, held}
 use Rattle.proto_journal.proofs.Recorded.{text_more}
 

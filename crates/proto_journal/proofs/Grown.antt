@@ -17,7 +17,7 @@ pub both_ok : {T E : Type 0} (r : Result T E) (P R : T → Type 0) (Q : Type 0) 
 both_ok (Ok x) P R Q f p q = f x p q
 both_ok (Err e) P R Q f p q = tt
 
-last_record : (rs : List Record) (r : Record) → All IsRecord (rs ++ r ∷ []) → IsRecord r
+pub last_record : (rs : List Record) (r : Record) → All IsRecord (rs ++ r ∷ []) → IsRecord r
 last_record [] r h = All-head IsRecord r [] h
 last_record (s ∷ rs) r h = last_record rs r (All-tail IsRecord s (rs ++ r ∷ []) h)
 

@@ -6,6 +6,7 @@ mod Grown
 mod Committed
 mod Undone
 mod PutPaths
-mod TornStores
+mod TornUndos
+mod CutCalls
 mod OneOutcome
 mod Loaded

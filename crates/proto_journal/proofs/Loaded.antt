@@ -15,7 +15,7 @@ use Rattle.proto_edit.specs.Compiled.{AreCompiled}
 use Rattle.proto_edit.proofs.GivenAgain.{sorted_again}
 use Rattle.proto_store.specs.Stores.{AreInPathOrder, Held, HoldsFiles, ListsPaths}
 use Rattle.proto_journal.specs.declared.loading.LoadFault.TheVariants as load
-use Rattle.proto_journal.specs.Known.{Over}
+use Rattle.proto_recovery.specs.Known.{Over}
 use Rattle.proto_journal.specs.Loads.{LoadOutcome}
 
 pub in_order : (h : Option Held) (paths : List (List ℕ)) → ListsPaths h paths → Over h (λ there. AreInPathOrder there.files)

@@ -1,5 +1,5 @@
 -- What a commit answers, and what it leaves in the store and in the workspace.
-use Rattle.std.specs.Prelude.{◌≡◌, ◌⊎◌, ℕ, ◌<◌, List, [], ◌∷◌, ◌++◌, length, true, false, Option, Result, Ok, Err}
+use Rattle.std.specs.Prelude.{◌≡◌, ◌⊎◌, ℕ, ◌<◌, List, [], ◌∷◌, ◌++◌, length, Option, Result, Ok, Err}
 use Rattle.proto_files.specs.GivenFiles.{FileOf}
 use Rattle.proto_entries.specs.Entries.{ChangeOf}
 use Rattle.proto_entries.specs.declared.refusal.Refusal.TheVariants as refusal
@@ -7,34 +7,15 @@ use Rattle.proto_edit.specs.Workspaces.{Asked, IsMappedStep, IsRefusal}
 use Rattle.proto_records.specs.declared.fault.JournalFault.{JournalFault}
 use Rattle.proto_records.specs.declared.fault.JournalFault.TheVariants as fault
 use Rattle.proto_records.specs.declared.record.Record.{Record}
-use Rattle.proto_records.specs.Journals.{IsJournal, is_last_open, done, journal_text}
+use Rattle.proto_records.specs.Journals.{done, journal_text}
 use Rattle.proto_store.specs.Stores.{Held}
-use Rattle.proto_journal.specs.Known.{Over, OverBoth}
-use Rattle.proto_journal.specs.Torn.{IsTornBetween, Keeps}
+use Rattle.proto_recovery.specs.ReadJournals.{HasOpenEntry, IsReady, IsReadyWith, IsUnreadable}
+use Rattle.proto_recovery.specs.Known.{Over, OverBoth}
+use Rattle.proto_recovery.specs.Torn.{IsTornBetween, Keeps}
 
 -- how many bytes a journal has at most
 abbrev pub journal_limit : ℕ
 journal_limit = 16777216
-
--- ---- what a journal says to a call
-
--- the journal is none: it has no records
-abbrev pub IsUnreadable : Held → Type 0
-IsUnreadable held = (records : List Record) → IsJournal held.journal records → ⊥
-
--- the journal's last entry is open
-abbrev pub HasOpenEntry : Held → Type 0
-HasOpenEntry held = (records : List Record) × IsJournal held.journal records × (is_last_open records ≡ true)
-
--- the journal is that of these records, of which none is open
-pub record IsReadyWith (records : List Record) (held : Held) : Type 0 where
-  pub journal : IsJournal held.journal records
-  pub closed : is_last_open records ≡ false
-
-abbrev pub IsReady : Held → Type 0
-IsReady held = (records : List Record) × IsReadyWith records held
-
--- ---- commit
 
 -- the store and the workspace are as before
 pub record Stays (from to : List FileOf) (old new : Option Held) : Type 0 where

@@ -1,9 +1,8 @@
 -- The laws of commits and undos, and of torn stores.
-use Rattle.std.specs.Prelude.{◌≡◌, List, Option, Some, Result, Err}
+use Rattle.std.specs.Prelude.{◌≡◌, ◌⊎◌, List, Bool, Option, Some, Result, Err}
 use Rattle.std.specs.String.{string_bytes}
 use Rattle.proto_files.specs.GivenFiles.{FileOf}
 use Rattle.proto_entries.specs.Entries.{ChangeOf, IsEntry}
-use Rattle.proto_entries.specs.Putting.{IsPut}
 use Rattle.proto_entries.specs.declared.refusal.Refusal.{Refusal}
 use Rattle.proto_entries.specs.declared.refusal.Refusal.TheVariants as refusal
 use Rattle.proto_edit.specs.Compiled.{AreCompiled}
@@ -11,16 +10,13 @@ use Rattle.proto_edit.specs.Workspaces.{Asked, IsUndo}
 use Rattle.proto_records.specs.declared.fault.JournalFault.{JournalFault}
 use Rattle.proto_records.specs.declared.fault.JournalFault.TheVariants as fault
 use Rattle.proto_records.specs.declared.record.Record.{Record}
-use Rattle.proto_store.specs.Stores.{Held}
-use Rattle.proto_journal.specs.Commits.{CommitOutcome}
-use Rattle.proto_journal.specs.Torn.{IsTorn, IsTornBetween}
-use Rattle.proto_journal.specs.Undoing.{UndoOutcome}
-
--- no call of the store failed, and memory was there
-abbrev pub IsSettled : Result (List ChangeOf) JournalFault → Type 0
-IsSettled (Err fault.Store) = ⊥
-IsSettled (Err fault.NoMemory) = ⊥
-IsSettled _ = Unit {0}
+use Rattle.proto_store.specs.Stores.{AreInPathOrder, Held, HoldsFiles}
+use Rattle.proto_recovery.specs.Known.{IsSettled}
+use Rattle.proto_recovery.specs.ReadJournals.{IsReady}
+use Rattle.proto_recovery.specs.Recovery.{RecoverOutcome}
+use Rattle.proto_recovery.specs.Torn.{IsTorn, IsTornBetween}
+use Rattle.proto_journal.specs.Commits.{CommitOutcome, IsCommitted}
+use Rattle.proto_journal.specs.Undoing.{IsUndone, UndoOutcome}
 
 -- two refusals are the same; of those that tell of a place, the path as text
 abbrev pub IsSameRefusal : Refusal → Refusal → Type 0
@@ -43,12 +39,19 @@ abbrev pub UndosAreOne : Type 0
 UndosAreOne = (from to other : List FileOf) (old : Held) (new now : Option Held) (a b : Result (List ChangeOf) JournalFault) → IsSettled a → IsSettled b
     → UndoOutcome from to (Some old) new a → UndoOutcome from other (Some old) now b → (a ≡ b) × (to ≡ other) × (new ≡ now)
 
--- A store that is torn between the files before and after an entry is torn: each file of the entry is as before or as after it.
-abbrev pub TornBetweenIsTorn : Type 0
-TornBetweenIsTorn = (records : List Record) (entry : List ChangeOf) (before after : List FileOf) (held : Held) → IsEntry entry → IsPut before entry after
-    → IsTornBetween records entry before after held → IsTorn records entry held
-
--- The same where the entry was being undone.
+-- Where a store is torn between the files before an entry and after it, while the entry was being undone, each file of the entry is as before or as after it.
 abbrev pub TornUndoIsTorn : Type 0
 TornUndoIsTorn = (records : List Record) (entry : List ChangeOf) (before after : List FileOf) (held : Held) → IsEntry entry → IsUndo after entry before
     → IsTornBetween records entry before after held → IsTorn records entry held
+
+-- A commit that was cut off over a store that was ready, and then recovered: the store is as before the commit, or as after it.
+abbrev pub CutCommitsComeBack : Type 0
+CutCommitsComeBack = (e : Asked) (from to : List FileOf) (old cut : Held) (new : Option Held) (a : Result Bool JournalFault) → AreInPathOrder old.files → HoldsFiles (Some old) from → IsReady old
+    → CommitOutcome e from to (Some old) (Some cut) (Err fault.Store) → IsSettled a → RecoverOutcome (Some cut) new a
+    → (new ≡ Some old) ⊎ ((entry : List ChangeOf) × (made : List FileOf) × IsCommitted e entry from made (Some old) new)
+
+-- And so for an undo: the store is as before the undo, or as after it.
+abbrev pub CutUndosComeBack : Type 0
+CutUndosComeBack = (from to : List FileOf) (old cut : Held) (new : Option Held) (a : Result Bool JournalFault) → AreInPathOrder old.files → HoldsFiles (Some old) from → IsReady old
+    → UndoOutcome from to (Some old) (Some cut) (Err fault.Store) → IsSettled a → RecoverOutcome (Some cut) new a
+    → (new ≡ Some old) ⊎ ((entry : List ChangeOf) × (made : List FileOf) × IsUndone entry from made (Some old) new)

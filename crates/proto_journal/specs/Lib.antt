@@ -1,7 +1,7 @@
-pub mod Known
-pub mod Torn
 pub mod Commits
 pub mod Undoing
 pub mod Loads
 pub mod Written
 pub mod Laws
+pub use Rattle.proto_edit.specs.Answers
+pub use Rattle.proto_edit.specs.Workspaces

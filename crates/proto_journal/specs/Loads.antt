@@ -10,8 +10,8 @@ use Rattle.proto_records.specs.declared.fault.JournalFault.TheVariants as journa
 use Rattle.proto_store.specs.Stores.{Held, HoldsFiles}
 use Rattle.proto_journal.specs.declared.loading.LoadFault.{LoadFault}
 use Rattle.proto_journal.specs.declared.loading.LoadFault.TheVariants as load
-use Rattle.proto_journal.specs.Commits.{IsUnreadable, HasOpenEntry, IsReady}
-use Rattle.proto_journal.specs.Known.{Over}
+use Rattle.proto_recovery.specs.ReadJournals.{HasOpenEntry, IsReady, IsUnreadable}
+use Rattle.proto_recovery.specs.Known.{Over}
 
 -- a workspace of the store's files, which compile; or their least fault
 abbrev pub LoadOutcome : Option Held → Result (List FileOf) LoadFault → Type 0

@@ -11,8 +11,8 @@ use Rattle.proto_records.specs.RecordText.{record_text}
 use Rattle.proto_records.specs.Journals.{IsJournal, is_last_open, done, opened}
 use Rattle.proto_store.specs.Stores.{Held, with_file}
 use Rattle.proto_journal.specs.Commits.{journal_limit}
-use Rattle.proto_journal.specs.Known.{OverBoth}
-use Rattle.proto_journal.specs.Torn.{IsBetween}
+use Rattle.proto_recovery.specs.Known.{OverBoth}
+use Rattle.proto_recovery.specs.Torn.{IsBetween}
 
 -- ---- written
 

@@ -1,8 +1,10 @@
 //! What holds of commits, undos and torn stores, for whoever builds on them. None of these does anything.
 
-ghost use Rattle.proto_journal.specs.Laws.{CommitsAreOne, TornBetweenIsTorn, TornUndoIsTorn, UndosAreOne};
+ghost use Rattle.proto_journal.specs.Laws.{CommitsAreOne, CutCommitsComeBack, CutUndosComeBack, TornUndoIsTorn, UndosAreOne};
+ghost use Rattle.proto_recovery.specs.Laws.{TornBetweenIsTorn};
 
-use proto_records::laws::journals_are_read_in_one_way;
+use proto_records::laws::{journals_are_read_in_one_way, journals_grow_and_shrink};
+use proto_recovery::laws::{recoveries_are_one, torn_stores_come_back};
 
 /// Where no call of a store fails and memory is there, the store and the workspace decide what a commit or an undo answers,
 /// and what it leaves.
@@ -18,3 +20,13 @@ pub fn torn_stores()
     ensures made { TornBetweenIsTorn }
     ensures undone { TornUndoIsTorn }
 {}
+
+/// A commit or an undo that was cut off, and then recovered, is made wholly or not at all.
+pub fn cut_calls_come_back()
+    ensures commits { CutCommitsComeBack }
+    ensures undos { CutUndosComeBack }
+{
+    recoveries_are_one();
+    torn_stores_come_back();
+    journals_grow_and_shrink();
+}

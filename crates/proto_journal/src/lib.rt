@@ -1,4 +1,4 @@
-//! The journal of a store: edits that are written down before they are made, and the way back.
+//! The journal of a store: edits that are written down before they are made, and the way back, also from a torn store.
 #![tactic(auto)]
 
 mod committing;
@@ -12,6 +12,7 @@ pub use committing::commit;
 pub use loading::{LoadFault, all_files, load};
 pub use proto_edit::{Change, Edit, Entry, Refusal, Workspace};
 pub use proto_records::{JournalFault, Record, State, entry_text, read_entry, read_records};
+pub use proto_recovery::recover;
 pub use proto_store::{FolderStore, MemoryStore, Store, StoreFault};
 pub use reading::ready;
 pub use undoing::undo_last;

@@ -5,4 +5,5 @@ pub mod FaultLines
 pub mod FoundLines
 pub mod LogLines
 pub mod Places
+pub mod RecoveryLines
 pub mod Writing

@@ -6,6 +6,7 @@ ghost use Rattle.proto_output.specs.Answers.{status_of, text_of};
 ghost use Rattle.proto_output.specs.Writing.{AppendsBeginning};
 
 use crate::edit_lines::write_changed;
+use crate::recovery_lines::write_recovery;
 use crate::status::Status;
 use crate::writing::{OutputFault, write_text};
 use proto_entries::Entry;
@@ -18,6 +19,8 @@ pub enum Answer {
     Text(String, Status),
     /// A line for each file that an entry changed, and that all is well. Nothing is left to be made for it.
     Changed(Entry),
+    /// A line that says whether a store was recovered, and that all is well. Nothing is left to be made for it either.
+    Recovery(bool),
 }
 
 /// Writes what an answer prints, and tells how the command ends. It takes no memory.
@@ -33,6 +36,10 @@ pub fn write_answer<W: Write>(writer: &mut W, answer: &Answer) -> Result<Status,
         }
         Answer::Changed(entry) => {
             write_changed(writer, entry)?;
+            Ok(Status::Done)
+        }
+        Answer::Recovery(recovered) => {
+            write_recovery(writer, *recovered)?;
             Ok(Status::Done)
         }
     }

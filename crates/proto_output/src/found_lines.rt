@@ -11,7 +11,7 @@ ghost use Rattle.proto_text.specs.Lines.{column_at, line_at};
 use crate::place::{Cursor, Place};
 use proto_faults::NoMemory;
 use proto_files::Files;
-use proto_lint::Finding;
+use proto_findings::Finding;
 use std::alloc::Global;
 
 /// The line of each finding, ended by a line feed: `path:line:column: RULE name`. Findings in the order of their places

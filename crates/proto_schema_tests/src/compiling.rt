@@ -1,6 +1,8 @@
 //! Files that import one another, and as many as there may be.
 
 use crate::calls::{answer, answer_of};
+use proto_faults::NoMemory;
+use std::alloc::Global;
 use std::test::Fail;
 
 const A: (&str, &str) = (
@@ -32,16 +34,21 @@ fn public_imports_are_followed(rt: HostRuntime) -> Result<(), Fail> {
     Ok(())
 }
 
+// So many empty files.
+fn empty_files(alloc: Global, count: usize) -> Result<Vec<(String, Vec<u8>)>, NoMemory> {
+    let mut files = Vec::new(alloc);
+    for i in 0..count {
+        let path = format!(in alloc; "f{i:04}.proto")?;
+        files.push((path, Vec::new(alloc)))?;
+    }
+    Ok(files)
+}
+
 // The files are empty: their descriptors are names alone.
 #[test]
 fn as_many_files_as_there_may_be(rt: HostRuntime) -> Result<(), Fail> {
     let alloc = rt.alloc();
-    let mut files = Vec::new(alloc);
-    for i in 0..4096 {
-        let path = format!(in alloc; "f{i:04}.proto")?;
-        files.push((path, Vec::new(alloc)))?;
-    }
-    let found = answer_of(alloc, files)?;
+    let found = answer_of(alloc, empty_files(alloc, 4096)?)?;
     assert!(rt;
         found
             .as_str()
@@ -52,5 +59,7 @@ fn as_many_files_as_there_may_be(rt: HostRuntime) -> Result<(), Fail> {
         found.as_str().ends_with(",{\"name\":\"f4095.proto\"}]}"),
         "last"
     );
+    let more = answer_of(alloc, empty_files(alloc, 4097)?)?;
+    assert_eq!(rt; more.as_str(), "f4096.proto:0: 35 TooManyFiles");
     Ok(())
 }

@@ -1,6 +1,8 @@
-//! Tests of compiling schemas, through the public calls alone.
+//! Tests of compiling and linting schemas, through the public calls alone.
 #![tactic(auto)]
 
+#[cfg(test)]
+mod allocations;
 #[cfg(test)]
 mod calls;
 #[cfg(test)]
@@ -9,3 +11,5 @@ mod checks;
 mod compiling;
 #[cfg(test)]
 mod descriptors;
+#[cfg(test)]
+mod inputs;

@@ -1,5 +1,6 @@
 mod Apart
 mod DeletionChanges
+mod Examples
 mod FieldNames
 mod FieldsThere
 mod ImportChanges

@@ -4,7 +4,7 @@ ghost use Rattle.std.specs.Prelude.{◌≡◌, ◌⊎◌, ◌+◌, ◌-◌, ◌^
 ghost use Rattle.std.specs.String.{string_bytes};
 ghost use Rattle.proto_store.specs.Stores.{Counts, HoldsBytes, HoldsJournal, ListsPaths, unknown, with_file, with_journal};
 
-use crate::replacing::{put_file, regular_file};
+use crate::replacing::{SECOND, clear_leftover, put_file, regular_file};
 use crate::store::{Store, StoreFault};
 use std::alloc::Global;
 use std::io::Read;
@@ -33,6 +33,7 @@ pub struct FolderStore<'a, R: Files + AllocGlobal> {
 struct Walk {
     folders: Vec<String>,
     files: Vec<String>,
+    leftovers: Vec<String>,
 }
 
 impl<'a, R: Files + AllocGlobal> FolderStore<'a, R> {
@@ -48,6 +49,23 @@ impl<'a, R: Files + AllocGlobal> FolderStore<'a, R> {
         }
     }
 
+    /// Removes the files `.protoref-new` that writes which were cut off have left, in the root and in each folder below it that
+    /// `list` goes through. A symbolic link of that name goes itself, and a folder of that name stays. What the store holds
+    /// stays, since `list` passes over that name. Fails where the root is no folder, or where a folder cannot be read or such a
+    /// file not be removed; those that are left then can be removed later.
+    pub fn clear_leftovers(&mut self) -> Result<(), StoreFault>
+        requires { self.old.failures < 2 ^ 64 - 1 }
+        ensures same { ⟦<FolderStore<'a, R> as Store>⟧.holds self.new ≡ ⟦<FolderStore<'a, R> as Store>⟧.holds self.old }
+        ensures nowhere { self.old.root.now ≡ [] → IsErr result }
+        ensures root { self.new.root.now ≡ self.old.root.now }
+        ensures count { Counts self.old.failures self.new.failures result }
+    {
+        match self.remove_leftovers() {
+            Ok(()) => Ok(()),
+            Err(_) => Err(self.fault()),
+        }
+    }
+
     // Counts a failure.
     fn fault(&mut self) -> StoreFault
         requires { self.old.failures < 2 ^ 64 - 1 }
@@ -58,14 +76,27 @@ impl<'a, R: Files + AllocGlobal> FolderStore<'a, R> {
         StoreFault::Failed
     }
 
-    // The paths of all schema files below the root.
-    fn paths(&self) -> io::Result<Vec<String>>
+    // Removes what lies below the root and was left.
+    fn remove_leftovers(&self) -> io::Result<()>
+        ensures { self.now.root.now ≡ [] → IsErr result }
+    {
+        let walk = self.walked()?;
+        for path in walk.leftovers.iter() {
+            let full_path = self.full_path(path.as_str())?;
+            clear_leftover(self.rt, full_path.as_str())?;
+        }
+        Ok(())
+    }
+
+    // What lies below the root.
+    fn walked(&self) -> io::Result<Walk>
         ensures { self.now.root.now ≡ [] → IsErr result }
     {
         let alloc = self.rt.alloc();
         let mut walk = Walk {
             folders: Vec::new(alloc),
             files: Vec::new(alloc),
+            leftovers: Vec::new(alloc),
         };
         self.visit_folder(&mut walk, "")?;
         for _ in 0..u64::MAX {
@@ -74,7 +105,7 @@ impl<'a, R: Files + AllocGlobal> FolderStore<'a, R> {
             };
             self.visit_folder(&mut walk, folder.as_str())?;
         }
-        Ok(walk.files)
+        Ok(walk)
     }
 
     // Notes what a folder has.
@@ -117,8 +148,12 @@ impl<'a, R: Files + AllocGlobal> FolderStore<'a, R> {
         Ok(names)
     }
 
-    // Notes a name of the folder, if it is that of a folder or of a schema file.
+    // Notes a name of the folder, if it is that of a folder, of a schema file or of what a write has left.
     fn visit(&self, walk: &mut Walk, folder: &str, name: &[u8]) -> io::Result<()> {
+        if name == SECOND.as_bytes() {
+            walk.leftovers
+                .push(joined(self.rt.alloc(), folder, SECOND)?)?;
+        }
         if name.is_empty() || name.starts_with(b".") {
             return Ok(());
         }
@@ -254,8 +289,8 @@ impl<R: Files + AllocGlobal> Store for FolderStore<'_, R> {
         ensures root { self.new.root.now ≡ self.old.root.now }
         ensures count { Counts self.old.failures self.new.failures result }
     {
-        match self.paths() {
-            Ok(paths) => Ok(paths),
+        match self.walked() {
+            Ok(walk) => Ok(walk.files),
             Err(_) => Err(self.fault()),
         }
     }

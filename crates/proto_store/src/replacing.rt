@@ -8,7 +8,7 @@ use std::{fs, io};
 
 // Lies beside the file that is replaced. Its name begins with a dot, so it is never listed, and is short, so it fits
 // where the other name does.
-const SECOND: &str = ".protoref-new";
+pub(crate) const SECOND: &str = ".protoref-new";
 
 // The mode of a file that replaces none, and of one until it has the mode of the file that it replaces.
 const NEW_MODE: u32 = 0o644;
@@ -48,6 +48,14 @@ pub(crate) fn put_file<R: Files + AllocGlobal>(
     match File::open(rt, folder)?.sync_all() {
         Err(error) if error.kind() != io::ErrorKind::InvalidInput => Err(error),
         _ => Ok(()),
+    }
+}
+
+// Removes what an earlier run has left, and leaves a folder, which no run leaves.
+pub(crate) fn clear_leftover<R: Files>(rt: &R, path: &str) -> io::Result<()> {
+    match fs::symlink_metadata(rt, path) {
+        Ok(metadata) if metadata.is_dir() => Ok(()),
+        _ => clear(rt, path),
     }
 }
 

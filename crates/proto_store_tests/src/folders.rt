@@ -142,6 +142,77 @@ fn clears_what_was_left(rt: HostRuntime) -> Result<(), Fail> {
     Ok(())
 }
 
+fn clear_leftovers(rt: &HostRuntime, root: &str) -> Result<(), StoreFault> {
+    FolderStore::new(rt, root).clear_leftovers()
+}
+
+// Whether `p/a.proto` is all that is listed.
+fn lists_one_schema(rt: &HostRuntime, root: &str) -> Result<bool, Fail> {
+    let mut store = FolderStore::new(rt, root);
+    if store.failures() == u64::MAX {
+        return Ok(false);
+    }
+    let paths = store.list()?;
+    Ok(paths.len() == 1 && paths.iter().all(|path| path.as_str() == "p/a.proto"))
+}
+
+#[test]
+fn removes_what_was_left(rt: HostRuntime) -> Result<(), Fail> {
+    let root = new_folder(&rt, "leftovers")?;
+    let root = root.as_str();
+    for folder in ["p/q", "s", "d/.protoref-new", ".git"] {
+        fs::create_dir_all(&rt, below(&rt, root, folder)?.as_str())?;
+    }
+    link(&rt, root, ".git", "linked")?;
+    link(&rt, root, "p/a.proto", "s/.protoref-new")?;
+    let left = [".protoref-new", "p/.protoref-new", "p/q/.protoref-new"];
+    let kept = [".git/.protoref-new", "p/protoref-new", "p/.protoref-newer"];
+    for path in left.iter().chain(kept.iter()) {
+        write(&rt, root, path, "cut off")?;
+    }
+    note(&rt, root, "J")?;
+    write(&rt, root, ".protoref-new", "cut off")?;
+    assert!(rt; lists_one_schema(&rt, root)?);
+    // The second time nothing is left to remove.
+    for _ in 0..2 {
+        clear_leftovers(&rt, root)?;
+        for path in left {
+            assert!(rt; !is_there(&rt, root, path)?, "at {path}");
+        }
+        assert!(rt; !is_there(&rt, root, "s/.protoref-new")?);
+        assert!(rt; is_there(&rt, root, "d/.protoref-new")?);
+        for path in kept {
+            assert!(rt; has_text(&rt, root, path, "cut off")?, "at {path}");
+        }
+        assert!(rt; has_text(&rt, root, "p/a.proto", "A")?);
+        assert!(rt; has_text(&rt, root, ".protoref-journal", "J")?);
+        assert!(rt; lists_one_schema(&rt, root)?);
+    }
+    fs::remove_dir_all(&rt, root)?;
+    Ok(())
+}
+
+#[test]
+fn clears_no_folder_that_is_not_there(rt: HostRuntime) -> Result<(), Fail> {
+    let root = new_folder(&rt, "unclear")?;
+    let root = root.as_str();
+    let gone = below(&rt, root, "gone")?;
+    let file = below(&rt, root, "p/a.proto")?;
+    for path in [gone.as_str(), file.as_str(), ""] {
+        let mut store = FolderStore::new(&rt, path);
+        assert!(rt; store.failures() == 0);
+        assert_eq!(rt;
+            store.clear_leftovers(),
+            Err(StoreFault::Failed),
+            "at {path}"
+        );
+        assert_eq!(rt; store.failures(), 1, "at {path}");
+    }
+    assert!(rt; has_text(&rt, root, "p/a.proto", "A")?);
+    fs::remove_dir_all(&rt, root)?;
+    Ok(())
+}
+
 #[test]
 fn follows_no_link(rt: HostRuntime) -> Result<(), Fail> {
     let root = new_folder(&rt, "links")?;

@@ -4,7 +4,7 @@
 use proto_edit::Edit;
 use proto_output::write_text;
 use proto_store::FolderStore;
-use protoref_run::{Command, RunFault, fault_line, run};
+use protoref_run::{Command, RunFault, Status, fault_line, run};
 use protoref_words::{Request, WordsFault, read_words};
 use std::process::ExitCode;
 use std::rt::{Env, Files};
@@ -65,6 +65,7 @@ fn carry_out<R: Files + Print + AllocGlobal>(rt: &R, request: Request) -> Result
         ),
         Request::Undo { root } => run_over(rt, Command::Undo, root.as_str()),
         Request::Log { root } => run_over(rt, Command::Log, root.as_str()),
+        Request::Recover { root } => recover_over(rt, root.as_str()),
     }
 }
 
@@ -92,7 +93,26 @@ fn run_over<R: Files + Print + AllocGlobal>(
     root: &str,
 ) -> Result<u8, &'static str> {
     let mut store = FolderStore::new(rt, root);
-    match run(rt.alloc(), command, &mut store, &mut io::writer(rt)) {
+    code_of(run(rt.alloc(), command, &mut store, &mut io::writer(rt)))
+}
+
+// Recovers the folder at a path, which first loses what writes that were cut off have left there.
+fn recover_over<R: Files + Print + AllocGlobal>(rt: &R, root: &str) -> Result<u8, &'static str> {
+    let mut store = FolderStore::new(rt, root);
+    match store.clear_leftovers() {
+        Ok(()) => code_of(run(
+            rt.alloc(),
+            Command::Recover,
+            &mut store,
+            &mut io::writer(rt),
+        )),
+        Err(_) => Err(fault_line(&RunFault::Store)),
+    }
+}
+
+// The exit status of a run, or its line for standard error.
+fn code_of(ended: Result<Status, RunFault>) -> Result<u8, &'static str> {
+    match ended {
         Ok(status) => Ok(status.code()),
         Err(fault) => Err(fault_line(&fault)),
     }

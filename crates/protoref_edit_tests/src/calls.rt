@@ -65,10 +65,21 @@ impl Write for Pipe {
 
 /// A store of one file `a.proto` with this text, and of this journal.
 pub(crate) fn store_of(alloc: Global, text: &str, journal: &str) -> Result<MemoryStore, NoMemory> {
-    let mut files = Vec::new(alloc);
-    let bytes = text.as_bytes().to_vec(alloc)?;
-    files.push((String::from_str(alloc, "a.proto")?, bytes))?;
-    MemoryStore::new(alloc, files, journal.as_bytes().to_vec(alloc)?)
+    store_with(alloc, &[("a.proto", text)], journal)
+}
+
+/// A store of files with these paths and texts, and of this journal.
+pub(crate) fn store_with(
+    alloc: Global,
+    files: &[(&str, &str)],
+    journal: &str,
+) -> Result<MemoryStore, NoMemory> {
+    let mut given = Vec::new(alloc);
+    for (path, text) in files {
+        let bytes = text.as_bytes().to_vec(alloc)?;
+        given.push((String::from_str(alloc, path)?, bytes))?;
+    }
+    MemoryStore::new(alloc, given, journal.as_bytes().to_vec(alloc)?)
 }
 
 /// The rename of a symbol.
@@ -114,13 +125,26 @@ pub(crate) fn expect_held<R: AllocGlobal + Abort>(
     text: &str,
     journal: &str,
 ) -> Result<(), Fail> {
+    expect_files(rt, store, &[("a.proto", text)], journal)
+}
+
+/// The store has files with these paths and texts, in the order of their paths, and no others, and this journal.
+pub(crate) fn expect_files<R: AllocGlobal + Abort>(
+    rt: &R,
+    store: &mut MemoryStore,
+    files: &[(&str, &str)],
+    journal: &str,
+) -> Result<(), Fail> {
     assert!(rt; store.failures() < u64::MAX);
     match all_files(rt.alloc(), store) {
-        Ok(files) => {
-            assert_eq!(rt; files.len(), 1);
-            for (path, bytes) in &files {
-                assert_eq!(rt; path.as_str(), "a.proto");
-                assert!(rt; bytes.as_slice() == text.as_bytes(), "not {text}");
+        Ok(held) => {
+            assert_eq!(rt; held.len(), files.len());
+            for ((path, bytes), (wanted, text)) in held.iter().zip(files) {
+                assert_eq!(rt; path.as_str(), *wanted);
+                assert!(rt;
+                    bytes.as_slice() == text.as_bytes(),
+                    "{wanted} is not {text}"
+                );
             }
         }
         Err(_) => panic!(rt; "no files"),

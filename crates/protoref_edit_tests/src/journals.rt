@@ -1,6 +1,6 @@
 //! Faults of the journal and of the files, before anything is changed.
 
-use crate::calls::{LINE, OPEN_LINE, ROW, expect, expect_held, rename, store_of};
+use crate::calls::{LINE, OPEN_LINE, RENAMED, ROW, expect, expect_held, rename, store_of};
 use protoref_run::{Command, Status};
 use std::process::Abort;
 use std::test::Fail;
@@ -69,21 +69,43 @@ fn names_all_files_of_an_entry(rt: HostRuntime) -> Result<(), Fail> {
     )
 }
 
-// The journal's limit is 16,777,216 bytes, and the line has 127.
+// Of the line of a rename each beginning but the empty one is no journal.
 #[test]
-fn are_full_with_one_entry_more(rt: HostRuntime) -> Result<(), Fail> {
-    let mut journal = String::new(rt.alloc());
-    for _ in 0..132_104 {
-        journal.push_str(LINE)?;
+fn are_none_where_they_are_cut(rt: HostRuntime) -> Result<(), Fail> {
+    let mut cut = String::new(rt.alloc());
+    for next in LINE.chars() {
+        if !cut.is_empty() {
+            let mut store = store_of(rt.alloc(), RENAMED, cut.as_str())?;
+            let line = "journal: 1 BadJournal\n";
+            expect(&rt, Command::Undo, &mut store, line, Status::Problem)?;
+            expect_held(&rt, &mut store, RENAMED, cut.as_str())?;
+        }
+        cut.push(next)?;
     }
-    let mut store = store_of(rt.alloc(), ROW, journal.as_str())?;
-    let edit = rename(rt.alloc(), "A.b_c", "d_e")?;
-    expect(
-        &rt,
-        edit,
-        &mut store,
-        "journal: 5 JournalFull\n",
-        Status::Problem,
-    )?;
-    expect_held(&rt, &mut store, ROW, journal.as_str())
+    Ok(())
+}
+
+// The undo over the line with one word changed.
+#[test]
+fn have_one_spelling(rt: HostRuntime) -> Result<(), Fail> {
+    for (old, new, line) in [
+        ("\"at\":38", "\"at\":37", "refused: 17 Stale\n"),
+        ("\"after\":48", "\"after\":49", "journal: 1 BadJournal\n"),
+        ("\"version\":1", "\"version\":2", "journal: 1 BadJournal\n"),
+        ("done", "open", "journal: 3 OpenEntry\n"),
+        ("{\"files\"", "{ \"files\"", "journal: 1 BadJournal\n"),
+        ("\"at\":38", "\"at\":038", "journal: 1 BadJournal\n"),
+        ("d_e", "d\\u005fe", "journal: 1 BadJournal\n"),
+        ("a.proto", "../a.proto", "journal: 1 BadJournal\n"),
+        ("a.proto", "b.proto", "refused: 17 Stale\n"),
+    ] {
+        let Some((front, back)) = LINE.split_once(old) else {
+            panic!(rt; "no {old}");
+        };
+        let journal = format!(in rt.alloc(); "{front}{new}{back}")?;
+        let mut store = store_of(rt.alloc(), RENAMED, journal.as_str())?;
+        expect(&rt, Command::Undo, &mut store, line, Status::Problem)?;
+        expect_held(&rt, &mut store, RENAMED, journal.as_str())?;
+    }
+    Ok(())
 }

@@ -1,13 +1,21 @@
-//! Tests of the program's edits, undo and log, through the public calls of its crates alone.
+//! Tests of the program's edits, undo, log and recovery, through the public calls of its crates alone.
 #![tactic(auto)]
 
 #[cfg(test)]
 mod calls;
 #[cfg(test)]
+mod full;
+#[cfg(test)]
 mod journals;
 #[cfg(test)]
 mod lines;
 #[cfg(test)]
+mod mended;
+#[cfg(test)]
+mod recoveries;
+#[cfg(test)]
 mod renames;
 #[cfg(test)]
 mod stops;
+#[cfg(test)]
+mod three_files;

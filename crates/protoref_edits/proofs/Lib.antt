@@ -1,2 +1,3 @@
 pub mod Faulted
+mod Recovered
 mod Tellings

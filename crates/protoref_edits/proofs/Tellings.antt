@@ -1,13 +1,14 @@
 -- What is told of a change over files, and what the command then answers.
 use Rattle.std.proofs.Common.{◌≡◌, ℕ, List, [], ◌⊎◌, Option, Some, None, Result, Ok, Err, inl, inr, refl, sym, subst}
-use Rattle.proto_edit.specs.Workspaces.{Asked}
+use Rattle.proto_journal.specs.Workspaces.{Asked}
 use Rattle.proto_entries.specs.Entries.{ChangeOf}
 use Rattle.proto_entries.specs.declared.refusal.Refusal.{Refusal}
 use Rattle.proto_entries.specs.declared.refusal.Refusal.TheVariants as refusal
 use Rattle.proto_files.specs.Faults.{FaultAt, IsLeastFault}
 use Rattle.proto_files.specs.GivenFiles.{FileOf}
-use Rattle.proto_journal.specs.Commits.{CommitOutcome, IsReady}
-use Rattle.proto_journal.specs.Known.{Over}
+use Rattle.proto_journal.specs.Commits.{CommitOutcome}
+use Rattle.proto_recovery.specs.ReadJournals.{IsReady}
+use Rattle.proto_recovery.specs.Known.{Over}
 use Rattle.proto_journal.specs.Loads.{IsUnready}
 use Rattle.proto_journal.specs.Undoing.{UndoOutcome}
 use Rattle.proto_output.specs.Answers.{status_of, text_of}
@@ -26,20 +27,20 @@ use Rattle.proto_schema.specs.Whole.{WorkspaceFaults}
 use Rattle.proto_store.specs.Stores.{Held, HoldsFiles, HoldsJournal}
 use Rattle.protoref_edits.specs.Changes.{AnswersEdit, AnswersUndo, Begins, IsEditCut, IsUndoingCut, MayBegin, of_journal, of_files, of_change}
 use Rattle.protoref_edits.specs.Logs.{AnswersLog, PrintsLog, TellsLog}
-use Rattle.protoref_edits.specs.Told.{CountsAlike, IsNoRefusal, IsTold, TellsOf}
+use Rattle.protoref_edits.specs.Told.{CountsAlike, IsFaultTold, IsNoRefusal, IsTold, Tells, TellsOf}
 use Rattle.protoref_edits.specs.declared.beginning.Beginning.TheVariants as beginning
 
 -- ---- one fault
 
--- a fault that is no refusal is told alike over all files
-pub told_alone : (files : List FileOf) (f : JournalFault) (r : Result Answer RunFault) → IsNoRefusal f → IsTold [] (Err f) r → IsTold files (Err f) r
-told_alone files (fault.Refused x) r plain told = absurd plain
-told_alone files fault.Store (Ok a) plain told = told
-told_alone files fault.Store (Err e) plain told = told
-told_alone files fault.NoMemory (Ok a) plain told = told
-told_alone files fault.NoMemory (Err e) plain told = told
-told_alone files f (Ok a) plain told = told
-told_alone files f (Err e) plain told = told
+-- a fault that is no refusal is told alike, whatever the line of refusals
+pub told_alone : (l m : Refusal → List ℕ) (f : JournalFault) (r : Result Answer RunFault) → IsNoRefusal f → IsFaultTold l f r → IsFaultTold m f r
+told_alone l m (fault.Refused x) r plain told = absurd plain
+told_alone l m fault.Store (Ok a) plain told = told
+told_alone l m fault.Store (Err e) plain told = told
+told_alone l m fault.NoMemory (Ok a) plain told = told
+told_alone l m fault.NoMemory (Err e) plain told = told
+told_alone l m f (Ok a) plain told = told
+told_alone l m f (Err e) plain told = told
 
 -- a fault that has a line
 pub line_told : (files : List FileOf) (f : JournalFault) (a : Answer) → (f ≡ fault.Store → ⊥) → (f ≡ fault.NoMemory → ⊥) → IsNoRefusal f → text_of a ≡ faulty_line f
@@ -128,6 +129,10 @@ undo_told from to seen old new o r h same told = (to, o, h, undo_over from to ol
 
 -- ---- answers
 
+told_tells : (files : List FileOf) (o : Result (List ChangeOf) JournalFault) (a : Answer) → IsTold files o (Ok a) → Tells files o (text_of a) (status_of a)
+told_tells files (Ok entry) a told = told
+told_tells files (Err f) a told = told
+
 commit_cut : (e : Asked) (files to : List FileOf) (before after : Option Held) (o : Result (List ChangeOf) JournalFault) → MayBegin files before
     → CommitOutcome e files to before after o → IsTold files o (Err ends.Store) → IsEditCut e before after
 commit_cut e files to before after (Ok entry) may h told = absurd told
@@ -148,7 +153,7 @@ commit_stays e files to before after (Err (fault.Refused x)) h told = h.0.store
 
 pub edit_answers : (e : Asked) (files : List FileOf) (before after : Option Held) (r : Result Answer RunFault) → MayBegin files before
     → TellsOf (CommitOutcome e) files before after r → AnswersEdit e before after r
-edit_answers e files before after (Ok a) may (to, o, h, told) = of_change files to o may h told
+edit_answers e files before after (Ok a) may (to, o, h, told) = of_change files to o may h (told_tells files o a told)
 edit_answers e files before after (Err ends.Store) may (to, o, h, told) = commit_cut e files to before after o may h told
 edit_answers e files before after (Err ends.NoMemory) may (to, o, h, told) = commit_stays e files to before after o h told
 edit_answers e files before after (Err ends.Output) may (to, o, h, told) = told_unwritten files o told
@@ -173,7 +178,7 @@ undo_stays files to before after (Err (fault.Refused x)) h told = absurd h
 
 pub undo_answers : (files : List FileOf) (before after : Option Held) (r : Result Answer RunFault) → MayBegin files before
     → TellsOf UndoOutcome files before after r → AnswersUndo before after r
-undo_answers files before after (Ok a) may (to, o, h, told) = of_change files to o may h told
+undo_answers files before after (Ok a) may (to, o, h, told) = of_change files to o may h (told_tells files o a told)
 undo_answers files before after (Err ends.Store) may (to, o, h, told) = undoing_cut files to before after o may h told
 undo_answers files before after (Err ends.NoMemory) may (to, o, h, told) = undo_stays files to before after o h told
 undo_answers files before after (Err ends.Output) may (to, o, h, told) = told_unwritten files o told

@@ -1,11 +1,12 @@
 -- What edits and undo print, how they end, and the store then and now: the choice of this program.
 use Rattle.std.specs.Prelude.{◌≡◌, ◌⊎◌, ℕ, List, [], Option, Result, Ok, Err}
-use Rattle.proto_edit.specs.Workspaces.{Asked}
+use Rattle.proto_journal.specs.Workspaces.{Asked}
 use Rattle.proto_entries.specs.Entries.{ChangeOf}
 use Rattle.proto_files.specs.Faults.{FaultAt, IsLeastFault}
 use Rattle.proto_files.specs.GivenFiles.{FileOf}
-use Rattle.proto_journal.specs.Commits.{CommitOutcome, IsCommitCut, IsReady}
-use Rattle.proto_journal.specs.Known.{Over}
+use Rattle.proto_journal.specs.Commits.{CommitOutcome, IsCommitCut}
+use Rattle.proto_recovery.specs.ReadJournals.{IsReady}
+use Rattle.proto_recovery.specs.Known.{Over}
 use Rattle.proto_journal.specs.Loads.{IsUnready, LoadOutcome}
 use Rattle.proto_journal.specs.Undoing.{IsUndoCut, UndoOutcome}
 use Rattle.proto_output.specs.Answers.{IsAnswer, status_of, text_of}

@@ -1,8 +1,9 @@
 -- What is told of the outcome of a change: the choice of this program.
 use Rattle.std.specs.Prelude.{◌≡◌, ℕ, List, Option, Result, Ok, Err}
 use Rattle.proto_entries.specs.Entries.{ChangeOf}
+use Rattle.proto_entries.specs.declared.refusal.Refusal.{Refusal}
 use Rattle.proto_files.specs.GivenFiles.{FileOf}
-use Rattle.proto_journal.specs.Known as known
+use Rattle.proto_recovery.specs.Known as known
 use Rattle.proto_output.specs.Answers.{status_of, text_of}
 use Rattle.proto_output.specs.EditLines.{changed_lines, faulty_line, refused_line}
 use Rattle.proto_output.specs.Ends.{CountsStore}
@@ -15,20 +16,29 @@ use Rattle.proto_records.specs.declared.fault.JournalFault.{JournalFault}
 use Rattle.proto_records.specs.declared.fault.JournalFault.TheVariants as fault
 use Rattle.proto_store.specs.Stores.{Held}
 
--- An entry is told by its files, and a fault by its line. Neither a failed store call nor want of memory has a line.
+-- A fault is told by its line, a refusal by this one. Neither a failed store call nor want of memory has a line.
+abbrev pub TellsFault : (Refusal → List ℕ) → JournalFault → List ℕ → Status → Type 0
+TellsFault line_of (fault.Refused r) text status = (text ≡ line_of r) × (status ≡ Problem)
+TellsFault line_of fault.Store text status = ⊥
+TellsFault line_of fault.NoMemory text status = ⊥
+TellsFault line_of f text status = (text ≡ faulty_line f) × (status ≡ Problem)
+
+-- an entry is told by its files, and a fault by its line
 abbrev pub Tells : List FileOf → Result (List ChangeOf) JournalFault → List ℕ → Status → Type 0
 Tells files (Ok entry) text status = (text ≡ changed_lines entry) × (status ≡ Done)
-Tells files (Err (fault.Refused r)) text status = (text ≡ refused_line files r) × (status ≡ Problem)
-Tells files (Err fault.Store) text status = ⊥
-Tells files (Err fault.NoMemory) text status = ⊥
-Tells files (Err f) text status = (text ≡ faulty_line f) × (status ≡ Problem)
+Tells files (Err f) text status = TellsFault (refused_line files) f text status
 
--- the answer tells of the outcome, or ends with what the outcome ends with; or memory runs out for the line of a fault
+-- the answer tells of the fault, or ends with what the fault is; or memory runs out for its line
+abbrev pub IsFaultTold : (Refusal → List ℕ) → JournalFault → Result Answer RunFault → Type 0
+IsFaultTold line_of f (Ok answer) = TellsFault line_of f (text_of answer) (status_of answer)
+IsFaultTold line_of fault.Store (Err e) = e ≡ ends.Store
+IsFaultTold line_of f (Err e) = e ≡ ends.NoMemory
+
+-- the answer tells of the outcome, and of an entry without fail
 abbrev pub IsTold : List FileOf → Result (List ChangeOf) JournalFault → Result Answer RunFault → Type 0
-IsTold files outcome (Ok answer) = Tells files outcome (text_of answer) (status_of answer)
+IsTold files (Ok entry) (Ok answer) = Tells files (Ok entry) (text_of answer) (status_of answer)
 IsTold files (Ok entry) (Err e) = ⊥
-IsTold files (Err fault.Store) (Err e) = e ≡ ends.Store
-IsTold files (Err f) (Err e) = e ≡ ends.NoMemory
+IsTold files (Err f) result = IsFaultTold (refused_line files) f result
 
 -- a store call whose failure is counted in the outcome is counted in the answer
 abbrev pub CountsAlike : Result (List ChangeOf) JournalFault → Result Answer RunFault → Type 0

@@ -1,7 +1,7 @@
 //! Edits and undo.
 
 ghost use Rattle.std.specs.Prelude.{◌-◌, ◌^◌, ◌<◌};
-ghost use Rattle.proto_edit.specs.Answers.{asked};
+ghost use Rattle.proto_journal.specs.Answers.{asked};
 ghost use Rattle.proto_journal.specs.Commits.{CommitOutcome};
 ghost use Rattle.proto_journal.specs.Undoing.{UndoOutcome};
 ghost use Rattle.proto_output.specs.Ends.{CountsStore};

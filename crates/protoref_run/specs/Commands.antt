@@ -1,21 +1,23 @@
 -- What a command prints, how it ends, and the store then and now: the choice of this program.
 use Rattle.std.specs.Prelude.{◌≡◌, ℕ, List, Option, Result, Ok, Err}
 use Rattle.std.specs.Io.KnownBytes.{Appends, Keeps}
-use Rattle.proto_edit.specs.Answers.{asked}
-use Rattle.proto_journal.specs.Known.{Over}
+use Rattle.protoref_edits.specs.Answers.{asked}
+use Rattle.proto_recovery.specs.Known.{Over}
 use Rattle.proto_output.specs.Answers.{IsAnswer}
 use Rattle.proto_output.specs.Writing.{AppendsBeginning}
 use Rattle.proto_output.specs.declared.answer.Answer.{Answer}
 use Rattle.proto_output.specs.declared.run_fault.RunFault.{RunFault}
 use Rattle.proto_output.specs.declared.run_fault.RunFault.TheVariants.{Store, NoMemory, Output}
 use Rattle.proto_output.specs.declared.status.Status.{Status}
+use Rattle.proto_recovery.specs.Recovery.{IsRecoveryCut}
 use Rattle.proto_store.specs.Stores.{Held}
 use Rattle.protoref_edits.specs.Changes.{IsEditCut, IsUndoingCut, PrintsEdit, PrintsUndo}
 use Rattle.protoref_edits.specs.Logs.{PrintsLogOf}
+use Rattle.protoref_edits.specs.Recoveries.{PrintsRecovery}
 use Rattle.protoref_run.specs.Linted.{PrintsLinted}
 use Rattle.protoref_run.specs.Printed.{PrintsCompiled}
 use Rattle.protoref_run.specs.declared.command.Command.{Command}
-use Rattle.protoref_run.specs.declared.command.Command.TheVariants.{Compile, Lint, Edit, Undo, Log}
+use Rattle.protoref_run.specs.declared.command.Command.TheVariants.{Compile, Lint, Edit, Undo, Log, Recover}
 
 -- the text that a command prints over a store, the status that it ends with, and the store then and now
 abbrev pub Answered : Command → Option Held → Option Held → List ℕ → Status → Type 0
@@ -24,11 +26,13 @@ Answered (Lint rules) before after text status = (after ≡ before) × Over befo
 Answered (Edit edit) before after text status = PrintsEdit (asked edit) before after text status
 Answered Undo before after text status = PrintsUndo before after text status
 Answered Log before after text status = PrintsLogOf before after text status
+Answered Recover before after text status = PrintsRecovery before after text status
 
--- where a store call failed: the store is as before, or as an edit or an undo that was cut leaves it
+-- where a store call failed: the store is as before, or as an edit, an undo or a recovery that was cut leaves it
 abbrev pub IsCut : Command → Option Held → Option Held → Type 0
 IsCut (Edit edit) before after = IsEditCut (asked edit) before after
 IsCut Undo before after = IsUndoingCut before after
+IsCut Recover before after = IsRecoveryCut before after
 IsCut _ before after = after ≡ before
 
 abbrev pub Answers : Command → Option Held → Option Held → Result Answer RunFault → Type 0

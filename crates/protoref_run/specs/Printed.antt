@@ -4,7 +4,7 @@ use Rattle.proto_desc.specs.Checked.{described}
 use Rattle.proto_files.specs.Faults.{FaultAt, HasNoFault, IsLeastFault}
 use Rattle.proto_files.specs.FilesRead.{ReadOf, AreRead}
 use Rattle.proto_files.specs.GivenFiles.{FileOf}
-use Rattle.proto_journal.specs.Known.{Over}
+use Rattle.proto_recovery.specs.Known.{Over}
 use Rattle.proto_json.specs.DescriptorText.{json_text}
 use Rattle.proto_output.specs.Answers.{status_of, text_of}
 use Rattle.proto_output.specs.FaultLines.{IsLine}

@@ -1,7 +1,7 @@
 //! What is asked for.
 
-use proto_edit::Edit;
 use proto_lint::RuleSet;
+use protoref_edits::Edit;
 
 /// What is asked for.
 #[derive(Drop)]
@@ -16,4 +16,6 @@ pub enum Command {
     Undo,
     /// The entries of the journal.
     Log,
+    /// A torn store brought back to before the last entry of its journal.
+    Recover,
 }

@@ -57,6 +57,7 @@ fn request_of(alloc: Global, matches: &ArgMatches<'_>) -> Result<Request, WordsF
         "add-import" | "drop-import" => edit_of_import(alloc, command, matches, root),
         "undo" => Ok(Request::Undo { root }),
         "log" => Ok(Request::Log { root }),
+        "recover" => Ok(Request::Recover { root }),
         _ => Err(WordsFault::BadCommandLine),
     }
 }

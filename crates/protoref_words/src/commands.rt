@@ -58,7 +58,7 @@ fn with_edits<'a>(alloc: Global, program: Command<'a>) -> Result<Command<'a>, No
 
 fn with_journal<'a>(alloc: Global, program: Command<'a>) -> Result<Command<'a>, NoMemory> {
     let program = program.subcommand(undo(alloc)?)?.subcommand(log(alloc)?)?;
-    Ok(program)
+    Ok(program.subcommand(recover(alloc)?)?)
 }
 
 fn compile<'a>(alloc: Global) -> Result<Command<'a>, NoMemory> {
@@ -145,6 +145,14 @@ fn log<'a>(alloc: Global) -> Result<Command<'a>, NoMemory> {
     let command = Command::new(alloc, "log")
         .about("Prints the entries of the journal, with the files that each of them changed")
         .after_help("Example: protoref log schemas")
+        .arg(root_argument(alloc))?;
+    Ok(command)
+}
+
+fn recover<'a>(alloc: Global) -> Result<Command<'a>, NoMemory> {
+    let command = Command::new(alloc, "recover")
+        .about("Takes back what an edit or an undo left that was cut off in its midst")
+        .after_help("Example: protoref recover schemas")
         .arg(root_argument(alloc))?;
     Ok(command)
 }

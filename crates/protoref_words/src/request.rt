@@ -52,6 +52,10 @@ pub enum Request {
     Log {
         root: String,
     },
+    /// A torn folder brought back to before the last entry of its journal.
+    Recover {
+        root: String,
+    },
 }
 
 /// Why the words ask for nothing. Want of memory is never told as a bad command line.

@@ -102,7 +102,7 @@ fn refuses_rules_and_commands_that_are_not_there(rt: HostRuntime) -> Result<(), 
             "protoref lint . --help",
             "protoref lint . -x",
             "protoref lint -- . IMPORT_USED",
-            "protoref recover .",
+            "protoref Recover .",
             "protoref migrate .",
             "protoref Rename . A B",
             "protoref delete_field . A",
@@ -125,11 +125,23 @@ fn refuses_edits_with_too_few_or_too_many_words(rt: HostRuntime) -> Result<(), F
             "protoref add-import . a.proto b.proto c.proto",
             "protoref drop-import . a.proto",
             "protoref drop-import . a.proto b.proto c.proto",
+        ],
+    )
+}
+
+#[test]
+fn refuses_other_words_behind_a_root(rt: HostRuntime) -> Result<(), Fail> {
+    expect_refused(
+        &rt,
+        &[
             "protoref undo",
             "protoref undo . .",
             "protoref undo . --help",
             "protoref log",
             "protoref log . 1",
+            "protoref recover",
+            "protoref recover . .",
+            "protoref recover . --help",
         ],
     )
 }
@@ -148,6 +160,7 @@ fn told(alloc: Global, request: &Request) -> Result<Option<String>, Fail> {
         }
         Request::Undo { root } => format!(in alloc; "undo|{root}")?,
         Request::Log { root } => format!(in alloc; "log|{root}")?,
+        Request::Recover { root } => format!(in alloc; "recover|{root}")?,
         _ => return Ok(None),
     };
     Ok(Some(text))
@@ -208,10 +221,22 @@ fn takes_the_words_of_edits_as_they_stand(rt: HostRuntime) -> Result<(), Fail> {
                 "protoref drop-import . a.proto b.proto",
                 "drop-import|.|a.proto|b.proto",
             ),
+        ],
+    )
+}
+
+#[test]
+fn takes_the_roots_of_journals_as_they_stand(rt: HostRuntime) -> Result<(), Fail> {
+    expect_told(
+        &rt,
+        &[
             ("protoref undo .", "undo|."),
             ("protoref undo undo", "undo|undo"),
             ("protoref log -l", "log|-l"),
             ("protoref log --", "log|--"),
+            ("protoref recover .", "recover|."),
+            ("protoref recover -r", "recover|-r"),
+            ("protoref recover recover", "recover|recover"),
         ],
     )
 }
@@ -246,6 +271,7 @@ fn gives_help(rt: HostRuntime) -> Result<(), Fail> {
         "protoref drop-import -h",
         "protoref undo --help",
         "protoref log -h",
+        "protoref recover --help",
     ];
     expect_help(&rt, &lines, "Usage: protoref")
 }
@@ -261,6 +287,7 @@ fn gives_an_example_of_each_command(rt: HostRuntime) -> Result<(), Fail> {
         "drop-import",
         "undo",
         "log",
+        "recover",
     ] {
         let line = format!(in rt.alloc(); "protoref {command} -h")?;
         let wanted = format!(in rt.alloc(); "Example: protoref {command} ")?;

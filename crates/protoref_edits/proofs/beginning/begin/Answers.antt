@@ -1,7 +1,7 @@
 use Rattle.std.proofs.Common.{sym, subst}
 use Rattle.std.specs.Prelude.{IfOk, Option}
-use Rattle.proto_journal.specs.Commits.{IsReady}
-use Rattle.proto_journal.specs.Known.{Over}
+use Rattle.proto_recovery.specs.ReadJournals.{IsReady}
+use Rattle.proto_recovery.specs.Known.{Over}
 use Rattle.proto_store.specs.Stores.{Held}
 use Rattle.protoref_edits.specs.Changes.{Begins}
 use Rattle.protoref_edits.proofs.Tellings.{not_ready}

@@ -1,4 +1,4 @@
-use Rattle.proto_edit.specs.Answers.{asked}
+use Rattle.proto_journal.specs.Answers.{asked}
 use Rattle.protoref_edits.proofs.Tellings.{commit_told}
 use Rattle.protoref_edits.proofs.changing.committed.Goals as goal
 

@@ -1,7 +1,7 @@
 use Rattle.std.proofs.Common.{Result, Err, ap, sym, subst}
 use Rattle.std.specs.Prelude.{Option}
 use Rattle.std.proofs.lemmas.Result.{err_from_is_err_and}
-use Rattle.proto_edit.specs.Answers.{asked}
+use Rattle.proto_journal.specs.Answers.{asked}
 use Rattle.proto_journal.specs.Commits.{CommitOutcome}
 use Rattle.proto_output.specs.declared.run_fault.RunFault.{RunFault}
 use Rattle.proto_store.specs.Stores.{Held, HoldsFiles}

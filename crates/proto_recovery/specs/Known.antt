@@ -24,3 +24,9 @@ CountsFault before after _ = after ≡ before
 abbrev pub CountsStore : {T : Type 0} → ℕ → ℕ → Result T JournalFault → Type 0
 CountsStore before after (Ok value) = after ≡ before
 CountsStore before after (Err f) = CountsFault before after f
+
+-- no call of the store failed, and memory was there
+abbrev pub IsSettled : {T : Type 0} → Result T JournalFault → Type 0
+IsSettled (Err fault.Store) = ⊥
+IsSettled (Err fault.NoMemory) = ⊥
+IsSettled _ = Unit {0}

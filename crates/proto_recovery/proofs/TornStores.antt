@@ -1,4 +1,4 @@
--- A store that is torn between the files before and after an entry: each file of the entry is as before or as after it.
+-- Public for the crates above. A store that is torn between the files before and after an entry: each file of the entry is as before or as after it.
 use Rattle.std.proofs.Common.{arith, ◌≡◌, ◌⊎◌, inl, inr, ℕ, ◌+◌, ◌-◌, ◌≤◌, Bool, true, false, cond, List, [], ◌∷◌, length, Some, refl, sym, ap, ◌∙◌, subst}
 use Rattle.std.specs.Prelude.{sum_by}
 use Rattle.std.specs.List.{Contains}
@@ -13,19 +13,19 @@ use Rattle.proto_entries.specs.Putting.{EachPuts, IsPut}
 use Rattle.proto_entries.proofs.Puts.{IsEven, contains_none, entries_lead_back, put_back}
 use Rattle.proto_records.specs.declared.record.Record.{Record}
 use Rattle.proto_store.specs.Stores.{Held, bytes_at}
-use Rattle.proto_journal.specs.Laws.{TornBetweenIsTorn, TornUndoIsTorn}
-use Rattle.proto_journal.specs.Torn.{IsAsBefore, IsEitherWay, IsTorn, IsTornBetween}
+use Rattle.proto_recovery.specs.Laws.{TornBetweenIsTorn}
+use Rattle.proto_recovery.specs.Torn.{IsAsBefore, IsEitherWay, IsTorn, IsTornBetween}
 
 -- ---- the file of a change
 
 -- what stands at the path of a change, before and after
-record IsAt (c : ChangeOf) (w after : List FileOf) : Type 0 where
-  old : List ℕ
-  new : List ℕ
-  before_it : bytes_at c.path w ≡ Some old
-  after_it : bytes_at c.path after ≡ Some new
-  len : length old ≡ c.before
-  puts : Puts 0 old c.splices new
+pub record IsAt (c : ChangeOf) (w after : List FileOf) : Type 0 where
+  pub old : List ℕ
+  pub new : List ℕ
+  pub before_it : bytes_at c.path w ≡ Some old
+  pub after_it : bytes_at c.path after ≡ Some new
+  pub len : length old ≡ c.before
+  pub puts : Puts 0 old c.splices new
 
 at_first : (c : ChangeOf) (f : FileOf) (fs : List FileOf) → bytes_eq c.path f.path ≡ true → bytes_at c.path (f ∷ fs) ≡ Some f.bytes
 at_first c f fs e = ap (λ (b : Bool). cond b (Some f.bytes) (bytes_at c.path fs)) e
@@ -58,12 +58,12 @@ found cs c (g ∷ gs) (h ∷ hs) f k p has path = go (bytes_eq c.path g.path) re
         let r : IsAt c gs hs = rest (behind e) in
         record { old = r.old; new = r.new; before_it = at_later c g gs e ∙ r.before_it; after_it = at_later c h hs (there false e) ∙ r.after_it; len = r.len; puts = r.puts }
 
-put_at : (cs : List ChangeOf) (c : ChangeOf) (w after : List FileOf) → Contains cs c → IsPut w cs after → IsAt c w after
+pub put_at : (cs : List ChangeOf) (c : ChangeOf) (w after : List FileOf) → Contains cs c → IsPut w cs after → IsAt c w after
 put_at cs c w after k p = let t = p.there c k in found cs c w after t.0 k p.each t.1 t.2
 
 -- ---- as before, or as after
 
-as_before : (c : ChangeOf) (w after : List FileOf) (x : IsAt c w after) → IsAsBefore c x.old
+pub as_before : (c : ChangeOf) (w after : List FileOf) (x : IsAt c w after) → IsAsBefore c x.old
 as_before c w after x = record { len = x.len; new = x.new; puts = x.puts }
 
 -- torn between two lists of files, of which the one leads to the other by the changes, and this one back by those turned round
@@ -74,7 +74,7 @@ either_way c before after files x y b = elim b [
   | inr e ↦ record { text = y.old; there = e ∙ y.before_it; either = inr (as_before (turned_round c) after before y) }
 ]
 
-torn_at : (records : List Record) (entry : List ChangeOf) (before after : List FileOf) (held : Held) → IsPut before entry after → IsPut after (inverted entry) before
+pub torn_at : (records : List Record) (entry : List ChangeOf) (before after : List FileOf) (held : Held) → IsPut before entry after → IsPut after (inverted entry) before
     → IsTornBetween records entry before after held → IsTorn records entry held
 torn_at records entry before after held put back torn = record {
   journal = torn.journal;
@@ -92,7 +92,7 @@ twice_edit to from e le =
     let place : from + ((to + (e.at - from)) - to) ≡ e.at = omega arith in
     ap (λ (n : ℕ). let x : Edit = record { at = n; old = e.old; new = e.new } in x) place
 
-twice_from : (to from : ℕ) (es : List Edit) → AreShort to from es → inverse_from from to (inverse_from to from es) ≡ es
+pub twice_from : (to from : ℕ) (es : List Edit) → AreShort to from es → inverse_from from to (inverse_from to from es) ≡ es
 twice_from to from [] h = refl
 twice_from to from (e ∷ es) h =
     let place : from + ((to + (e.at - from)) - to) ≡ e.at = omega (arith, h.0) in
@@ -121,7 +121,7 @@ new_turned : (to from : ℕ) (es : List Edit) → new_len (inverse_from to from 
 new_turned to from [] = refl
 new_turned to from (e ∷ es) = ap (λ (n : ℕ). length e.old + n) (new_turned ((to + (e.at - from)) + length e.new) (e.at + length e.old) es)
 
-even_turned : (c : ChangeOf) → IsEven c → IsEven (turned_round c)
+pub even_turned : (c : ChangeOf) → IsEven c → IsEven (turned_round c)
 even_turned c even = ap (λ (n : ℕ). c.before + n) (old_turned 0 0 c.splices) ∙ sym even ∙ ap (λ (n : ℕ). c.after + n) (sym (new_turned 0 0 c.splices))
 
 sum_old : (es : List Edit) → old_len es ≡ sum_by (λ e. length e.old) es
@@ -132,19 +132,16 @@ sum_new : (es : List Edit) → new_len es ≡ sum_by (λ e. length e.new) es
 sum_new [] = refl
 sum_new (e ∷ es) = ap (λ (n : ℕ). length e.new + n) (sum_new es) ∙ sym (sum_by-cons (λ (x : Edit). length x.new) e es)
 
-measured_is_even : (c : ChangeOf) → IsChange c → IsEven c
+pub measured_is_even : (c : ChangeOf) → IsChange c → IsEven c
 measured_is_even c h = ap (λ (n : ℕ). c.after + n) (sum_old c.splices) ∙ h.measured.lengths.lengths ∙ ap (λ (n : ℕ). c.before + n) (sym (sum_new c.splices))
 
-change_in : (entry : List ChangeOf) → IsEntry entry → (c : ChangeOf) → Contains entry c → IsChange c
+pub change_in : (entry : List ChangeOf) → IsEntry entry → (c : ChangeOf) → Contains entry c → IsChange c
 change_in entry is c k = subst IsChange k.2 (is.each k.0 c k.1)
 
 -- what an undo leaves leads forth again
-leads_forth : (entry : List ChangeOf) (before after : List FileOf) → IsEntry entry → IsPut after (inverted entry) before → IsPut before entry after
+pub leads_forth : (entry : List ChangeOf) (before after : List FileOf) → IsEntry entry → IsPut after (inverted entry) before → IsPut before entry after
 leads_forth entry before after is put =
     let even : (d : ChangeOf) → Contains (inverted entry) d → IsEven d = λ d k. (
     let c = from_map turned_round entry d k in
     subst IsEven c.2 (even_turned c.0 (measured_is_even c.0 (change_in entry is c.0 c.1)))) in
     subst (λ (cs : List ChangeOf). IsPut before cs after) (all_twice entry (λ c k. (change_in entry is c k).measured.ordered)) (put_back after (inverted entry) before even put)
-
-pub torn_undo_is_torn : TornUndoIsTorn
-torn_undo_is_torn records entry before after held is undo torn = torn_at records entry before after held (leads_forth entry before after is undo.put) undo.put torn

@@ -1,0 +1,74 @@
+-- A commit or an undo that was cut off, and then recovered, is made wholly or not at all.
+use Rattle.std.proofs.Common.{◌≡◌, inl, inr, ℕ, Bool, false, List, [], ◌∷◌, ◌++◌, Option, Some, Result, Ok, refl, sym, ap, ◌∙◌, subst}
+use Rattle.std.specs.List.Sorted.{IsStrictlySortedBy}
+use Rattle.std.specs.Cmp.Lexicographic.{slice_cmp}
+use Rattle.std.specs.Ordering.{nat_cmp}
+use Rattle.proto_files.specs.GivenFiles.{FileOf, paths_of}
+use Rattle.proto_entries.specs.Entries.{ChangeOf, IsEntry}
+use Rattle.proto_records.specs.declared.fault.JournalFault.{JournalFault}
+use Rattle.proto_records.specs.declared.record.Record.{Record}
+use Rattle.proto_records.specs.Journals.{IsJournal, done, opened}
+use Rattle.proto_records.specs.Laws.{JournalsShrink}
+use Rattle.proto_store.specs.Stores.{AreInPathOrder, Held}
+use Rattle.proto_recovery.specs.Known.{IsSettled}
+use Rattle.proto_recovery.specs.Laws.{RecoveriesAreOne, TornComesBack}
+use Rattle.proto_recovery.specs.ReadJournals.{IsReady}
+use Rattle.proto_recovery.specs.Recovery.{RecoverOutcome}
+use Rattle.proto_recovery.specs.Torn.{Keeps}
+use Rattle.proto_recovery.proofs.TornStores.{leads_forth}
+use Rattle.proto_journal.specs.Commits.{IsCommitted}
+use Rattle.proto_journal.specs.Laws.{CutCommitsComeBack, CutUndosComeBack}
+use Rattle.proto_journal.specs.Undoing.{IsUndone}
+use Rattle.proto_journal.proofs.Grown.{last_record}
+use Rattle.proto_journal.proofs.PutPaths.{put_paths, undo_paths}
+use Rattle.proto_journal.proofs.Recorded.{last_of}
+
+some_held : (a b : Held) → Some a ≡ Some b → a ≡ b
+some_held a b e = cc
+
+in_order : (old new : List FileOf) → paths_of new ≡ paths_of old → AreInPathOrder old → AreInPathOrder new
+in_order old new e order = subst (λ (l : List (List ℕ)). IsStrictlySortedBy (slice_cmp nat_cmp) l) (sym e) order
+
+same_held : (n m : Held) → n.files ≡ m.files → n.journal ≡ m.journal → n ≡ m
+same_held n m p q = λ i. record { files = p i; journal = q i }
+
+entry_is : (records : List Record) (entry : List ChangeOf) (journal : List ℕ) → IsJournal journal (records ++ opened entry ∷ []) → IsEntry entry
+entry_is records entry journal j = (last_record records (opened entry) j.entries).entry
+
+closed_with : (files : List FileOf) (records : List Record) (entry : List ChangeOf) (held : Held) → Keeps files (records ++ done entry ∷ []) held → IsReady held
+closed_with files records entry held k = (records ++ done entry ∷ [], record { journal = k.journal; closed = last_of records (done entry) })
+
+module _ (one : RecoveriesAreOne) (comes_back : TornComesBack) where
+  -- a store of which no entry is open stays
+  ready_stays : (held : Held) (new : Option Held) (a : Result Bool JournalFault) → AreInPathOrder held.files → IsReady held → IsSettled a → RecoverOutcome (Some held) new a → new ≡ Some held
+  ready_stays held new a order ready s o = (one held new (Some held) a (Ok false) order s tt o (refl, ready)).1
+
+  -- what has the files and the records of a store is that store
+  is_old : (from : List FileOf) (records : List Record) (old now : Held) → from ≡ old.files → IsJournal old.journal records → Keeps from records now → now ≡ old
+  is_old from records old now same j k = same_held now old (k.has ∙ same) (k.journal.text ∙ sym j.text)
+
+  pub cut_commits_come_back : CutCommitsComeBack
+  cut_commits_come_back e from to old cut new a order same ready (stay, inl unchanged) s o =
+      inl (ready_stays old new a order ready s (subst (λ (z : Option Held). RecoverOutcome z new a) unchanged o))
+  cut_commits_come_back e from to old cut new a order same ready (stay, inr (entry, made, step, (records, was, inl torn))) s o =
+      let from_order : AreInPathOrder from = subst AreInPathOrder (sym same) order in
+      let back = comes_back records entry from made cut new a from_order (entry_is records entry cut.journal torn.journal) step.step.put torn s o in
+      inl (back.2 ∙ ap (λ (h : Held). Some h) (is_old from records old back.1 same was.journal back.3))
+  cut_commits_come_back e from to old cut new a order same ready (stay, inr (entry, made, step, (records, was, inr keeps))) s o =
+      let made_order : AreInPathOrder cut.files = in_order old.files cut.files (ap paths_of keeps.has ∙ put_paths from made entry step.step.put ∙ ap paths_of same) order in
+      let stays : new ≡ Some cut = ready_stays cut new a made_order (closed_with made records entry cut keeps) s o in
+      inr (entry, made, subst (λ (z : Option Held). IsCommitted e entry from made (Some old) z) (sym stays) (record { step = step; store = (records, was, keeps) }))
+
+  pub cut_undos_come_back : JournalsShrink → CutUndosComeBack
+  cut_undos_come_back shrink from to old cut new a order same ready (stay, inl unchanged) s o =
+      inl (ready_stays old new a order ready s (subst (λ (z : Option Held). RecoverOutcome z new a) unchanged o))
+  cut_undos_come_back shrink from to old cut new a order same ready (stay, inr (entry, made, undo, (records, ends, inl torn))) s o =
+      let is : IsEntry entry = entry_is records entry cut.journal torn.journal in
+      let made_order : AreInPathOrder made = in_order old.files made (undo_paths from made entry undo ∙ ap paths_of same) order in
+      let back = comes_back records entry made from cut new a made_order is (leads_forth entry made from is undo.put) torn s o in
+      inr (entry, made, subst (λ (z : Option Held). IsUndone entry from made (Some old) z) (sym back.2) (record { files = undo; store = (records, ends, back.3) }))
+  cut_undos_come_back shrink from to old cut new a order same ready (stay, inr (entry, made, undo, (records, ends, inr keeps))) s o =
+      let made_order : AreInPathOrder cut.files = in_order old.files cut.files (ap paths_of keeps.has ∙ undo_paths from made entry undo ∙ ap paths_of same) order in
+      let closed : IsReady cut = (records, record { journal = keeps.journal; closed = (shrink old.journal records (done entry) ends).1 }) in
+      let stays : new ≡ Some cut = ready_stays cut new a made_order closed s o in
+      inr (entry, made, subst (λ (z : Option Held). IsUndone entry from made (Some old) z) (sym stays) (record { files = undo; store = (records, ends, keeps) }))
