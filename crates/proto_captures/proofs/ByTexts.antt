@@ -32,7 +32,7 @@ plain_last : (x : List (List ℕ)) (w : List ℕ) → ArePlain (x ++ w ∷ []) �
 plain_last [] w p = p.0
 plain_last (v ∷ x) w p = plain_last x w p.1
 
-below_is : (S : List (List ℕ)) (v : List ℕ) → S ≢ [] → below (joined S) v ≡ joined (S ++ v ∷ [])
+pub below_is : (S : List (List ℕ)) (v : List ℕ) → S ≢ [] → below (joined S) v ≡ joined (S ++ v ∷ [])
 below_is [] v h = absurd (h refl)
 below_is (s ∷ []) v h = refl
 below_is (s ∷ t ∷ S) v h = append_assoc s (46 ∷ joined (t ∷ S)) (46 ∷ v) ∙ ap (λ z. s ++ 46 ∷ z) (below_is (t ∷ S) v not_nil)
@@ -40,7 +40,7 @@ below_is (s ∷ t ∷ S) v h = append_assoc s (46 ∷ joined (t ∷ S)) (46 ∷ 
     not_nil : t ∷ S ≡ [] → ⊥
     not_nil z = cc
 
-named_at : (l : LinkOf) (row : ℕ) (text : List ℕ) → text_at l row ≡ Some text → (n : NameOf) × (name_at l row ≡ Some n) × (n.text ≡ text)
+pub named_at : (l : LinkOf) (row : ℕ) (text : List ℕ) → text_at l row ≡ Some text → (n : NameOf) × (name_at l row ≡ Some n) × (n.text ≡ text)
 named_at l row text h = go (name_at l row) refl h
   where
     go : (o : Option NameOf) → name_at l row ≡ o → option_map (λ n. n.text) o ≡ Some text → (n : NameOf) × (name_at l row ≡ Some n) × (n.text ≡ text)

@@ -27,12 +27,12 @@ use Rattle.proto_captures.proofs.ByTexts.{plain_join, shown_is, target_plain, te
 use Rattle.proto_captures.proofs.FrontLengths.{before_first, deeper, joined_begins, not_deeper, scan_from, scan_to}
 use Rattle.proto_captures.proofs.NewlyShown.{same_truth, shown_is_anew}
 
-plain_take : (xs : List (List ℕ)) (k : ℕ) → ArePlain xs → ArePlain (take k xs)
+pub plain_take : (xs : List (List ℕ)) (k : ℕ) → ArePlain xs → ArePlain (take k xs)
 plain_take xs zero p = tt
 plain_take [] (suc k) p = tt
 plain_take (x ∷ xs) (suc k) p = (p.0, plain_take xs k p.1)
 
-taken : (xs : List (List ℕ)) (j : ℕ) → 0 < j → j ≤ length xs → take j xs ≢ []
+pub taken : (xs : List (List ℕ)) (j : ℕ) → 0 < j → j ≤ length xs → take j xs ≢ []
 taken xs j some within e = (let l = length-take-le j xs within in let n = ap length e in omega (arith, l, n, some))
 
 new_from : (e : Renaming) (q : List ℕ) → is_new_word (texts_for e) q ≡ true → IsNewWord e q

@@ -45,7 +45,7 @@ use Rattle.proto_captures.proofs.PlainWords.{has_scope, scope_plain}
 
 -- ---- references and their files
 
-use_there : (n : ℕ) (rs : List ReadOf) (k : ℕ) (u : Used ℕ) → k < length rs → Contains (names_in (read_at rs k)).used u → Contains (all_used n (map names_in rs)) (used_in (n + k) u)
+pub use_there : (n : ℕ) (rs : List ReadOf) (k : ℕ) (u : Used ℕ) → k < length rs → Contains (names_in (read_at rs k)).used u → Contains (all_used n (map names_in rs)) (used_in (n + k) u)
 use_there n [] k u l c = absurd (omega (arith, l))
 use_there n (x ∷ rs) zero u l c =
     let zero_is : n ≡ n + 0 = omega arith in

@@ -9,7 +9,7 @@ use Rattle.proto_text.proofs.Lists.{same_from_word, word_from_same}
 use Rattle.proto_names.specs.Linking.{LinkOf, NameOf, name_at, text_at}
 use Rattle.proto_captures.specs.ShownTexts.{kind_named}
 
-found_at : (ns : List NameOf) (text : List ℕ) (row : ℕ) → option_map (λ n. n.text) (slice_get ns row) ≡ Some text → ((i : ℕ) → option_map (λ n. n.text) (slice_get ns i) ≡ Some text → i ≡ row)
+pub found_at : (ns : List NameOf) (text : List ℕ) (row : ℕ) → option_map (λ n. n.text) (slice_get ns row) ≡ Some text → ((i : ℕ) → option_map (λ n. n.text) (slice_get ns i) ≡ Some text → i ≡ row)
     → find (λ n. bytes_eq n.text text) ns ≡ slice_get ns row
 found_at [] text row h once = absurd (none-some text h)
 found_at (n ∷ ns) text zero h once = cond-true (bytes_eq n.text text) (Some n) (find (λ n. bytes_eq n.text text) ns) (same_from_word n.text text (same_Some n.text text h))
@@ -20,7 +20,7 @@ found_at (n ∷ ns) text (suc row) h once = elim (cases_Bool (bytes_eq n.text te
       ∙ found_at ns text row h (λ i e. let z = once (suc i) e in omega (arith, z))
 ]
 
-found_none : (ns : List NameOf) (text : List ℕ) → ((i : ℕ) → option_map (λ n. n.text) (slice_get ns i) ≢ Some text) → find (λ n. bytes_eq n.text text) ns ≡ None
+pub found_none : (ns : List NameOf) (text : List ℕ) → ((i : ℕ) → option_map (λ n. n.text) (slice_get ns i) ≢ Some text) → find (λ n. bytes_eq n.text text) ns ≡ None
 found_none [] text none = refl
 found_none (n ∷ ns) text none = elim (cases_Bool (bytes_eq n.text text)) [
   | inl same ↦ absurd (none 0 (ap Some (word_from_same n.text text same)))

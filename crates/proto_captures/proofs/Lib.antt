@@ -2,10 +2,15 @@ mod AllFiles
 mod ByTexts
 mod CapturedWords
 mod FileCaptures
+mod FileOvertaken
 mod FirstOnes
 mod FrontLengths
 mod KindNamed
 mod NewlyShown
+mod Overtaken
+mod PackageSets
+mod PackagesSeen
 mod PlainWords
 mod ScopePaths
+mod SeenTexts
 mod UsesByTexts

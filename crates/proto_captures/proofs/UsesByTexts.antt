@@ -10,7 +10,8 @@ use Rattle.proto_meaning.specs.Skeleton.{name_of}
 use Rattle.proto_names.specs.Linking.{LinkOf}
 use Rattle.proto_captures.specs.Capturing.{bytes_before, captures_use, first_now, is_cons, shown_from}
 use Rattle.proto_captures.specs.NewTexts.{NewTexts, is_new_word}
-use Rattle.proto_captures.specs.ShownTexts.{shown_below}
+use Rattle.proto_captures.specs.Overtaking.{overtakes_use, sees_text}
+use Rattle.proto_captures.specs.ShownTexts.{below, shown_below}
 
 pub cons_is : {A B : Type 0} (f : A → B) (xs : List A) (b : Bool) → b ≡ (length xs == 0) → not b ≡ is_cons (map f xs)
 cons_is f [] b e = ap not e
@@ -38,3 +39,24 @@ module _ (l : LinkOf) (file : ℕ) (n : NewTexts) (text : ℕ → List ℕ) (dec
       ∙ ap (λ z. shown (is_cons rest) (first_now n meaning size start) (size - length start) z) s
       ∙ ap (λ z. z && shown (is_cons rest) (first_now n meaning size start) (size - length start) names) (sym (ap (is_new_word n) (sym word_is) ∙ new))
       ∙ ap (λ z. not z && (is_new_word n (first_now n meaning size start) && shown (is_cons rest) (first_now n meaning size start) (size - length start) names)) (sym relative)
+
+-- the same of a reference that is overtaken
+module _ (l : LinkOf) (marks : List Bool) (packages : List ℕ → Bool) (text : ℕ → List ℕ) (declared : List Listed) (u : Use) (meaning : List ℕ) where
+  abbrev behind : List (List ℕ)
+  behind = map (λ b. text b.item) u.reference.now.words.rest
+
+  abbrev seen : Bool → List ℕ → ℕ → List (List ℕ) → Bool
+  seen is_long word least scope = shown_from (λ front. sees_text l marks packages is_long (below front word)) least [] scope
+
+  pub overtakes_is : (len least : ℕ) (first : List ℕ) (is_long : Bool) (scope : List (List ℕ)) → is_some u.reference.now.dot ≡ false → first ≡ text u.reference.now.words.first
+      → len ≡ bytes_before (length meaning) behind → is_long ≡ is_cons behind → least ≡ len - length first → scope ≡ name_of text entry_name (path_of (read declared) u.scope)
+      → seen is_long first least scope ≡ overtakes_use l marks packages text declared u meaning
+  overtakes_is len least first is_long scope relative f b long ll s =
+      let start = text u.reference.now.words.first in
+      let size = bytes_before (length meaning) behind in
+      let names = name_of text entry_name (path_of (read declared) u.scope) in
+      ap (λ z. seen z first least scope) long
+      ∙ ap (λ z. seen (is_cons behind) z least scope) f
+      ∙ ap (λ z. seen (is_cons behind) start z scope) (ll ∙ ap (λ z. z - length first) b ∙ ap (λ z. size - length z) f)
+      ∙ ap (λ z. seen (is_cons behind) start (size - length start) z) s
+      ∙ ap (λ z. not z && seen (is_cons behind) start (size - length start) names) (sym relative)

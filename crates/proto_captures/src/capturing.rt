@@ -20,7 +20,7 @@ use proto_tree::Behind;
 use std::alloc::Global;
 
 /// How long the text is before these words, each with a dot before it.
-fn bytes_before(words: &Words, behind: &[Behind<u32>], len: usize) -> usize
+pub(crate) fn bytes_before(words: &Words, behind: &[Behind<u32>], len: usize) -> usize
     ensures { result ≡ bytes_before len (map (λ b. word_at words.now b.item) behind.now) }
 {
     let mut left = len;
@@ -49,7 +49,7 @@ fn first_now<'a>(names: &NewNames<'a>, meaning: &str, len: usize, first: &'a str
 }
 
 /// Adds a word right below a name.
-fn extend(name: &mut String, word: &str) -> Result<(), NoMemory>
+pub(crate) fn extend(name: &mut String, word: &str) -> Result<(), NoMemory>
     ensures { OnOk result (string_bytes name.new ≡ under (string_bytes name.old) word.now) }
 {
     if !name.is_empty() {

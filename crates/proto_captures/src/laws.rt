@@ -1,8 +1,14 @@
-//! The law, as a function that does nothing.
+//! The laws, as functions that do nothing.
 
+ghost use Rattle.proto_captures.specs.OvertakenLaw.{FirstsAreOvertaken};
 ghost use Rattle.proto_captures.specs.ShownAnew.{ShownIsAnew};
 
 /// What is shown under the new names of a rename, where nothing collides.
 pub fn shown_is_anew()
     ensures { ShownIsAnew }
+{}
+
+/// The first reference of a file that is overtaken by texts is the first by names.
+pub fn firsts_are_overtaken()
+    ensures { FirstsAreOvertaken }
 {}

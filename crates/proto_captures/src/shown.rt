@@ -25,7 +25,7 @@ fn kind_named(link: &Link, name: &str) -> Option<Kind>
     link.kind_of(id)
 }
 
-fn fits(kind: Kind, is_long: bool) -> bool
+pub(crate) fn fits(kind: Kind, is_long: bool) -> bool
     ensures { result ≡ first_fits is_long kind }
 {
     if is_long {
@@ -46,7 +46,7 @@ fn is_shown(link: &Link, looking: Looking, name: &str) -> bool
 }
 
 /// The name of a word right below a scope.
-fn below(alloc: Global, scope: &str, word: &str) -> Result<String, NoMemory>
+pub(crate) fn below(alloc: Global, scope: &str, word: &str) -> Result<String, NoMemory>
     ensures { IfOk result (λ name. string_bytes name ≡ below scope.now word.now) }
 {
     let mut name = String::from_str(alloc, scope)?;

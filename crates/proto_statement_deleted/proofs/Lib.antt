@@ -1,0 +1,15 @@
+mod Decimals
+mod Declared
+mod Enums
+mod FieldNamed
+mod FieldNames
+mod NamedFiles
+mod NamedTrees
+mod OneRead
+mod OwnTokens
+mod Scenes
+mod SmallNumbers
+mod Spelled
+mod Trees
+mod Workspace
+mod Written

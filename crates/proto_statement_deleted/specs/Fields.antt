@@ -1,0 +1,11 @@
+-- The field of a full name that no case refuses, where files have no fault.
+use Rattle.std.specs.Prelude.{◌<◌, ◌^◌, List}
+use Rattle.proto_files.specs.Faults.{HasNoFault}
+use Rattle.proto_files.specs.FilesRead.{AreRead, ReadOf}
+use Rattle.proto_files.specs.GivenFiles.{FileOf}
+use Rattle.proto_desc.specs.Checked.{CheckFaults}
+use Rattle.proto_statement_changes.specs.DeletionChanges.{FieldAt, IsFieldAt, number_of_field}
+
+-- Without a fault of the checks the number of each field is below 2^64.
+abbrev pub NumbersAreSmall : Type 0
+NumbersAreSmall = (files : List FileOf) (reads : List ReadOf) (f : FieldAt) → AreRead files reads → HasNoFault (CheckFaults files) → IsFieldAt files reads f → number_of_field files reads f < 2 ^ 64

@@ -1,0 +1,23 @@
+-- A path that is a file's, and its place (for the crates above).
+use Rattle.std.proofs.Common.{◌≡◌, ℕ, ◌<◌, List, [], length, sym, ◌∙◌, subst, arith}
+use Rattle.std.specs.Prelude.{slice_index_or}
+use Rattle.std.specs.Str.{bytes_eq}
+use Rattle.std.proofs.lemmas.List.Quantifiers.{position-Some}
+use Rattle.proto_text.proofs.Lists.{word_from_same}
+use Rattle.proto_text.proofs.OneEdit.{length_map}
+use Rattle.proto_files.specs.GivenFiles.{AreWorkspaceFiles, FileOf, file_at, paths_of}
+use Rattle.proto_files.specs.WorkspacePaths.{IsWorkspacePath}
+use Rattle.proto_rename_laws.proofs.Scenes.{index_map}
+use Rattle.proto_statement_names.specs.Cases.{IsPlaceOf}
+
+module _ (files : List FileOf) (path : List ℕ) (k : ℕ) (is : IsPlaceOf files path k) where
+  pub place_within : k < length files
+  place_within = let e = (position-Some (bytes_eq path) (paths_of files) k [] is).0 in omega (arith, e, length_map (λ (f : FileOf). f.path) files)
+
+  pub place_path : path ≡ (file_at files k).path
+  place_path =
+      word_from_same path (slice_index_or (paths_of files) k []) (position-Some (bytes_eq path) (paths_of files) k [] is).1
+      ∙ index_map (λ (f : FileOf). f.path) files (record { path = []; bytes = [] }) [] k place_within
+
+  pub place_named : AreWorkspaceFiles files → IsWorkspacePath path
+  place_named w = subst IsWorkspacePath (sym place_path) (w.named k (record { path = []; bytes = [] }) place_within)

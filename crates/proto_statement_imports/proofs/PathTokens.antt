@@ -1,0 +1,105 @@
+-- The token of an import's path is a string, whose value is the path.
+use Rattle.std.proofs.Common.{◌≡◌, ℕ, zero, suc, Bool, true, false, List, [], ◌∷◌, ◌++◌, get_or, Option, Some, None, refl, sym, ap, subst, ◌∙◌, inl, inr, arith, cond}
+use Rattle.std.specs.Prelude.{is_some, slice_get}
+use Rattle.std.specs.List.{AllByRecursion, Contains}
+use Rattle.std.specs.Str.{bytes_eq}
+use Rattle.std.proofs.lemmas.List.Elements.{Contains-append_cases, Contains-append_left, Contains-append_right}
+use Rattle.std.proofs.lemmas.Option.{slice_get-get_or}
+use Rattle.proto_text.specs.declared.kind.TokenKind.{TokenKind}
+use Rattle.proto_text.specs.declared.kind.TokenKind.TheVariants.{Word, Number, Text, Punctuation}
+use Rattle.proto_text.specs.Texts.{word_at}
+use Rattle.proto_text.specs.Tokens.{Lexeme}
+use Rattle.proto_text.specs.Values.{value_of}
+use Rattle.proto_text.proofs.Lists.{contains_cases, contains_head}
+use Rattle.proto_tree.specs.declared.class.Class.{Class}
+use Rattle.proto_tree.specs.declared.class.Class.TheVariants as class
+use Rattle.proto_tree.specs.declared.class.Want.TheVariants as want
+use Rattle.proto_tree.specs.declared.piece.Statement.{Statement}
+use Rattle.proto_tree.specs.declared.piece.Statement.TheVariants as statement
+use Rattle.proto_tree.specs.Classes.{is_text, is_word}
+use Rattle.proto_tree.specs.Flat.{Mark, flat_header, flat_import, flat_option, flat_statement, mark, one, text as text_mark}
+use Rattle.proto_tree.specs.Tree.{Tree, End, Leaf, Block, Spells, flat}
+use Rattle.proto_tree.specs.Words.{Listed, class_by, class_in, classes, marks}
+use Rattle.proto_tree.proofs.MarkLaws.{marks_fit}
+use Rattle.proto_tree.proofs.WordLaws.{word_is_word}
+use Rattle.proto_listing.specs.FromTree.{Wanted, imports_in, statement_imports}
+use Rattle.proto_imports.specs.Links.{value_or_none}
+use Rattle.proto_parts.specs.Scenes.{string_of, value_in, value_or_none as value_by_kind}
+
+-- ---- a place that wants a string holds one
+
+differ : false ≡ true → ⊥
+differ e = cc
+
+no_word_text : (c : Class) → is_text c ≡ true → is_word c ≡ true → ⊥
+no_word_text class.ProtoText e h = cc
+no_word_text class.OtherText e h = cc
+no_word_text _ e h = cc
+
+no_text_in : (ks : List Listed) (c : Class) (w : List ℕ) → AllByRecursion (λ k. is_text k.class ≡ false) ks → is_text c ≡ false → is_text (class_in ks c w) ≡ false
+no_text_in [] c w h e = e
+no_text_in (k ∷ ks) c w h e = either (bytes_eq w k.word) h.0 (no_text_in ks c w h.1 e)
+  where
+    either : (b : Bool) → is_text k.class ≡ false → is_text (class_in ks c w) ≡ false → is_text (cond b k.class (class_in ks c w)) ≡ false
+    either true x y = x
+    either false x y = y
+
+text_only : (k : TokenKind) (w : List ℕ) → is_text (class_by k w) ≡ true → k ≡ Text
+text_only Text w h = refl
+text_only Word w h = absurd (no_word_text (class_by Word w) h (word_is_word w))
+text_only Number w h = absurd cc
+text_only Punctuation w h =
+    absurd (differ (sym (no_text_in marks class.Other w (refl, (refl, (refl, (refl, (refl, (refl, (refl, (refl, (refl, (refl, (refl, (refl, (refl, tt))))))))))))) refl) ∙ h))
+
+-- ---- the paths of imports
+
+own_mark : (s : Statement) (w : Wanted) → Contains (statement_imports s) w → Contains (flat_statement s) (mark want.Text w.path)
+own_mark (statement.Import i) w c = elim (contains_cases (record { path = i.path; is_public = is_some i.public }) w [] c) [
+  | inl e ↦
+      let m : Mark = mark want.Text i.path in
+      subst (λ (v : Wanted). Contains (flat_import i) (mark want.Text v.path)) e
+      (Contains-append_right (one class.Import i.keyword) (flat_option (one class.Public) i.public ++ (text_mark i.path ++ one class.Semicolon i.semicolon)) m
+      (Contains-append_right (flat_option (one class.Public) i.public) (text_mark i.path ++ one class.Semicolon i.semicolon) m (contains_head m (one class.Semicolon i.semicolon))))
+  | inr d ↦ absurd (omega (arith, d.1))
+]
+own_mark _ w c = absurd (omega (arith, c.1))
+
+path_marked : (t : Tree) (w : Wanted) → Contains (imports_in t) w → Contains (flat t) (mark want.Text w.path)
+path_marked End w c = absurd (omega (arith, c.1))
+path_marked (Leaf s rest) w c = elim (Contains-append_cases (statement_imports s) (imports_in rest) w c) [
+  | inl d ↦ Contains-append_left (flat_statement s) (flat rest) (mark want.Text w.path) (own_mark s w d)
+  | inr d ↦ Contains-append_right (flat_statement s) (flat rest) (mark want.Text w.path) (path_marked rest w d)
+]
+path_marked (Block h i within j rest) w c =
+    let m : Mark = mark want.Text w.path in
+    Contains-append_right (flat_header h ++ one class.Open i) (flat within ++ (one class.Close j ++ flat rest)) m
+    (Contains-append_right (flat within) (one class.Close j ++ flat rest) m (Contains-append_right (one class.Close j) (flat rest) m (path_marked rest w c)))
+
+pub path_token : (t : Tree) (ls : List Lexeme) (w : Wanted) → Spells t (classes 0 ls) → Contains (imports_in t) w → (l : Lexeme) × (slice_get ls w.path ≡ Some l) × (l.kind ≡ Text)
+path_token t ls w h c =
+    let other : Lexeme = record { kind = Text; text = [] } in
+    let f = marks_fit t ls (mark want.Text w.path) other h (path_marked t w c) in
+    (get_or ls w.path other, slice_get-get_or ls w.path other f.0, text_only (get_or ls w.path other).kind (get_or ls w.path other).text f.1)
+
+-- ---- their values
+
+abbrev pub text_in : Option Lexeme → List ℕ
+text_in None = []
+text_in (Some l) = l.text
+
+pub word_by : (ls : List Lexeme) (i : ℕ) → word_at ls i ≡ text_in (slice_get ls i)
+word_by [] zero = refl
+word_by [] (suc i) = refl
+word_by (l ∷ ls) zero = refl
+word_by (l ∷ ls) (suc i) = word_by ls i
+
+text_value : (o : Option (List ℕ)) → value_by_kind Text o ≡ value_or_none o
+text_value None = refl
+text_value (Some v) = refl
+
+-- as the descriptors have it and as the links have it
+pub path_value : (t : Tree) (ls : List Lexeme) (w : Wanted) → Spells t (classes 0 ls) → Contains (imports_in t) w → value_in ls w.path ≡ value_or_none (value_of (word_at ls w.path))
+path_value t ls w h c =
+    let l = path_token t ls w h c in
+    let word : word_at ls w.path ≡ l.0.text = word_by ls w.path ∙ ap text_in l.1 in
+    ap string_of l.1 ∙ ap (λ k. value_by_kind k (value_of l.0.text)) l.2 ∙ text_value (value_of l.0.text) ∙ ap (λ v. value_or_none (value_of v)) (sym word)

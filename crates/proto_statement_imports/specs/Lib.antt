@@ -1,0 +1,4 @@
+pub mod MovedFiles
+pub mod OtherScenes
+pub mod Statements
+pub mod Workspaces

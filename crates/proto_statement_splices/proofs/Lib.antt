@@ -1,0 +1,3 @@
+pub mod AloneTrees
+pub mod FieldTrees
+pub mod ImportEnds
