@@ -1,0 +1,40 @@
+use Rattle.std.proofs.Common.{sym, ◌∙◌}
+use Rattle.std.proofs.lemmas.Bool.{both_ways}
+use Rattle.proto_statement_edits.proofs.Additions.{free_14, refused_12, refused_14}
+use Rattle.proto_statement_edits.proofs.MoreOrLess.{place_within}
+use Rattle.proto_statement_edits.proofs.NamedImports.{is_imported, not_imported}
+use Rattle.proto_statement_edits.proofs.adding.check_new.Goals as goal
+
+pub returns-then-is_some-clause-err : goal.returns-then-is_some-clause-err
+returns-then-is_some-clause-err c =
+    let files = c.args.files.now in
+    let reads = c.are_read.ensures.0 in
+    let are = c.are_read.ensures.1 in
+    let file = c.args.file in
+    let path = c.args.paths.path.now in
+    let within = place_within files c.args.paths.file.now file c.requires.file in
+    refused_12 files reads are c.args.paths.file.now path file c.args.to c.requires.file c.requires.to within c.requires.before
+    (is_imported files reads file path c.import_named.result (c.import_named.ensures reads are) (sym c.is_some.ensures ∙ c.if-is_some.true))
+
+pub returns-then-branch-clause-err : goal.returns-then-branch-clause-err
+returns-then-branch-clause-err c =
+    let files = c.args.files.now in
+    let reads = c.are_read.ensures.0 in
+    let are = c.are_read.ensures.1 in
+    let file = c.args.file in
+    let path = c.args.paths.path.now in
+    let within = place_within files c.args.paths.file.now file c.requires.file in
+    refused_14 files reads are c.args.paths.file.now path file c.args.to c.requires.file c.requires.to within c.requires.before
+    (not_imported files reads file path c.import_named.result (c.import_named.ensures reads are) (sym c.is_some.ensures ∙ c.if-is_some.false)) ((c.in_ok-leads.ensures reads are).0 c.if-branch.true)
+
+pub returns-clause-free : goal.returns-clause-free
+returns-clause-free c =
+    let files = c.args.files.now in
+    let reads = c.are_read.ensures.0 in
+    let are = c.are_read.ensures.1 in
+    let file = c.args.file in
+    let path = c.args.paths.path.now in
+    let within = place_within files c.args.paths.file.now file c.requires.file in
+    free_14 files reads are c.args.paths.file.now path file c.args.to c.requires.file c.requires.to within c.requires.before
+    (not_imported files reads file path c.import_named.result (c.import_named.ensures reads are) (sym c.is_some.ensures ∙ c.if-is_some.false))
+    (λ h. both_ways c.in_ok-leads.field-0 c.if-branch.false ((c.in_ok-leads.ensures reads are).1 h))

@@ -1,0 +1,31 @@
+use Rattle.std.proofs.Common.{◌≡◌, ℕ, suc, ◌<◌, List, Option, Some, None, length, get_or, refl, sym, ap, ◌∙◌, arith}
+use Rattle.std.specs.Option.{unwrap_or}
+use Rattle.proto_text.specs.declared.kind.TokenKind.TheVariants.{Word}
+use Rattle.proto_text.specs.declared.lexer.Token.{Token}
+use Rattle.proto_text.specs.Segments.{end_before}
+use Rattle.proto_text.specs.Texts.{offset_at}
+use Rattle.proto_text.proofs.Once.{one_token_list}
+use Rattle.proto_files.specs.GivenFiles.{file_at}
+use Rattle.proto_statement_edits.specs.Fields.{last_by, last_of}
+use Rattle.proto_statement_edits.proofs.TokenSpans.{end_is, offset_is}
+use Rattle.proto_statement_edits.proofs.deleting.span_of.Goals as goal
+
+last_is : (o : Option ℕ) (semicolon : ℕ) → unwrap_or o semicolon ≡ last_by o semicolon
+last_is None semicolon = refl
+last_is (Some close) semicolon = refl
+
+pub returns : goal.returns
+returns c = λ tokens are. (
+    let bytes = (file_at c.args.files.now c.args.file).bytes in
+    let ts = c.tokens-tokens.result.now in
+    let d : Token = record { kind = Word; span = record { start = 0; end = 0 } } in
+    let same = one_token_list bytes ts tokens c.tokens-tokens.ensures.tokens are in
+    let p = c.args.place in
+    let l = c.requires.within.2 ts c.tokens-tokens.ensures.tokens in
+    let a = c.requires.within.0 in
+    let b = c.requires.within.1 in
+    let k : p.first < length ts = omega (arith, l, a, b) in
+    let last : c.unwrap_or-last.result ≡ last_of p = c.unwrap_or-last.ensures ∙ last_is p.oneof p.semicolon in (
+      sym (offset_is ts p.first d k) ∙ ap (λ (z : List Token). offset_at z p.first) same,
+      ap (λ (i : ℕ). (get_or ts i d).span.end) last ∙ sym (end_is ts (last_of p) d l) ∙ ap (λ (z : List Token). end_before z (suc (last_of p))) same,
+    ))

@@ -1,0 +1,15 @@
+use Rattle.std.proofs.Common.{◌≡◌, List, length, map}
+use Rattle.std.specs.List.{All}
+use Rattle.proto_listing.specs.FromTree.{imports_in}
+use Rattle.proto_imports.specs.Importing.{asked_by, AreRising}
+use Rattle.proto_files.specs.FilesRead.{ReadOf, AreRead, read_at}
+use Rattle.proto_files.specs.FilesRead.{Each}
+use Rattle.proto_imports.specs.Links.{asked_as, text_of}
+use Rattle.proto_statement_edits.proofs.imports.all_written.Given as goal
+
+abbrev pub invariant-loop-file : goal.invariant-loop-file
+invariant-loop-file l = record {
+  len : length l.all.items ≡ l.file;
+  rising : All (λ v. AreRising v.items) l.all.items;
+  asked : (reads : List ReadOf) → AreRead l.files reads → Each (λ k v. map (asked_by k) v.items ≡ map (asked_as (text_of l.files reads) k) (imports_in (read_at reads k).tree)) l.all.items;
+}

@@ -1,0 +1,54 @@
+-- The field of a full name, by its tokens.
+use Rattle.std.specs.Prelude.{◌≡◌, ℕ, suc, Bool, true, false, ◌<◌, ◌≤◌, List, ◌++◌, length, codes, Option, Some, None, option_map}
+use Rattle.proto_text.specs.declared.lexer.Token.{Token}
+use Rattle.proto_text.specs.Segments.{bytes_between, end_before}
+use Rattle.proto_text.specs.Tokens.{AreTokens}
+use Rattle.proto_files.specs.FilesRead.{ReadOf, read_at}
+use Rattle.proto_files.specs.GivenFiles.{FileOf, file_at}
+use Rattle.proto_meaning.specs.declared.kind.Kind.{Kind}
+use Rattle.proto_meaning.specs.declared.kind.Kind.TheVariants.{Field}
+use Rattle.proto_meaning.specs.Grown.{at}
+use Rattle.proto_rename_laws.specs.Targets.{Target}
+use Rattle.proto_statement_edits.specs.declared.deleting.FieldName.{FieldName}
+use Rattle.proto_statement_names.specs.Cases.{IsField}
+use Rattle.proto_statement_splices.specs.Fields.{field_in, place_of}
+use Rattle.proto_statement_splices.specs.declared.fields.FieldPlace.{FieldPlace}
+
+abbrev pub is_field_kind : Kind → Bool
+is_field_kind Field = true
+is_field_kind _ = false
+
+-- it is a field
+abbrev pub is_field : Option Kind → Bool
+is_field None = false
+is_field (Some k) = is_field_kind k
+
+-- the name token of the field of this full name
+abbrev pub IsFieldToken : List FileOf → List ReadOf → List ℕ → FieldName → Type 0
+IsFieldToken files reads name field = (t : Target) × IsField files reads name t × (t.token ≡ at field.file field.token)
+
+-- where the statement of this name token stands
+abbrev pub IsPlaceOfField : List FileOf → List ReadOf → FieldName → FieldPlace → Type 0
+IsPlaceOfField files reads field place = option_map place_of (field_in field.token (read_at reads field.file).tree) ≡ Some place
+
+-- ---- the tokens of the statement
+
+-- the last token that is replaced: the `}` of the oneof, or the `;` of the statement
+abbrev pub last_by : Option ℕ → ℕ → ℕ
+last_by None semicolon = semicolon
+last_by (Some close) semicolon = close
+
+abbrev pub last_of : FieldPlace → ℕ
+last_of p = last_by p.oneof p.semicolon
+
+-- these are tokens of the file, in order
+abbrev pub StandsInOrder : List FileOf → ℕ → FieldPlace → Type 0
+StandsInOrder files file p = (p.first ≤ p.semicolon) × (p.semicolon ≤ last_of p) × ((tokens : List Token) → AreTokens (file_at files file).bytes tokens → last_of p < length tokens)
+
+-- what comes in their place, with the reservation
+abbrev pub text_if : List ℕ → List Token → ℕ → Option ℕ → List ℕ → List ℕ
+text_if text tokens semicolon None reserved = reserved
+text_if text tokens semicolon (Some close) reserved = bytes_between text (end_before tokens (suc semicolon)) (end_before tokens (suc close)) ++ (codes " " ++ reserved)
+
+abbrev pub text_by : List ℕ → List Token → FieldPlace → List ℕ → List ℕ
+text_by text tokens p reserved = text_if text tokens p.semicolon p.oneof reserved

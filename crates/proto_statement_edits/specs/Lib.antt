@@ -1,0 +1,4 @@
+pub mod Edits
+pub mod Fields
+pub mod Imported
+pub mod Steps

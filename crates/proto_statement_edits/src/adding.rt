@@ -1,0 +1,153 @@
+//! An import added to a file.
+
+ghost use Rattle.std.specs.Prelude.{◌≡◌, ◌<◌, ◌++◌, ◌↔◌, ℕ, List, length, map, is_some, if◌then◌else◌, codes, IfOk, IfErr, IsTrue, string_bytes};
+ghost use Rattle.proto_entries.specs.Entries.{change_of};
+ghost use Rattle.proto_files.specs.Faults.{HasNoFault};
+ghost use Rattle.proto_imports.specs.Links.{LinkFaults};
+ghost use Rattle.proto_names.specs.LinkOfFiles.{IsLinkOf};
+ghost use Rattle.proto_statement_edits.specs.Edits.{IsAdded, IsAdditionCase, IsAdditionRefusal};
+ghost use Rattle.proto_statement_edits.specs.Steps.{IsCapturedAt};
+ghost use Rattle.proto_statement_names.specs.Cases.{IsPlaceOf};
+ghost use Rattle.proto_statement_laws.specs.Imports.{added_text};
+ghost use Rattle.proto_statement_splices.specs.ImportPlaces.{place_behind};
+
+use crate::imported::import_named;
+use crate::imports::seen_with;
+use crate::leading::leads;
+use crate::only::only;
+use crate::paths::Paths;
+use proto_captures::first_overtaken;
+use proto_entries::{Change, Refusal};
+use proto_faults::NoMemory;
+use proto_files::{Files, are_read, file_named, offset_of};
+use proto_names::Link;
+use proto_statement_laws::laws::additions_are_read;
+use proto_statement_splices::{end_before_import, spliced};
+use proto_text::Span;
+use std::alloc::Global;
+
+/// The refusal for an overtaken reference, with its place.
+fn captured(alloc: Global, files: &Files, file: u32, token: u32) -> Result<Refusal, NoMemory>
+    requires { file < length files.now }
+    ensures { IfOk result (IsCapturedAt files.now file token) }
+{
+    let place = file as usize;
+    Ok(Refusal::Captured {
+        path: files.path(place).to_string(alloc)?,
+        offset: offset_of(files.tokens(place), token),
+    })
+}
+
+/// Case 7: no reference of the file is overtaken. (The cases before it do not concern imports.)
+fn check_captured(
+    alloc: Global,
+    files: &Files,
+    link: &Link,
+    paths: Paths,
+    file: u32,
+    to: u32,
+) -> Result<(), Refusal>
+    requires link { IsLinkOf files.now link.now }
+    requires linked { HasNoFault (LinkFaults files.now) }
+    requires file { IsPlaceOf files.now paths.file.now file }
+    requires to { IsPlaceOf files.now paths.path.now to }
+    ensures free { IfOk result (λ _. (n : ℕ) → n < 11 → IsAdditionCase files.now paths.entry.file.now paths.entry.path.now n → ⊥) }
+    ensures err { IfErr result (IsAdditionRefusal files.now paths.entry.file.now paths.entry.path.now) }
+{
+    are_read(files);
+    let seen = seen_with(alloc, files, file, to)?;
+    match first_overtaken(alloc, files, link, file, &seen[file as usize])? {
+        None => Ok(()),
+        Some(token) => Err(captured(alloc, files, file, token)?),
+    }
+}
+
+/// Cases 12 and 14: the file does not import the path, which does not lead to it.
+fn check_new(alloc: Global, files: &Files, paths: Paths, file: u32, to: u32) -> Result<(), Refusal>
+    requires linked { HasNoFault (LinkFaults files.now) }
+    requires file { IsPlaceOf files.now paths.file.now file }
+    requires to { IsPlaceOf files.now paths.path.now to }
+    requires before { (n : ℕ) → n < 11 → IsAdditionCase files.now paths.file.now paths.path.now n → ⊥ }
+    ensures free { IfOk result (λ _. (n : ℕ) → n < 15 → IsAdditionCase files.now paths.entry.file.now paths.entry.path.now n → ⊥) }
+    ensures err { IfErr result (IsAdditionRefusal files.now paths.entry.file.now paths.entry.path.now) }
+{
+    are_read(files);
+    if import_named(files, file, paths.path).is_some() {
+        return Err(Refusal::AlreadyImported);
+    }
+    if leads(alloc, files, to, file)? {
+        return Err(Refusal::Cycle);
+    }
+    Ok(())
+}
+
+/// The import as it is put behind a `;`, or before all.
+fn text_of(alloc: Global, end: Option<u32>, path: &str) -> Result<String, NoMemory>
+    ensures { IfOk result (λ text. string_bytes text ≡ added_text (place_behind end) path.now) }
+{
+    let mut text = String::new(alloc);
+    if end.is_some() {
+        text.push_str("\n")?;
+    }
+    text.push_str("import \"")?;
+    text.push_str(path)?;
+    text.push_str("\";")?;
+    if end.is_none() {
+        text.push_str("\n")?;
+    }
+    Ok(text)
+}
+
+/// What the import changes, and case 16.
+fn changed(alloc: Global, files: &Files, paths: Paths, file: u32) -> Result<Vec<Change>, Refusal>
+    requires file { IsPlaceOf files.now paths.file.now file }
+    requires before { (n : ℕ) → n < 15 → IsAdditionCase files.now paths.file.now paths.path.now n → ⊥ }
+    ensures ok { IfOk result (λ cs. IsAdded files.now paths.entry.file.now paths.entry.path.now (map change_of cs.items)) }
+    ensures err { IfErr result (IsAdditionRefusal files.now paths.entry.file.now paths.entry.path.now) }
+{
+    are_read(files);
+    additions_are_read();
+    let place = file as usize;
+    // A text is UTF-8.
+    files.source(place).as_bytes();
+    let end = end_before_import(files.tree(place));
+    let at = match end {
+        Some(token) => files.tokens(place)[token as usize].span.end,
+        None => 0,
+    };
+    let text = text_of(alloc, end, paths.path)?;
+    let span = Span { start: at, end: at };
+    match spliced(alloc, files, file, span, text.as_str())? {
+        Some(change) => Ok(only(alloc, change)?),
+        None => Err(Refusal::TooLarge),
+    }
+}
+
+/// What it changes that a file, by its path, imports another path as well; or the least case that refuses it.
+pub fn add_import(
+    alloc: Global,
+    files: &Files,
+    link: &Link,
+    file: &str,
+    path: &str,
+) -> Result<Vec<Change>, Refusal>
+    requires link { IsLinkOf files.now link.now }
+    requires linked { HasNoFault (LinkFaults files.now) }
+    ensures ok { IfOk result (λ cs. IsAdded files.now file.now path.now (map change_of cs.items)) }
+    ensures err { IfErr result (IsAdditionRefusal files.now file.now path.now) }
+{
+    are_read(files);
+    // The paths of a workspace are apart, and its files few.
+    files.len();
+    let paths = Paths { file, path };
+    let Some(from) = file_named(files, 0, file) else {
+        return Err(Refusal::UnknownFile);
+    };
+    let Some(to) = file_named(files, 0, path) else {
+        return Err(Refusal::UnknownFile);
+    };
+    let (from, to) = (from as u32, to as u32);
+    check_captured(alloc, files, link, paths, from, to)?;
+    check_new(alloc, files, paths, from, to)?;
+    changed(alloc, files, paths, from)
+}

@@ -1,0 +1,102 @@
+//! The imports of linked files, with one more or one less, and what is seen then.
+
+ghost use Rattle.std.specs.Prelude.{◌≡◌, ◌<◌, ℕ, List, length, map, filter, not, ◌==◌, IfOk};
+ghost use Rattle.std.specs.List.{All};
+ghost use Rattle.proto_files.specs.Faults.{HasNoFault};
+ghost use Rattle.proto_files.specs.FilesRead.{ReadOf, AreRead};
+ghost use Rattle.proto_imports.specs.Importing.{AreRising, all_asked};
+ghost use Rattle.proto_imports.specs.Links.{LinkFaults, all_wanted, text_of};
+ghost use Rattle.proto_statement_edits.specs.Steps.{AreImportsOf, AreSeenIn};
+ghost use Rattle.proto_statement_names.specs.Cases.{IsPlaceOf, with_added, with_dropped};
+
+use proto_faults::NoMemory;
+use proto_files::{Files, Words, all_paths, are_read};
+use proto_imports::import::{FileImport, ImportError, WrittenImport, resolve_imports};
+use proto_imports::sight::all_seen;
+use proto_imports::written::written;
+use proto_listing::wanted::imports;
+use std::alloc::Global;
+
+/// The imports of each file with their paths.
+fn all_written(alloc: Global, files: &Files) -> Result<Vec<Vec<WrittenImport>>, NoMemory>
+    ensures len { IfOk result (λ ws. length ws.items ≡ length files.now) }
+    ensures rising { IfOk result (λ ws. All (λ v. AreRising v.items) ws.items) }
+    ensures asked { IfOk result (λ ws. (reads : List ReadOf) → AreRead files.now reads → all_asked 0 (map (λ v. v.items) ws.items) ≡ all_wanted (text_of files.now reads) 0 reads) }
+{
+    let mut all = Vec::new(alloc);
+    for file in 0..files.len() {
+        let words = Words::new(files, file);
+        let wanted = imports(alloc, files.tree(file))?;
+        all.push(written(alloc, &words, &wanted)?)?;
+    }
+    Ok(all)
+}
+
+/// The imports of each file, by the numbers of the files that they name.
+pub(crate) fn linked_imports(alloc: Global, files: &Files) -> Result<Vec<Vec<FileImport>>, NoMemory>
+    requires { HasNoFault (LinkFaults files.now) }
+    ensures { IfOk result (λ imports. AreImportsOf files.now imports.items) }
+{
+    // The contracts of these say that each file is read, and that the files are those of a workspace.
+    are_read(files);
+    files.len();
+    let written = all_written(alloc, files)?;
+    let paths = all_paths(alloc, files)?;
+    match resolve_imports(alloc, &paths, &written) {
+        Ok(imports) => Ok(imports),
+        Err(ImportError::Bad(_)) => unreachable!(),
+        Err(ImportError::NoMemory) => Err(NoMemory),
+    }
+}
+
+/// What each file sees with one import more.
+pub(crate) fn seen_with(
+    alloc: Global,
+    files: &Files,
+    file: u32,
+    to: u32,
+) -> Result<Vec<Vec<bool>>, NoMemory>
+    requires linked { HasNoFault (LinkFaults files.now) }
+    requires file { file < length files.now }
+    requires to { to < length files.now }
+    ensures { IfOk result (λ seen. (reads : List ReadOf) → AreRead files.now reads → AreSeenIn files.now (with_added files.now reads file to) seen.items) }
+{
+    // A workspace has few files.
+    files.len();
+    let mut imports = linked_imports(alloc, files)?;
+    let is_public = false;
+    imports[file as usize].push(FileImport { to, is_public })?;
+    all_seen(alloc, &imports)
+}
+
+/// These imports without that of one file.
+fn others(alloc: Global, own: &[FileImport], to: u32) -> Result<Vec<FileImport>, NoMemory>
+    ensures { IfOk result (λ left. left.items ≡ filter (λ i. not (i.to == to)) own.now) }
+{
+    let mut left = Vec::new(alloc);
+    for import in own {
+        if import.to != to {
+            left.push(*import)?;
+        }
+    }
+    Ok(left)
+}
+
+/// What each file sees without the import of one file by another.
+pub(crate) fn seen_without(
+    alloc: Global,
+    files: &Files,
+    file: u32,
+    to: u32,
+) -> Result<Vec<Vec<bool>>, NoMemory>
+    requires linked { HasNoFault (LinkFaults files.now) }
+    requires file { file < length files.now }
+    ensures { IfOk result (λ seen. (reads : List ReadOf) → AreRead files.now reads → (path : List ℕ) → IsPlaceOf files.now path to → AreSeenIn files.now (with_dropped files.now reads file path) seen.items) }
+{
+    // A workspace has few files.
+    files.len();
+    let mut imports = linked_imports(alloc, files)?;
+    let left = others(alloc, &imports[file as usize], to)?;
+    imports[file as usize] = left;
+    all_seen(alloc, &imports)
+}
