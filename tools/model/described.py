@@ -1,6 +1,4 @@
-"""Descriptors of a model's schemas as docs/descriptors.md has them, their text, and what a rename makes of them."""
-
-import copy
+"""Descriptors of a model's schemas as docs/descriptors.md has them, and their text."""
 
 from schemas import Block, Field, Method, Oneof, Option, Reserved, Value, entry_name, number_value, text_value
 
@@ -174,58 +172,3 @@ def default_text(tokens):
     if tokens[0].kind == "string":
         return text_value(tokens)
     return tokens[0].text if tokens[0].kind == "word" else str(number_value(tokens))
-
-
-# ---- what a rename makes of descriptors
-
-
-def mapped(rename, descriptors):
-    """The descriptors under the name map of an accepted rename."""
-    after = copy.deepcopy(descriptors)
-    for file in after.get("file", []):
-        package = tuple(file["package"].split(".")) if "package" in file else ()
-        map_types(rename, package, file)
-        for service in file.get("service", []):
-            name = map_name(rename, package, service)
-            for method in service.get("method", []):
-                map_name(rename, name, method)
-                for key in ("inputType", "outputType"):
-                    method[key] = map_meaning(rename, method[key])
-    return after
-
-
-def map_name(rename, above, element):
-    """Maps the name of an element, and answers its full name before."""
-    name = above + (element["name"],)
-    element["name"] = rename.map(name)[-1]
-    return name
-
-
-def map_meaning(rename, written):
-    return "." + ".".join(rename.map(tuple(written[1:].split("."))))
-
-
-def map_types(rename, above, holder):
-    for enum in holder.get("enumType", []):
-        map_name(rename, above, enum)
-        for value in enum["value"]:
-            map_name(rename, above, value)
-    for key in ("messageType", "nestedType"):
-        for message in holder.get(key, []):
-            map_message(rename, above, message)
-
-
-def map_message(rename, above, message):
-    name = map_name(rename, above, message)
-    map_types(rename, name, message)
-    for oneof in message.get("oneofDecl", []):
-        map_name(rename, name, oneof)
-    for field in message.get("field", []):
-        full = map_name(rename, name, field)
-        if full == rename.old and rename.target.node.written_json is None:
-            field["jsonName"] = rename.new_json
-        if field["type"] == "TYPE_ENUM" and rename.enum and field["typeName"] == "." + ".".join(rename.enum):
-            if field.get("defaultValue") == rename.old[-1]:
-                field["defaultValue"] = rename.to
-        if "typeName" in field:
-            field["typeName"] = map_meaning(rename, field["typeName"])

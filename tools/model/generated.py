@@ -24,7 +24,7 @@ KEYWORDS = (
     "message enum string stream to max option reserved rpc returns optional group extend int32 map oneof public weak"
 ).split()
 TRIVIA = ["\n", "\t", "\r\n", "  ", "\v", "\f"]
-TRIVIA += [" /* M foo A.B */ ", " // N b;\n", "/**/", " /* é↑ */ ", "//\n", "/* * / ** */"]
+TRIVIA += ["\r\n\r\n", " // } ;\r\n", " /* ; import \"a.proto\"; } */ ", " /* M foo A.B */ ", " // N b;\n", "/**/", " /* é↑ */ ", "//\n", "/* * / ** */"]
 TEXTS = ['"q"', "'fooBar'", '"x"', '"foo" "_bar"', r'"\x41\102"', r'"\"\\\n"', '"é"', '""']
 KEYS = [scalar for scalar in SCALARS if scalar not in ("float", "double", "bytes")]
 
@@ -104,17 +104,28 @@ class Maker:
         tokens = ["syntax", "=", f'"{self.syntax}"', ";"] if self.syntax else []
         heads = []
         for other in self.chance.sample(range(place), min(place, self.chance.choice([0, 1, 2, 3, 4]))):
-            heads.append(["import", *(["public"] if self.rolls(0.45) else []), f'"{paths[other]}.proto"', ";"])
+            heads.append(["import", *(["public"] if self.rolls(0.45) else []), self.path_text(paths[other] + ".proto"), ";"])
         if package:
             words = [piece for word in package for piece in (".", word)][1:]
             heads.insert(self.chance.randrange(len(heads) + 1), ["package", *words, ";"])
         if self.rolls(0.2):
             heads.append(["option", "java_package", "=", self.chance.choice(TEXTS), ";"])
-        tokens += [token for head in heads for token in head]
         self.has_message = False
-        for _ in range(self.chance.choice([1, 2, 2, 3, 4])):
-            tokens += self.item(package)
-        return self.syntax or "proto2", tokens
+        parts = heads + [self.item(package) for _ in range(self.chance.choice([0, 1, 1, 2, 2, 2, 3, 3, 4]))]
+        if self.rolls(0.25):
+            self.chance.shuffle(parts)
+        if self.rolls(0.1):
+            parts.insert(self.chance.randrange(len(parts) + 1), [";"])
+        return self.syntax or "proto2", tokens + [token for part in parts for token in part]
+
+    def path_text(self, path):
+        """A string whose value is the path: in either quotes, some characters escaped."""
+        letters = list(path)
+        if self.rolls(0.3):
+            for at in self.chance.sample(range(len(letters)), self.chance.choice([1, 1, 2, len(letters)])):
+                letters[at] = self.chance.choice(["\\%03o", "\\x%02x", "\\x%02X"]) % ord(letters[at])
+        quote = self.chance.choice(["\"", "\"", "'"])
+        return quote + "".join(letters) + quote
 
     def item(self, above):
         kind = self.chance.choice(["message"] * 5 + ["enum"] * 2 + ["service"] * 3)
@@ -135,8 +146,13 @@ class Maker:
         if self.rolls(0.25) and free:
             names = self.chance.sample(free, min(len(free), self.chance.choice([1, 2])))
             members.append(["reserved", *[piece for name in names for piece in (",", f'"{name}"')][1:], ";"])
-        if self.rolls(0.1):
+        if self.rolls(0.15):
             members.append(["reserved", "1000", "to", self.chance.choice(["max", "0x7d0", "1000"]), ";"])
+        if self.rolls(0.15):
+            ranges = self.chance.choice([["700"], ["0x2bc", "to", "01300", ",", "705"], ["710", ",", "700", "to", "705"]])
+            members.append(["reserved", *ranges, ";"])
+        if self.rolls(0.08):
+            members.append([";"])
         if self.rolls(0.1) and self.syntax != "proto3":
             members.append(["extensions", "500", "to", "600", ";"])
         if depth < 3:
@@ -174,7 +190,7 @@ class Maker:
         self.jsons.add(json)
         self.numbers += self.chance.choice([1, 1, 1, 2, 7])
         settings = [["json_name", "=", f'"{written}"']] if written else []
-        if self.rolls(0.08):
+        if self.rolls(0.15):
             settings.append(["deprecated", "=", self.chance.choice(["true", "false"])])
         return name, self.chance.choice([str, hex, lambda number: f"0{number:o}"])(self.numbers), settings
 
@@ -317,7 +333,7 @@ class Maker:
         if self.rolls(0.1):
             text += self.chance.choice([" // the end", "\n", " /* x */", "   "])
         if self.rolls(0.02):
-            text += " " * (1_048_576 - self.chance.choice([0, 0, 1, 2, 5]) - len(text.encode()))
+            text += " " * (1_048_576 - self.chance.choice([0, 0, 1, 2, 5, 16, 20, 30]) - len(text.encode()))
         return text.encode().decode("latin-1")
 
 

@@ -2,21 +2,11 @@
 docs/edits.md has them. Everything is read in the workspace as it is before; no changed text is looked at.
 """
 
-from schemas import LISTED, WORD, Value, derived_json, entry_name, fits
+import copy
+
+from schemas import LISTED, WORD, derived_json, entry_name, fits
 
 MAX_BYTES = 1_048_576
-NAMES = {
-    1: "UnknownTarget",
-    2: "KindNotAllowed",
-    3: "NotAnIdentifier",
-    4: "KeywordName",
-    5: "SameName",
-    6: "Collision",
-    7: "Captured",
-    8: "NameReserved",
-    9: "JsonClash",
-    16: "TooLarge",
-}
 KINDS = ("message", "enum", "service", "field", "value", "method")
 
 
@@ -112,6 +102,9 @@ class Rename:
 
     # ---- changes
 
+    def mapped(self, descriptors):
+        return mapped(self, descriptors)
+
     def changed_tokens(self):
         """Each token that changes, with its file."""
         yield self.target.file, self.target.token
@@ -142,8 +135,8 @@ def is_below(name, front):
     return name[: len(front)] == front
 
 
-def answer(workspace, name, to):
-    """The number, name and place of what refuses a rename, and the rename itself where nothing does."""
+def rename_of(workspace, name, to):
+    """The number of what refuses a rename, the reference that it tells of, and the rename itself where nothing refuses it."""
     target = next((symbol for symbol in workspace.symbols if ".".join(symbol.name) == name), None)
     if target is None:
         return 1, None, None
@@ -160,7 +153,7 @@ def answer(workspace, name, to):
         return 6, None, None
     use = rename.captured()
     if use:
-        return 7, place_of(workspace, use), None
+        return 7, use, None
     if rename.is_reserved():
         return 8, None, None
     if rename.clashes():
@@ -170,43 +163,56 @@ def answer(workspace, name, to):
     return 0, None, rename
 
 
-def place_of(workspace, use):
-    """The path, line and column of a reference, as they are printed."""
-    file = workspace.files[use.file]
-    before = file.text[: use.reference.first.start]
-    return f"{file.path}:{before.count(chr(10)) + 1}:{len(before) - before.rfind(chr(10))}"
+# ---- what a rename makes of descriptors
 
 
-def printed(workspace, name, to):
-    """What the command prints, its status, and the rename if it is accepted."""
-    number, place, rename = answer(workspace, name, to)
-    if number:
-        return f"refused: {number} {NAMES[number]}" + (f" {place}" if place else "") + "\n", 1, None
-    return "".join(f"changed {path}\n" for path, _, _, _ in rename.changes()), 0, rename
-
-
-def put(text, splices):
-    """The text with every splice put in its place."""
-    pieces, place = [], 0
-    for at, old, new in splices:
-        assert text[at : at + len(old)] == old and place <= at
-        pieces += [text[place:at], new]
-        place = at + len(old)
-    return "".join(pieces) + text[place:]
-
-
-def texts_after(texts, changes):
-    after = dict(texts)
-    for path, _, _, splices in changes:
-        after[path] = put(texts[path], splices)
+def mapped(rename, descriptors):
+    """The descriptors under the name map of an accepted rename."""
+    after = copy.deepcopy(descriptors)
+    for file in after.get("file", []):
+        package = tuple(file["package"].split(".")) if "package" in file else ()
+        map_types(rename, package, file)
+        for service in file.get("service", []):
+            name = map_name(rename, package, service)
+            for method in service.get("method", []):
+                map_name(rename, name, method)
+                for key in ("inputType", "outputType"):
+                    method[key] = map_meaning(rename, method[key])
     return after
 
 
-def journal_line(changes):
-    """The changes of an accepted rename as the program's journal has them."""
-    files = [
-        '{"after":%d,"before":%d,"path":"%s","splices":[%s]}'
-        % (after, before, path, ",".join('{"at":%d,"new":"%s","old":"%s"}' % (at, new, old) for at, old, new in splices))
-        for path, before, after, splices in changes
-    ]
-    return '{"files":[%s],"state":"done","version":1}\n' % ",".join(files)
+def map_name(rename, above, element):
+    """Maps the name of an element, and answers its full name before."""
+    name = above + (element["name"],)
+    element["name"] = rename.map(name)[-1]
+    return name
+
+
+def map_meaning(rename, written):
+    return "." + ".".join(rename.map(tuple(written[1:].split("."))))
+
+
+def map_types(rename, above, holder):
+    for enum in holder.get("enumType", []):
+        map_name(rename, above, enum)
+        for value in enum["value"]:
+            map_name(rename, above, value)
+    for key in ("messageType", "nestedType"):
+        for message in holder.get(key, []):
+            map_message(rename, above, message)
+
+
+def map_message(rename, above, message):
+    name = map_name(rename, above, message)
+    map_types(rename, name, message)
+    for oneof in message.get("oneofDecl", []):
+        map_name(rename, name, oneof)
+    for field in message.get("field", []):
+        full = map_name(rename, name, field)
+        if full == rename.old and rename.target.node.written_json is None:
+            field["jsonName"] = rename.new_json
+        if field["type"] == "TYPE_ENUM" and rename.enum and field["typeName"] == "." + ".".join(rename.enum):
+            if field.get("defaultValue") == rename.old[-1]:
+                field["defaultValue"] = rename.to
+        if "typeName" in field:
+            field["typeName"] = map_meaning(rename, field["typeName"])

@@ -1,6 +1,9 @@
 """Renames with their answers, counted by hand. A row has files, the renames asked one after another, and for each what is
-printed, with the splices `path at old new` of an accepted one, and a piece of the descriptors after it.
+printed, with the splices `path at old new` of an accepted one, and a piece of the descriptors after it. Rows of the other edits
+are read in the tests.
 """
+
+import re
 
 P3 = 'syntax = "proto3"; '
 ONE = P3 + "message A { string b_c = 1; }"
@@ -26,6 +29,45 @@ def refused(words):
 
 def done(*splices, json=""):
     return ("", [tuple(splice.split()) for splice in splices], json)
+
+
+COMMANDS = {"rename": "rename", "delete": "delete-field", "add": "add-import", "drop": "drop-import"}
+PIECE = re.compile(r'(?P<string>"(?:[^"\\]|\\.)*")|(?P<word>\w+)|(?P<mark>[\[\](){},:])|(?P<rest>//[^\n]*|.)', re.S)
+TABLE = re.compile(r"^(?:pub\(crate\) )?const \w+: &\[(Row|Deletion|Place)\] = (.*?\];)$", re.S | re.M)
+EMPTY = {"b.proto": "", "c.proto": ""}
+
+
+def rows_of_tests(source):
+    """The rows that a source of tests has: texts by path, the edits with their answers, the texts afterwards, a piece of the
+    descriptors."""
+    for kind, table in TABLE.findall(source):
+        for row in values_of_table(table):
+            files, steps, after, json = parts_of_row(kind, row)
+            words = [(COMMANDS[step[0]], *step[1 : 2 if step[0] == "delete" else 3], step[3]) for step in steps]
+            yield files, words, after, json
+
+
+def values_of_table(table):
+    # What is left is the spelling of lists, tuples and rows with named parts.
+    written = []
+    for piece in PIECE.finditer(table):
+        if piece["string"]:
+            written.append(piece["string"])
+        elif piece["word"]:
+            written.append({"Row": "dict"}.get(piece["word"], piece["word"]))
+        elif piece["mark"]:
+            written.append({"{": "(", "}": ")", ":": "="}.get(piece["mark"], piece["mark"]))
+    return eval("".join(written), {"__builtins__": {}, "dict": dict})
+
+
+def parts_of_row(kind, row):
+    if kind == "Deletion":
+        text, name, told, after, json = row
+        return {"a.proto": text}, [("delete", name, "", told)], {"a.proto": after}, json
+    if kind == "Place":
+        text, told, after, json = row
+        return {"a.proto": text, **EMPTY}, [("add", "a.proto", "b.proto", told)], {"a.proto": after, **EMPTY}, json
+    return dict(row["files"]), row["steps"], dict(row["after"]), row["json"]
 
 
 ROWS = [

@@ -69,6 +69,8 @@ class Field:
     name: Token
     number: int
     settings: list
+    # The bytes of the statement, from its first token through its `;`.
+    span: tuple = (0, 0)
 
     def setting(self, name):
         return next((option.value for option in self.settings if option.name.text == name), None)
@@ -87,6 +89,8 @@ class Field:
 class Oneof:
     name: Token
     fields: list
+    # Behind its `}`.
+    end: int = 0
 
 
 @dataclass
@@ -147,6 +151,10 @@ class File:
     package: tuple = ()
     imports: list = field(default_factory=list)
     members: list = field(default_factory=list)
+    # The bytes of each import, and the places behind the `;` of the package and of the syntax.
+    import_spans: list = field(default_factory=list)
+    package_end: Optional[int] = None
+    syntax_end: Optional[int] = None
 
     of = Block.of
     blocks = Block.blocks
@@ -214,6 +222,10 @@ class Reader:
             raise NoSchema(f"{self.next()} in the place of {text}")
         return self.take()
 
+    def take_end(self, text=";"):
+        """Takes the text, and answers the place behind it."""
+        return self.take_text(text).start + len(text)
+
     def takes(self, text):
         """Takes the text if it is next."""
         found = self.is_next(text)
@@ -225,19 +237,20 @@ class Reader:
         if self.takes("syntax"):
             self.take_text("=")
             file.syntax = text_value([self.take("string")])
-            self.take_text(";")
+            file.syntax_end = self.take_end()
         while self.next().kind != "end":
             self.item(file)
         return file
 
     def item(self, file):
+        start = self.next().start
         if self.takes("import"):
             is_public = self.takes("public")
             file.imports.append((text_value([self.take("string")]), is_public))
-            self.take_text(";")
+            file.import_spans.append((start, self.take_end()))
         elif self.takes("package"):
             file.package = tuple(token.text for token in self.dotted())
-            self.take_text(";")
+            file.package_end = self.take_end()
         else:
             self.member(file.members, ("message", "enum", "service"))
 
@@ -299,18 +312,20 @@ class Reader:
         if self.takes("oneof"):
             oneof = Oneof(self.take("word"), [])
             self.take_text("{")
-            while not self.takes("}"):
-                oneof.fields.append(self.field(None))
+            while not self.is_next("}"):
+                oneof.fields.append(self.field(None, self.next().start))
+            oneof.end = self.take_end("}")
             members.append(oneof)
         elif self.is_next("reserved", "extensions"):
             members.append(self.reserved())
         elif self.is_next(";", "option", "message", "enum"):
             self.member(members, ("message", "enum"))
         else:
+            start = self.next().start
             label = self.take().text if self.is_next("optional", "required", "repeated") else None
-            members.append(self.field(label))
+            members.append(self.field(label, start))
 
-    def field(self, label):
+    def field(self, label, start):
         key = None
         if self.takes("map"):
             self.take_text("<")
@@ -324,8 +339,7 @@ class Reader:
         self.take_text("=")
         number = number_value([self.take("number")])
         settings = self.settings()
-        self.take_text(";")
-        return Field(label, key, scalar, reference, name, number, settings)
+        return Field(label, key, scalar, reference, name, number, settings, (start, self.take_end()))
 
     def reserved(self):
         found = Reserved(self.take().text)
@@ -445,19 +459,26 @@ class Workspace:
 
     def sees(self, place):
         """The places of the files that a file sees."""
+        return self.seen_by({one: file.imports for one, file in enumerate(self.files)}, place)
+
+    def seen_by(self, imports_of, place):
+        """The places of the files that a file would see if each had these imports."""
         seen = {place}
-        todo = [self.place_of[path] for path, _ in self.files[place].imports if path in self.place_of]
+        todo = [self.place_of[path] for path, _ in imports_of[place] if path in self.place_of]
         while todo:
             one = todo.pop()
             if one not in seen:
                 seen.add(one)
-                imports = self.files[one].imports
+                imports = imports_of[one]
                 todo += [self.place_of[path] for path, is_public in imports if is_public and path in self.place_of]
         return seen
 
     def shown_in(self, place):
         """The visible names of a file with their kinds."""
-        seen = self.sees(place)
+        return self.names_in(self.sees(place))
+
+    def names_in(self, seen):
+        """The names of these files and of their packages with their kinds."""
         shown = {symbol.name: symbol.kind for symbol in self.symbols if symbol.file in seen}
         for package in (self.files[one].package for one in seen):
             shown.update({package[:cut]: "package" for cut in range(1, len(package) + 1)})
@@ -499,7 +520,7 @@ class Workspace:
     # ---- faults
 
     def faults(self):
-        """What is wrong, of the faults that a rename could bring in or that a generated workspace could have."""
+        """What is wrong, of the faults that an edit could bring in or that a generated workspace could have."""
         found = []
         names = {}
         for symbol in self.symbols:
@@ -568,8 +589,12 @@ class Workspace:
         names = block.reserved_names
         found += [(20, name) for name in set(names) if names.count(name) > 1]
         found += [(20, member.name.text) for member in members if member.name.text in names]
+        held = set()
         for reserved in block.of(Reserved):
             for start, end in reserved.ranges:
+                last = max(start, 2000) if end is None else end
+                found += [(21, number) for number in range(start, last + 1) if number in held]
+                held.update(range(start, last + 1))
                 found += [(19, number) for number in numbers if start <= number and (end is None or number <= end)]
         return found
 

@@ -11,6 +11,7 @@ use Rattle.proto_entries.specs.declared.refusal.Refusal.{Refusal}
 use Rattle.proto_entries.specs.declared.refusal.Refusal.TheVariants as refusal
 use Rattle.proto_entries.specs.Entries.{ChangeOf}
 use Rattle.proto_edit.specs.Workspaces.{Asked, IsAdmissible, AreChanges, IsMappedStep, IsRefusal, IsUndo, Run, Undone}
+use Rattle.proto_edit.specs.StatementLaws.{StatementLaws}
 use Rattle.proto_edit.proofs.Steps.{steps_compile, run_more, undone_append, undone_once, leads_back, leads_somewhere}
 
 abbrev pub Answer : Type 0
@@ -18,9 +19,9 @@ Answer = Result (List ChangeOf) Refusal
 
 -- ---- one edit
 
-pub step_made : (w : List FileOf) (e : Asked) (cs entry : List ChangeOf) (after : List FileOf) → AreCompiled w → entry ≡ cs → IsAdmissible w e × AreChanges w e cs → IsReopened w cs (Some after) → IsMappedStep w e entry after
-step_made w e cs entry after has same ok put =
-    subst (λ (z : List ChangeOf). IsMappedStep w e z after) (sym same) (steps_compile w after e cs has (record { admissible = ok.0; changes = ok.1; put = put.0 }))
+pub step_made : StatementLaws → (w : List FileOf) (e : Asked) (cs entry : List ChangeOf) (after : List FileOf) → AreCompiled w → entry ≡ cs → IsAdmissible w e × AreChanges w e cs → IsReopened w cs (Some after) → IsMappedStep w e entry after
+step_made laws w e cs entry after has same ok put =
+    subst (λ (z : List ChangeOf). IsMappedStep w e z after) (sym same) (steps_compile laws w after e cs has (record { admissible = ok.0; changes = ok.1; put = put.0 }))
 
 -- ---- runs
 
@@ -65,10 +66,10 @@ module _ (w middle : List FileOf) (all : List (List ChangeOf)) (n : ℕ) (s : Li
   stuck_so refusal.NoMemory h = tt
   stuck_so _ h = absurd h
 
-pub back_ok : (w to : List FileOf) (entries : List (List ChangeOf)) → Undone w (reverse entries) to → LeadsBack w entries (Ok to)
-back_ok w to entries x = λ first es given has run e. leads_back w to first entries es given x has run e
+pub back_ok : StatementLaws → (w to : List FileOf) (entries : List (List ChangeOf)) → Undone w (reverse entries) to → LeadsBack w entries (Ok to)
+back_ok laws w to entries x = λ first es given has run e. leads_back laws w to first entries es given x has run e
 
-pub back_err : (w : List FileOf) (entries : List (List ChangeOf)) (r : Refusal) → IsUndoAllRefusal w (reverse entries) r → LeadsBack w entries (Err r)
-back_err w entries refusal.Stale fails = λ first es given has run e. leads_somewhere w first entries es given fails has run e
-back_err w entries refusal.NoMemory fails = tt
-back_err w entries _ fails = absurd fails
+pub back_err : StatementLaws → (w : List FileOf) (entries : List (List ChangeOf)) (r : Refusal) → IsUndoAllRefusal w (reverse entries) r → LeadsBack w entries (Err r)
+back_err laws w entries refusal.Stale fails = λ first es given has run e. leads_somewhere laws w first entries es given fails has run e
+back_err laws w entries refusal.NoMemory fails = tt
+back_err laws w entries _ fails = absurd fails

@@ -1,7 +1,9 @@
 mod Chains
 pub mod GivenAgain
 mod MappedSteps
+mod NamedFields
 pub mod OneAnswer
 mod Refusals
 mod Reopening
+mod StatementSteps
 pub mod Steps

@@ -20,7 +20,17 @@ use Rattle.proto_rename_described.proofs.WrittenJson.{written_once}
 use Rattle.proto_edit.specs.Compiled.{AreCompiled}
 use Rattle.proto_edit.specs.Laws.{DescribedOnce, MappedOnce, RefusedOnce, StepsAreUndone, StepsOnce}
 use Rattle.proto_edit.specs.Workspaces.{Asked, rename, delete_field, add_import, drop_import, AreChanges, ChangesOf, IsLeastCase, IsPlaceOf, Maps, PlaceOf}
+use Rattle.proto_statement_changes.specs.DeletionChanges.{FieldAt, changes_of_deletion}
+use Rattle.proto_statement_changes.specs.ImportChanges.{IsImportOf, changes_of_addition, changes_of_drop}
+use Rattle.proto_statement_described.specs.Files.{tree_at}
+use Rattle.proto_statement_described.specs.Imports.{with_dependency, without_dependency}
+use Rattle.proto_statement_described.specs.Lists.{changed_at}
+use Rattle.proto_statement_described.specs.Mapped.{mapped_deletion}
+use Rattle.proto_tree.specs.declared.tree.Import.{Import}
+use Rattle.proto_edit.specs.StatementLaws.{StatementLaws}
 use Rattle.proto_edit.proofs.GivenAgain.{compiled_are_read}
+use Rattle.proto_edit.proofs.NamedFields.{fields_are_one}
+use Rattle.proto_edit.proofs.StatementSteps.{faultless_by, place_is_one}
 use Rattle.proto_edit.proofs.Steps.{step_back, undo_once}
 
 pub described_once : DescribedOnce
@@ -32,40 +42,45 @@ one_target w reads name t u has read a b = targets_are_one w reads name t u read
 
 -- ---- the changes of an edit
 
-changes_by : (w : List FileOf) (reads : List ReadOf) (e : Asked) (cs ds : List ChangeOf) → AreCompiled w → AreRead w reads → ChangesOf w reads e cs → ChangesOf w reads e ds → cs ≡ ds
-changes_by w reads (rename name to) cs ds has read x y =
+changes_by : StatementLaws → (w : List FileOf) (reads : List ReadOf) (e : Asked) (cs ds : List ChangeOf) → AreCompiled w → AreRead w reads → ChangesOf w reads e cs → ChangesOf w reads e ds → cs ≡ ds
+changes_by laws w reads (rename name to) cs ds has read x y =
     x.2 ∙ ap (λ (t : Target). changes_of_words (renamed_words w reads t to) w reads) (one_target w reads name x.0 y.0 has read x.1 y.1) ∙ sym y.2
-changes_by w reads (delete_field name) cs ds has read x y = absurd x
-changes_by w reads (add_import file path) cs ds has read x y = absurd x
-changes_by w reads (drop_import file path) cs ds has read x y = absurd x
+changes_by laws w reads (delete_field name) cs ds has read x y =
+    x.2 ∙ ap (λ (f : FieldAt). changes_of_deletion w reads f) (fields_are_one laws w reads name x.0 y.0 (faultless_by w reads has read) x.1 y.1) ∙ sym y.2
+changes_by laws w reads (add_import file path) cs ds has read x y =
+    x.2 ∙ ap (λ (k : ℕ). changes_of_addition w reads k path) (place_is_one w file x.0 y.0 x.1 y.1) ∙ sym y.2
+changes_by laws w reads (drop_import file path) cs ds has read x y =
+    let same = place_is_one w file x.0 y.0 x.2 y.2 in
+    let other : IsImportOf w reads y.0 path x.1 = subst (λ (k : ℕ). IsImportOf w reads k path x.1) same x.3 in
+    x.4 ∙ ap (λ (k : ℕ). changes_of_drop w reads k x.1) same ∙ ap (λ (i : Import). changes_of_drop w reads y.0 i) (laws.one_import w reads path y.0 x.1 y.1 read (faultless_by w reads has read).links other y.3) ∙ sym y.4
 
-pub changes_once : (w : List FileOf) (e : Asked) (cs ds : List ChangeOf) → AreCompiled w → AreChanges w e cs → AreChanges w e ds → cs ≡ ds
-changes_once w e cs ds has x y =
-    changes_by w y.0 e cs ds has y.1 (subst (λ (rs : List ReadOf). ChangesOf w rs e cs) (read_once w x.0 y.0 x.1 y.1) x.2) y.2
+pub changes_once : StatementLaws → (w : List FileOf) (e : Asked) (cs ds : List ChangeOf) → AreCompiled w → AreChanges w e cs → AreChanges w e ds → cs ≡ ds
+changes_once laws w e cs ds has x y =
+    changes_by laws w y.0 e cs ds has y.1 (subst (λ (rs : List ReadOf). ChangesOf w rs e cs) (read_once w x.0 y.0 x.1 y.1) x.2) y.2
 
-pub steps_once : StepsOnce
-steps_once w a b e cs ds has x y =
-    let same = changes_once w e cs ds has x.changes y.changes in
+pub steps_once : StatementLaws → StepsOnce
+steps_once laws w a b e cs ds has x y =
+    let same = changes_once laws w e cs ds has x.changes y.changes in
     (same, puts_are_once w a b ds (subst (λ (z : List ChangeOf). IsPut w z a) same x.put) y.put)
 
-pub steps_are_undone : StepsAreUndone
-steps_are_undone w after e cs has s =
-    let back = step_back w e cs after s has in
+pub steps_are_undone : StatementLaws → StepsAreUndone
+steps_are_undone laws w after e cs has s =
+    let back = step_back laws w e cs after s has in
     (back, λ b undo. undo_once after b w cs undo back)
 
 -- ---- the place that is answered
 
-place_by : (w : List FileOf) (reads : List ReadOf) (e : Asked) (path file : List ℕ) (offset other : ℕ) → AreCompiled w → AreRead w reads → PlaceOf w reads e path offset → PlaceOf w reads e file other → (path ≡ file) × (offset ≡ other)
-place_by w reads (rename name to) path file offset other has read x y =
+place_by : StatementLaws → (w : List FileOf) (reads : List ReadOf) (e : Asked) (path file : List ℕ) (offset other : ℕ) → AreCompiled w → AreRead w reads → PlaceOf w reads e path offset → PlaceOf w reads e file other → (path ≡ file) × (offset ≡ other)
+place_by laws w reads (rename name to) path file offset other has read x y =
     let first = subst (λ (t : Target). IsFirstPlace w reads (Captures w reads t to) path offset) (one_target w reads name x.0 y.0 has read x.1 y.1) x.2 in
     first_places_are_one w reads y.0 to path file offset other first y.2
-place_by w reads (delete_field name) path file offset other has read x y = absurd x
-place_by w reads (add_import imports imported) path file offset other has read x y = absurd x
-place_by w reads (drop_import imports imported) path file offset other has read x y = absurd x
+place_by laws w reads (delete_field name) path file offset other has read x y = absurd x
+place_by laws w reads (add_import imports imported) path file offset other has read x y = laws.overtaken w reads imports imported path file offset other x y
+place_by laws w reads (drop_import imports imported) path file offset other has read x y = laws.needed w reads imports imported path file offset other x y
 
-pub place_once : (w : List FileOf) (e : Asked) (path file : List ℕ) (offset other : ℕ) → AreCompiled w → IsPlaceOf w e path offset → IsPlaceOf w e file other → (path ≡ file) × (offset ≡ other)
-place_once w e path file offset other has x y =
-    place_by w y.0 e path file offset other has y.1 (subst (λ (rs : List ReadOf). PlaceOf w rs e path offset) (read_once w x.0 y.0 x.1 y.1) x.2) y.2
+pub place_once : StatementLaws → (w : List FileOf) (e : Asked) (path file : List ℕ) (offset other : ℕ) → AreCompiled w → IsPlaceOf w e path offset → IsPlaceOf w e file other → (path ≡ file) × (offset ≡ other)
+place_once laws w e path file offset other has x y =
+    place_by laws w y.0 e path file offset other has y.1 (subst (λ (rs : List ReadOf). PlaceOf w rs e path offset) (read_once w x.0 y.0 x.1 y.1) x.2) y.2
 
 pub least_once : (w : List FileOf) (e : Asked) (m n : ℕ) → IsLeastCase w e m → IsLeastCase w e n → m ≡ n
 least_once w e m n x y = elim (cases_lt m n) [
@@ -76,8 +91,8 @@ least_once w e m n x y = elim (cases_lt m n) [
   ]
 ]
 
-pub refused_once : RefusedOnce
-refused_once w e has = (λ m n. least_once w e m n, λ path file offset other. place_once w e path file offset other has)
+pub refused_once : StatementLaws → RefusedOnce
+refused_once laws w e has = (λ m n. least_once w e m n, λ path file offset other. place_once laws w e path file offset other has)
 
 -- ---- the descriptors under its map
 
@@ -85,13 +100,14 @@ renamed_once : (w : List FileOf) (reads : List ReadOf) (to : List ℕ) (t : Targ
 renamed_once w reads to t ds a b read x y =
     x.2 ∙ ap (λ (v : Bool). mapped (name_map w reads t to) (record { written = v; enum = t.enum }) ds) (written_once w reads t read x.0 y.0 x.1 y.1) ∙ sym y.2
 
-mapped_by : (w : List FileOf) (reads : List ReadOf) (e : Asked) (ds a b : List FileDesc) → AreCompiled w → AreRead w reads → Maps w reads e ds a → Maps w reads e ds b → a ≡ b
-mapped_by w reads (rename name to) ds a b has read x y =
+mapped_by : StatementLaws → (w : List FileOf) (reads : List ReadOf) (e : Asked) (ds a b : List FileDesc) → AreCompiled w → AreRead w reads → Maps w reads e ds a → Maps w reads e ds b → a ≡ b
+mapped_by laws w reads (rename name to) ds a b has read x y =
     let first = subst (λ (t : Target). AreRenamed w reads t to ds a) (one_target w reads name x.0 y.0 has read x.1 y.1) x.2 in
     renamed_once w reads to y.0 ds a b read first y.2
-mapped_by w reads (delete_field name) ds a b has read x y = absurd x
-mapped_by w reads (add_import file path) ds a b has read x y = absurd x
-mapped_by w reads (drop_import file path) ds a b has read x y = absurd x
+mapped_by laws w reads (delete_field name) ds a b has read x y =
+    x.2 ∙ ap (λ (f : FieldAt). changed_at f.file (mapped_deletion f.name (tree_at reads f.file)) ds) (fields_are_one laws w reads name x.0 y.0 (faultless_by w reads has read) x.1 y.1) ∙ sym y.2
+mapped_by laws w reads (add_import file path) ds a b has read x y = x.2 ∙ ap (λ (k : ℕ). changed_at k (with_dependency path) ds) (place_is_one w file x.0 y.0 x.1 y.1) ∙ sym y.2
+mapped_by laws w reads (drop_import file path) ds a b has read x y = x.2 ∙ ap (λ (k : ℕ). changed_at k (without_dependency path) ds) (place_is_one w file x.0 y.0 x.1 y.1) ∙ sym y.2
 
-pub mapped_once : MappedOnce
-mapped_once w e ds a b has x y = mapped_by w y.0 e ds a b has y.1 (subst (λ (rs : List ReadOf). Maps w rs e ds a) (read_once w x.0 y.0 x.1 y.1) x.2) y.2
+pub mapped_once : StatementLaws → MappedOnce
+mapped_once laws w e ds a b has x y = mapped_by laws w y.0 e ds a b has y.1 (subst (λ (rs : List ReadOf). Maps w rs e ds a) (read_once w x.0 y.0 x.1 y.1) x.2) y.2

@@ -1,76 +1,16 @@
--- What refuses an edit: a rename as it is answered; deletions and changes of imports always.
-use Rattle.std.proofs.Common.{◌≡◌, ◌≢◌, ℕ, ◌⊎◌, List, inl, inr, Option, Some, None, refl, ap, ◌∙◌, arith}
-use Rattle.std.specs.Prelude.{slice_index_or, option_map}
-use Rattle.std.proofs.lemmas.List.Elements.{Contains-get_or}
+-- What refuses an edit, as each kind of edit is answered.
+use Rattle.std.proofs.Common.{ℕ, List}
 use Rattle.proto_files.specs.Faults.{HasNoFault}
-use Rattle.proto_files.specs.FilesRead.{ReadOf, AreRead}
 use Rattle.proto_files.specs.GivenFiles.{FileOf}
 use Rattle.proto_imports.specs.Links.{LinkFaults}
-use Rattle.proto_names.specs.LinkOfFiles.{IsLinkOf}
-use Rattle.proto_names.specs.Linking.{LinkOf, NameOf, name_at, text_at}
 use Rattle.proto_entries.specs.Entries.{ChangeOf}
 use Rattle.proto_entries.specs.declared.refusal.Refusal.{Refusal}
 use Rattle.proto_entries.specs.declared.refusal.Refusal.TheVariants as refusal
 use Rattle.proto_schema.specs.Whole.{of_link}
 use Rattle.proto_rename.specs.Renames.{IsLeastRenameCase, IsRenamed, IsRenameRefusal}
-use Rattle.proto_rename_laws.specs.Cases.{IsUnknown}
+use Rattle.proto_statement_edits.specs.Edits.{IsAdded, IsAdditionCase, IsAdditionRefusal, IsDeleted, IsDeletionCase, IsDeletionRefusal, IsDropCase, IsDropRefusal, IsDropped, IsLeastOf}
 use Rattle.proto_edit.specs.Compiled.{AreCompiled}
-use Rattle.proto_edit.specs.Workspaces.{DeletionCase, unknown_target, kind_not_allowed, rename, delete_field, add_import, drop_import, AreChanges, IsAdmissible, IsLeastCase, IsRefusal}
-
--- ---- names of a link
-
--- a name of the link is that of a symbol, and one that it has not is of none
-named_at : (l : LinkOf) (row : ℕ) (name : List ℕ) (found : Option NameOf) → name_at l row ≡ found → option_map (λ (n : NameOf). n.text) found ≡ Some name → (n : NameOf) × (name_at l row ≡ Some n) × (n.text ≡ name)
-named_at l row name None at e = absurd cc
-named_at l row name (Some n) at e = (n, at, cc)
-
-module _ (w : List FileOf) (l : LinkOf) (reads : List ReadOf) (read : AreRead w reads) (link : IsLinkOf w l) (name : List ℕ) where
-  unknown : ((row : ℕ) → text_at l row ≢ Some name) → IsUnknown w reads name
-  unknown none s c e =
-      let there = (link reads read).by.names.there s c in
-      none there.0 (ap (option_map (λ (n : NameOf). n.text)) there.2 ∙ ap (λ (z : List ℕ). Some z) (there.3 ∙ e))
-
-  known : (row : ℕ) → text_at l row ≡ Some name → IsUnknown w reads name → ⊥
-  known row is none =
-      let found = named_at l row name (name_at l row) refl is in
-      let n = found.0 in
-      let file = Contains-get_or n.files 0 0 ((link reads read).by.names.declared row n found.1) in
-      let s = (link reads read).by.names.only row (slice_index_or n.files 0 0) n found.1 file in
-      none s.0 s.1 (s.2 ∙ found.2)
-
--- ---- a deletion
-
-deletion_number : (files : List FileOf) (reads : List ReadOf) (name : List ℕ) (n : ℕ) → DeletionCase files reads name n → (n ≡ 2) ⊎ ((n ≡ 1) × IsUnknown files reads name)
-deletion_number files reads name n (unknown_target none) = inr (refl, none)
-deletion_number files reads name n kind_not_allowed = inl refl
-
-module _ (w : List FileOf) (l : LinkOf) (read : (reads : List ReadOf) × AreRead w reads) (link : IsLinkOf w l) (name : List ℕ) where
-  pub deletion_unknown : ((row : ℕ) → text_at l row ≢ Some name) → IsRefusal w (delete_field name) refusal.UnknownTarget
-  deletion_unknown none = record {
-    is = (read.0, read.1, unknown_target (unknown w l read.0 read.1 link name none));
-    least = λ k lt c. (elim (deletion_number w c.0 name k c.2) [
-      | inl two ↦ omega (arith, lt, two)
-      | inr one ↦ let same = one.0 in omega (arith, lt, same)
-    ]);
-  }
-
-  pub deletion_not_allowed : (row : ℕ) → text_at l row ≡ Some name → IsRefusal w (delete_field name) refusal.KindNotAllowed
-  deletion_not_allowed row is = record {
-    is = (read.0, read.1, kind_not_allowed);
-    least = λ k lt c. (elim (deletion_number w c.0 name k c.2) [
-      | inl two ↦ omega (arith, lt, two)
-      | inr one ↦ known w l c.0 c.1 link name row is one.1
-    ]);
-  }
-
--- ---- a change of imports
-
-module _ (w : List FileOf) (read : (reads : List ReadOf) × AreRead w reads) (file path : List ℕ) where
-  pub addition_refused : IsRefusal w (add_import file path) refusal.KindNotAllowed
-  addition_refused = record { is = (read.0, read.1, refl); least = λ k lt c. (let two : k ≡ 2 = c.2 in omega (arith, lt, two)) }
-
-  pub drop_refused : IsRefusal w (drop_import file path) refusal.KindNotAllowed
-  drop_refused = record { is = (read.0, read.1, refl); least = λ k lt c. (let two : k ≡ 2 = c.2 in omega (arith, lt, two)) }
+use Rattle.proto_edit.specs.Workspaces.{rename, delete_field, add_import, drop_import, AreChanges, IsAdmissible, IsLeastCase, IsRefusal}
 
 -- ---- a rename, as it is answered
 
@@ -99,6 +39,92 @@ rename_refused w name to refusal.Stale h = least_rename w name to 17 h
 
 pub rename_made : (w : List FileOf) (name to : List ℕ) (cs : List ChangeOf) → IsRenamed w name to cs → IsAdmissible w (rename name to) × AreChanges w (rename name to) cs
 rename_made w name to cs h = (h.admissible, h.changes)
+
+-- ---- a deletion
+
+least_deletion : (w : List FileOf) (name : List ℕ) (n : ℕ) → IsLeastOf (IsDeletionCase w name) n → IsLeastCase w (delete_field name) n
+least_deletion w name n l = record { is = l.is; least = l.least }
+
+pub deletion_refused : (w : List FileOf) (name : List ℕ) (r : Refusal) → IsDeletionRefusal w name r → IsRefusal w (delete_field name) r
+deletion_refused w name refusal.NoMemory h = tt
+deletion_refused w name (refusal.Captured place offset) h = absurd h
+deletion_refused w name (refusal.Needed place offset) h = absurd h
+deletion_refused w name refusal.UnknownTarget h = least_deletion w name 1 h
+deletion_refused w name refusal.KindNotAllowed h = least_deletion w name 2 h
+deletion_refused w name refusal.NotAnIdentifier h = least_deletion w name 3 h
+deletion_refused w name refusal.KeywordName h = least_deletion w name 4 h
+deletion_refused w name refusal.SameName h = least_deletion w name 5 h
+deletion_refused w name refusal.Collision h = least_deletion w name 6 h
+deletion_refused w name refusal.NameReserved h = least_deletion w name 8 h
+deletion_refused w name refusal.JsonClash h = least_deletion w name 9 h
+deletion_refused w name refusal.LastOfOneof h = least_deletion w name 10 h
+deletion_refused w name refusal.UnknownFile h = least_deletion w name 11 h
+deletion_refused w name refusal.AlreadyImported h = least_deletion w name 12 h
+deletion_refused w name refusal.NotImported h = least_deletion w name 13 h
+deletion_refused w name refusal.Cycle h = least_deletion w name 14 h
+deletion_refused w name refusal.TooLarge h = least_deletion w name 16 h
+deletion_refused w name refusal.Stale h = least_deletion w name 17 h
+
+pub deletion_made : (w : List FileOf) (name : List ℕ) (cs : List ChangeOf) → IsDeleted w name cs → IsAdmissible w (delete_field name) × AreChanges w (delete_field name) cs
+deletion_made w name cs h = (h.admissible, h.changes)
+
+-- ---- an added import
+
+least_addition : (w : List FileOf) (file path : List ℕ) (n : ℕ) → IsLeastOf (IsAdditionCase w file path) n → IsLeastCase w (add_import file path) n
+least_addition w file path n l = record { is = l.is; least = l.least }
+
+pub addition_refused : (w : List FileOf) (file path : List ℕ) (r : Refusal) → IsAdditionRefusal w file path r → IsRefusal w (add_import file path) r
+addition_refused w file path refusal.NoMemory h = tt
+addition_refused w file path (refusal.Captured place offset) h = (least_addition w file path 7 h.0, h.1)
+addition_refused w file path (refusal.Needed place offset) h = absurd h
+addition_refused w file path refusal.UnknownTarget h = least_addition w file path 1 h
+addition_refused w file path refusal.KindNotAllowed h = least_addition w file path 2 h
+addition_refused w file path refusal.NotAnIdentifier h = least_addition w file path 3 h
+addition_refused w file path refusal.KeywordName h = least_addition w file path 4 h
+addition_refused w file path refusal.SameName h = least_addition w file path 5 h
+addition_refused w file path refusal.Collision h = least_addition w file path 6 h
+addition_refused w file path refusal.NameReserved h = least_addition w file path 8 h
+addition_refused w file path refusal.JsonClash h = least_addition w file path 9 h
+addition_refused w file path refusal.LastOfOneof h = least_addition w file path 10 h
+addition_refused w file path refusal.UnknownFile h = least_addition w file path 11 h
+addition_refused w file path refusal.AlreadyImported h = least_addition w file path 12 h
+addition_refused w file path refusal.NotImported h = least_addition w file path 13 h
+addition_refused w file path refusal.Cycle h = least_addition w file path 14 h
+addition_refused w file path refusal.TooLarge h = least_addition w file path 16 h
+addition_refused w file path refusal.Stale h = least_addition w file path 17 h
+
+pub addition_made : (w : List FileOf) (file path : List ℕ) (cs : List ChangeOf) → IsAdded w file path cs → IsAdmissible w (add_import file path) × AreChanges w (add_import file path) cs
+addition_made w file path cs h = (h.admissible, h.changes)
+
+-- ---- a dropped import
+
+least_drop : (w : List FileOf) (file path : List ℕ) (n : ℕ) → IsLeastOf (IsDropCase w file path) n → IsLeastCase w (drop_import file path) n
+least_drop w file path n l = record { is = l.is; least = l.least }
+
+pub drop_refused : (w : List FileOf) (file path : List ℕ) (r : Refusal) → IsDropRefusal w file path r → IsRefusal w (drop_import file path) r
+drop_refused w file path refusal.NoMemory h = tt
+drop_refused w file path (refusal.Captured place offset) h = absurd h
+drop_refused w file path (refusal.Needed place offset) h = (least_drop w file path 15 h.0, h.1)
+drop_refused w file path refusal.UnknownTarget h = least_drop w file path 1 h
+drop_refused w file path refusal.KindNotAllowed h = least_drop w file path 2 h
+drop_refused w file path refusal.NotAnIdentifier h = least_drop w file path 3 h
+drop_refused w file path refusal.KeywordName h = least_drop w file path 4 h
+drop_refused w file path refusal.SameName h = least_drop w file path 5 h
+drop_refused w file path refusal.Collision h = least_drop w file path 6 h
+drop_refused w file path refusal.NameReserved h = least_drop w file path 8 h
+drop_refused w file path refusal.JsonClash h = least_drop w file path 9 h
+drop_refused w file path refusal.LastOfOneof h = least_drop w file path 10 h
+drop_refused w file path refusal.UnknownFile h = least_drop w file path 11 h
+drop_refused w file path refusal.AlreadyImported h = least_drop w file path 12 h
+drop_refused w file path refusal.NotImported h = least_drop w file path 13 h
+drop_refused w file path refusal.Cycle h = least_drop w file path 14 h
+drop_refused w file path refusal.TooLarge h = least_drop w file path 16 h
+drop_refused w file path refusal.Stale h = least_drop w file path 17 h
+
+pub drop_made : (w : List FileOf) (file path : List ℕ) (cs : List ChangeOf) → IsDropped w file path cs → IsAdmissible w (drop_import file path) × AreChanges w (drop_import file path) cs
+drop_made w file path cs h = (h.admissible, h.changes)
+
+-- ---- files that compile
 
 -- the link's faults are none
 pub compiled_is_linked : (w : List FileOf) → AreCompiled w → HasNoFault (LinkFaults w)

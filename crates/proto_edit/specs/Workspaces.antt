@@ -10,10 +10,19 @@ use Rattle.proto_entries.specs.Entries.{ChangeOf, inverted}
 use Rattle.proto_entries.specs.Putting.{IsPut}
 use Rattle.proto_entries.specs.RefusalTable.{number_of}
 use Rattle.proto_entries.specs.declared.refusal.Refusal.TheVariants as refusal
-use Rattle.proto_rename_laws.specs.Cases.{Captures, IsFirstPlace, IsUnknown, RenameCase}
+use Rattle.proto_rename_laws.specs.Cases.{Captures, IsFirstPlace, RenameCase}
 use Rattle.proto_rename_laws.specs.Changes.{changes_of_words}
 use Rattle.proto_rename_laws.specs.Targets.{Target, IsNamed, renamed_words}
 use Rattle.proto_rename_described.specs.Renamed.{AreRenamed}
+use Rattle.proto_statement_changes.specs.DeletionChanges.{FieldAt, changes_of_deletion}
+use Rattle.proto_statement_changes.specs.ImportChanges.{IsImportOf, changes_of_addition, changes_of_drop}
+use Rattle.proto_statement_described.specs.Files.{tree_at}
+use Rattle.proto_statement_described.specs.Imports.{with_dependency, without_dependency}
+use Rattle.proto_statement_described.specs.Lists.{changed_at}
+use Rattle.proto_statement_described.specs.Mapped.{mapped_deletion}
+use Rattle.proto_statement_edits.specs.Edits.{IsFieldNamed, RefusesAddition, RefusesDeletion}
+use Rattle.proto_statement_names.specs.Cases.{DropCase, IsNeededAt, IsOvertakenAt, IsPlaceOf as IsFileAt}
+use Rattle.proto_tree.specs.declared.tree.Import.{Import}
 use Rattle.proto_edit.specs.Compiled.{AreCompiled}
 
 -- the edits that may be asked: of names, or of a file's imports
@@ -25,17 +34,12 @@ pub data Asked : Type 0 where
 
 -- ---- the cases that refuse an edit
 
--- (Until fields are deleted: a name that nothing has is unknown, and no other is allowed.)
-pub data DeletionCase (files : List FileOf) (reads : List ReadOf) (name : List ℕ) : ℕ → Type 0 where
-  unknown_target : IsUnknown files reads name → DeletionCase files reads name 1
-  kind_not_allowed : DeletionCase files reads name 2
-
--- (Until imports are added and dropped, neither is allowed.)
+-- of a rename, a deletion, an added and a dropped import
 abbrev pub CaseOf : List FileOf → List ReadOf → Asked → ℕ → Type 0
 CaseOf files reads (rename name to) n = RenameCase files reads name to n
-CaseOf files reads (delete_field name) n = DeletionCase files reads name n
-CaseOf files reads (add_import file path) n = n ≡ 2
-CaseOf files reads (drop_import file path) n = n ≡ 2
+CaseOf files reads (delete_field name) n = RefusesDeletion files reads name n
+CaseOf files reads (add_import file path) n = RefusesAddition files reads file path n
+CaseOf files reads (drop_import file path) n = DropCase files reads file path n
 
 -- case n holds
 abbrev pub IsCase : List FileOf → Asked → ℕ → Type 0
@@ -50,12 +54,13 @@ pub record IsLeastCase (w : List FileOf) (e : Asked) (n : ℕ) : Type 0 where
 abbrev pub IsAdmissible : List FileOf → Asked → Type 0
 IsAdmissible w e = (n : ℕ) → IsCase w e n → ⊥
 
--- the path and offset that are answered with the case: of a rename, the least captured reference
+-- the path and offset that are answered with the case: of the least reference that is captured, by a rename or by an added import, or that needs
+-- a dropped one
 abbrev pub PlaceOf : List FileOf → List ReadOf → Asked → List ℕ → ℕ → Type 0
 PlaceOf files reads (rename name to) path offset = (t : Target) × IsNamed files reads name t × IsFirstPlace files reads (Captures files reads t to) path offset
 PlaceOf files reads (delete_field name) path offset = ⊥
-PlaceOf files reads (add_import file imported) path offset = ⊥
-PlaceOf files reads (drop_import file imported) path offset = ⊥
+PlaceOf files reads (add_import file imported) path offset = IsOvertakenAt files reads file imported path offset
+PlaceOf files reads (drop_import file imported) path offset = IsNeededAt files reads file imported path offset
 
 -- this path and offset are answered with the case
 abbrev pub IsPlaceOf : List FileOf → Asked → List ℕ → ℕ → Type 0
@@ -70,12 +75,12 @@ IsRefusal w e r = IsLeastCase w e (number_of r)
 
 -- ---- what an edit changes
 
--- the changes of an edit: of a rename, those of its new words
+-- the changes of an edit: of a rename, those of its new words; of another edit, its one splice
 abbrev pub ChangesOf : List FileOf → List ReadOf → Asked → List ChangeOf → Type 0
 ChangesOf files reads (rename name to) cs = (t : Target) × IsNamed files reads name t × (cs ≡ changes_of_words (renamed_words files reads t to) files reads)
-ChangesOf files reads (delete_field name) cs = ⊥
-ChangesOf files reads (add_import file path) cs = ⊥
-ChangesOf files reads (drop_import file path) cs = ⊥
+ChangesOf files reads (delete_field name) cs = (f : FieldAt) × IsFieldNamed files reads name f × (cs ≡ changes_of_deletion files reads f)
+ChangesOf files reads (add_import file path) cs = (k : ℕ) × IsFileAt files file k × (cs ≡ changes_of_addition files reads k path)
+ChangesOf files reads (drop_import file path) cs = (k : ℕ) × (i : Import) × IsFileAt files file k × IsImportOf files reads k path i × (cs ≡ changes_of_drop files reads k i)
 
 -- these are the changes of the edit
 abbrev pub AreChanges : List FileOf → Asked → List ChangeOf → Type 0
@@ -83,12 +88,12 @@ AreChanges w e cs = (reads : List ReadOf) × AreRead w reads × ChangesOf w read
 
 -- ---- what an edit leaves
 
--- the descriptors under the edit's map: of a rename, its name map
+-- the descriptors under the edit's map: of a rename, its name map; of another edit, the old ones with that of the one file changed
 abbrev pub Maps : List FileOf → List ReadOf → Asked → List FileDesc → List FileDesc → Type 0
 Maps files reads (rename name to) ds new = (t : Target) × IsNamed files reads name t × AreRenamed files reads t to ds new
-Maps files reads (delete_field name) ds new = ⊥
-Maps files reads (add_import file path) ds new = ⊥
-Maps files reads (drop_import file path) ds new = ⊥
+Maps files reads (delete_field name) ds new = (f : FieldAt) × IsFieldNamed files reads name f × (new ≡ changed_at f.file (mapped_deletion f.name (tree_at reads f.file)) ds)
+Maps files reads (add_import file path) ds new = (k : ℕ) × IsFileAt files file k × (new ≡ changed_at k (with_dependency path) ds)
+Maps files reads (drop_import file path) ds new = (k : ℕ) × IsFileAt files file k × (new ≡ changed_at k (without_dependency path) ds)
 
 -- the second descriptors are the first under the edit's map
 abbrev pub AreMapped : List FileOf → Asked → List FileDesc → List FileDesc → Type 0

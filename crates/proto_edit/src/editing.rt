@@ -4,14 +4,17 @@ ghost use Rattle.std.specs.Prelude.{◌≡◌, ◌↔◌, map, reverse, IfOk, If
 ghost use Rattle.proto_edit.specs.Answers.{asked, IsUndoRefusal, IsReopened, IsUndoAllRefusal, LeadsBack};
 ghost use Rattle.proto_entries.specs.declared.refusal.Refusal.TheVariants as Refusal;
 ghost use Rattle.proto_entries.specs.Entries.{change_of, AreRising};
-ghost use Rattle.proto_edit.specs.Workspaces.{rename as rename_asked, delete_field, IsAdmissible, AreChanges, IsRefusal, IsMappedStep, IsUndo, Run, Undone};
+ghost use Rattle.proto_edit.specs.Workspaces.{rename as rename_asked, delete_field as delete_asked, add_import as add_asked, drop_import as drop_asked, IsAdmissible, AreChanges, IsRefusal, IsMappedStep, IsUndo, Run, Undone};
 
 use crate::edit::Edit;
+use crate::laws::statements_are_known;
 use crate::workspace::Workspace;
 use proto_entries::{Change, Entry, Refusal, all_turned_round, put_all};
 use proto_faults::{NoMemory, SchemaFault};
 use proto_files::are_read;
 use proto_rename::rename;
+use proto_statement_deleted::laws::numbers_are_read;
+use proto_statement_edits::{add_import, delete_field, drop_import};
 use std::alloc::Global;
 
 impl Workspace {
@@ -23,15 +26,29 @@ impl Workspace {
         rename(alloc, self.files(), self.link(), name, to)
     }
 
-    // Why a field is not deleted: nothing has the name, or no field may be deleted yet.
-    fn kept(&self, name: &str) -> Refusal
-        ensures { IsRefusal self.now (delete_field name.now) result }
+    // What the deletion of a field changes, or the least case that refuses it. The numbers of fields that compile are small.
+    fn deleted(&self, alloc: Global, name: &str) -> Result<Vec<Change>, Refusal>
+        ensures ok { IfOk result (λ cs. IsAdmissible self.now (delete_asked name.now) × AreChanges self.now (delete_asked name.now) (map change_of cs.items)) }
+        ensures err { IfErr result (IsRefusal self.now (delete_asked name.now)) }
     {
-        are_read(self.files());
-        match self.link().symbol(name) {
-            Some(_) => Refusal::KindNotAllowed,
-            None => Refusal::UnknownTarget,
-        }
+        numbers_are_read();
+        delete_field(alloc, self.files(), self.link(), name)
+    }
+
+    // What an added import changes, or the least case that refuses it.
+    fn added(&self, alloc: Global, file: &str, path: &str) -> Result<Vec<Change>, Refusal>
+        ensures ok { IfOk result (λ cs. IsAdmissible self.now (add_asked file.now path.now) × AreChanges self.now (add_asked file.now path.now) (map change_of cs.items)) }
+        ensures err { IfErr result (IsRefusal self.now (add_asked file.now path.now)) }
+    {
+        add_import(alloc, self.files(), self.link(), file, path)
+    }
+
+    // What a dropped import changes, or the least case that refuses it.
+    fn dropped(&self, alloc: Global, file: &str, path: &str) -> Result<Vec<Change>, Refusal>
+        ensures ok { IfOk result (λ cs. IsAdmissible self.now (drop_asked file.now path.now) × AreChanges self.now (drop_asked file.now path.now) (map change_of cs.items)) }
+        ensures err { IfErr result (IsRefusal self.now (drop_asked file.now path.now)) }
+    {
+        drop_import(alloc, self.files(), self.link(), file, path)
     }
 
     // What an edit changes, file by file, or the least case that refuses it.
@@ -42,9 +59,9 @@ impl Workspace {
         are_read(self.files());
         match edit {
             Edit::Rename { name, to } => self.renamed(alloc, name.as_str(), to.as_str()),
-            Edit::DeleteField { name } => Err(self.kept(name.as_str())),
-            Edit::AddImport { .. } => Err(Refusal::KindNotAllowed),
-            Edit::DropImport { .. } => Err(Refusal::KindNotAllowed),
+            Edit::DeleteField { name } => self.deleted(alloc, name.as_str()),
+            Edit::AddImport { file, path } => self.added(alloc, file.as_str(), path.as_str()),
+            Edit::DropImport { file, path } => self.dropped(alloc, file.as_str(), path.as_str()),
         }
     }
 
@@ -65,13 +82,13 @@ impl Workspace {
     }
 
     /// The workspace after an edit, and what the edit changed, where it is admissible here; else the least case that
-    /// refuses it. The new files compile to the old descriptors under the edit's name map. Until they come, the other
-    /// edits are refused as not allowed.
+    /// refuses it. The new files compile to the old descriptors under the edit's map.
     pub fn with_edit(&self, alloc: Global, edit: &Edit) -> Result<(Workspace, Entry), Refusal>
         ensures ok { IfOk result (λ x. IsMappedStep self.now (asked edit.now) x.1 x.0) }
         ensures err { IfErr result (IsRefusal self.now (asked edit.now)) }
     {
         // The files compile, so what is admissible can be made.
+        statements_are_known();
         self.files();
         let changes = self.change(alloc, edit)?;
         let workspace = match self.reopened(alloc, &changes)? {
@@ -169,6 +186,7 @@ impl Workspace {
         // From the files of a run, undoing its entries leads back.
         ensures back { LeadsBack self.now entries.now result }
     {
+        statements_are_known();
         let mut workspace = self.copied(alloc)?;
         for entry in entries.iter().rev() {
             workspace = workspace.without_entry(alloc, entry)?;

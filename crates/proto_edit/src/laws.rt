@@ -2,7 +2,13 @@
 
 ghost use Rattle.proto_entries.specs.Laws.{PutsOnce};
 ghost use Rattle.proto_edit.specs.Laws.{CompiledAreRead, DescribedOnce, EditsAreMade, MappedOnce, RefusedOnce, RunsAreUndone, StepsAreUndone, StepsCompile, StepsOnce, UndoneOnce, WorkspacesAreClean};
-ghost use Rattle.proto_edit.specs.MappedSteps.{AdmissibleRenamesStep, RenamesAreSteps};
+ghost use Rattle.proto_edit.specs.MappedSteps.{AdmissibleAdditionsStep, AdmissibleDeletionsStep, AdmissibleDropsStep, AdmissibleRenamesStep, RenamesAreSteps};
+ghost use Rattle.proto_edit.specs.StatementLaws.{StatementLaws};
+
+use proto_statement_changes::laws::fields_are_one as statements_are_one;
+use proto_statement_deleted::laws::{deletions_are_made, fields_may_be_deleted};
+use proto_statement_imports::laws::{additions_are_made, drops_are_made, statements_are_found};
+use proto_statement_names::laws::{fields_are_one, places_are_one};
 
 /// Files that compile have no fault, as a workspace that is given; and they have tokens and trees.
 pub fn compiled_is_clean()
@@ -17,11 +23,34 @@ pub fn renames_are_steps()
     ensures there { AdmissibleRenamesStep }
 {}
 
+/// The deletion of a field that no case refuses is a mapped step, and its changes are an entry.
+pub fn deletions_are_steps()
+    ensures { AdmissibleDeletionsStep }
+{
+    statements_are_known();
+}
+
+/// The same of an added import.
+pub fn additions_are_steps()
+    ensures { AdmissibleAdditionsStep }
+{
+    statements_are_known();
+}
+
+/// The same of a dropped import.
+pub fn drops_are_steps()
+    ensures { AdmissibleDropsStep }
+{
+    statements_are_known();
+}
+
 /// An admissible edit of a workspace can be made, and leaves files that compile to the old descriptors under its map.
 pub fn edits_compile()
     ensures made { EditsAreMade }
     ensures mapped { StepsCompile }
-{}
+{
+    statements_are_known();
+}
 
 /// Changes put one list of files; the accepted entries of a run, undone from the last to the first, lead back to the files
 /// before it, and to no others.
@@ -29,7 +58,9 @@ pub fn runs_are_undone()
     ensures back { RunsAreUndone }
     ensures puts { PutsOnce }
     ensures once { UndoneOnce }
-{}
+{
+    statements_are_known();
+}
 
 /// Files that compile have one list of descriptors; an edit changes them in one way, to one list of descriptors under its
 /// map, or is refused by one case, with one place where one is answered.
@@ -38,9 +69,27 @@ pub fn answers_are_one()
     ensures steps { StepsOnce }
     ensures mapped { MappedOnce }
     ensures refused { RefusedOnce }
-{}
+{
+    statements_are_known();
+}
 
 /// Undoing what an edit answered leads back to the files before it, and to no others.
 pub fn steps_are_undone()
     ensures { StepsAreUndone }
-{}
+{
+    statements_are_known();
+}
+
+/// What edits of statements rest on.
+pub(crate) fn statements_are_known()
+    ensures { StatementLaws }
+{
+    deletions_are_made();
+    fields_may_be_deleted();
+    fields_are_one();
+    statements_are_one();
+    additions_are_made();
+    drops_are_made();
+    statements_are_found();
+    places_are_one();
+}

@@ -2,74 +2,101 @@
 //! allocation this test still passes, whichever it is.
 
 use super::calls::*;
-use super::rows::{Row, TYPES};
+use super::rows::{MAPS, MEMBERS, Row, TYPES};
 use proto_edit::*;
-use proto_faults::SchemaFault;
+use proto_faults::{NoMemory, SchemaFault};
 use std::alloc::Global;
+use std::process::Abort;
 use std::test::Fail;
 
-// The rename of a message that two other files use.
-fn row() -> &'static Row {
-    &TYPES[3]
+// What a call answers, at the second time if there was no memory at the first.
+fn opened_at_last(alloc: Global, files: Texts) -> Result<Workspace, SchemaFault> {
+    match opened(alloc, files) {
+        Err(SchemaFault::NoMemory) => opened(alloc, files),
+        answer => answer,
+    }
 }
 
-// Opened, at the second call if the first has no memory.
-fn reopened(alloc: Global) -> Result<Workspace, Fail> {
-    match opened(alloc, row().files) {
-        Err(SchemaFault::NoMemory) => Ok(opened(alloc, row().files)?),
+fn json_at_last(alloc: Global, workspace: &Workspace) -> Result<String, NoMemory> {
+    match json_of(alloc, workspace) {
+        Err(_) => json_of(alloc, workspace),
+        json => json,
+    }
+}
+
+fn told_at_last(alloc: Global, entry: &Entry) -> Result<String, NoMemory> {
+    match told_of_entry(alloc, entry) {
+        Err(_) => told_of_entry(alloc, entry),
+        text => text,
+    }
+}
+
+fn expect_held<R: AllocGlobal + Abort>(
+    rt: &R,
+    workspace: &Workspace,
+    files: Texts,
+    json: &str,
+) -> Result<(), Fail> {
+    assert!(rt; are_texts(workspace, files));
+    assert_eq!(rt; json_at_last(rt.alloc(), workspace)?.as_str(), json);
+    Ok(())
+}
+
+fn applied<R: AllocGlobal + Abort>(
+    rt: &R,
+    workspace: &mut Workspace,
+    row: &Row,
+    json: &str,
+) -> Result<Entry, Fail> {
+    let [(name, to, _), ..] = row.steps else {
+        panic!(rt; "no step");
+    };
+    match apply(rt.alloc(), workspace, name, to) {
+        Err(Refusal::NoMemory) => {
+            expect_held(rt, workspace, row.files, json)?;
+            Ok(apply(rt.alloc(), workspace, name, to)?)
+        }
         answer => Ok(answer?),
     }
 }
 
-// Whether the descriptors, asked twice if need be, have what the row says.
-fn is_described(alloc: Global, workspace: &Workspace) -> bool {
-    let json = match json_of(alloc, workspace) {
-        Ok(json) => Ok(json),
-        Err(_) => json_of(alloc, workspace),
-    };
-    match json {
-        Ok(json) => json.as_str().contains(row().json),
-        Err(_) => false,
-    }
-}
-
-fn applied(alloc: Global, workspace: &mut Workspace) -> Result<Entry, Refusal> {
-    apply(alloc, workspace, "M", "N")
-}
-
-// The entry, and whether all was as before when there was no memory for it.
-fn edited(alloc: Global, workspace: &mut Workspace) -> Result<(Entry, bool), Refusal> {
-    match applied(alloc, workspace) {
+fn undone<R: AllocGlobal + Abort>(
+    rt: &R,
+    workspace: &mut Workspace,
+    row: &Row,
+    entry: &Entry,
+    json: &str,
+) -> Result<(), Fail> {
+    match undo(rt.alloc(), workspace, entry) {
         Err(Refusal::NoMemory) => {
-            let is_kept = are_texts(workspace, row().files) && !is_described(alloc, workspace);
-            Ok((applied(alloc, workspace)?, is_kept))
+            expect_held(rt, workspace, row.after, json)?;
+            Ok(undo(rt.alloc(), workspace, entry)?)
         }
-        answer => Ok((answer?, true)),
+        answer => Ok(answer?),
     }
 }
 
-// Whether all was as before when there was no memory for undoing.
-fn undone(alloc: Global, workspace: &mut Workspace, entry: &Entry) -> Result<bool, Refusal> {
-    match undo(alloc, workspace, entry) {
-        Err(Refusal::NoMemory) => {
-            let is_kept = are_texts(workspace, row().after) && is_described(alloc, workspace);
-            undo(alloc, workspace, entry)?;
-            Ok(is_kept)
-        }
-        Err(refusal) => Err(refusal),
-        Ok(()) => Ok(true),
-    }
+// The row's rename and the way back, whatever is refused.
+fn expect_row<R: AllocGlobal + Abort>(rt: &R, row: &Row) -> Result<(), Fail> {
+    let alloc = rt.alloc();
+    assert_eq!(rt; row.steps.len(), 1);
+    let (_, _, wanted) = row.steps[0];
+    let mut workspace = opened_at_last(alloc, row.files)?;
+    let first = json_at_last(alloc, &workspace)?;
+    let entry = applied(rt, &mut workspace, row, first.as_str())?;
+    assert_eq!(rt; told_at_last(alloc, &entry)?.as_str(), wanted);
+    let last = json_at_last(alloc, &workspace)?;
+    assert!(rt; last.as_str().contains(row.json), "{last}");
+    expect_held(rt, &workspace, row.after, last.as_str())?;
+    undone(rt, &mut workspace, row, &entry, last.as_str())?;
+    expect_held(rt, &workspace, row.files, first.as_str())
 }
 
+// A message that two other files use, a value that is a default, a map field.
 #[test]
 fn one_is_refused(rt: HostRuntime) -> Result<(), Fail> {
-    let alloc = rt.alloc();
-    let mut workspace = reopened(alloc)?;
-    let (entry, is_kept) = edited(alloc, &mut workspace)?;
-    assert!(rt; is_kept, "a refused edit");
-    assert!(rt; are_texts(&workspace, row().after), "edited");
-    assert!(rt; is_described(alloc, &workspace), "described");
-    assert!(rt; undone(alloc, &mut workspace, &entry)?, "a refused undo");
-    assert!(rt; are_texts(&workspace, row().files), "undone");
+    for row in [&TYPES[3], &MEMBERS[3], &MAPS[0]] {
+        expect_row(&rt, row)?;
+    }
     Ok(())
 }

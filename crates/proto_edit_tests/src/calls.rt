@@ -3,7 +3,6 @@
 use proto_edit::*;
 use proto_faults::{NoMemory, SchemaFault};
 use std::alloc::Global;
-use std::test::Fail;
 
 /// Files: paths and texts.
 pub(crate) type Texts = &'static [(&'static str, &'static str)];
@@ -15,6 +14,15 @@ fn given(alloc: Global, texts: &[(&str, &str)]) -> Result<Vec<(String, Vec<u8>)>
         files.push((path, Vec::from_slice(alloc, text.as_bytes())?))?;
     }
     Ok(files)
+}
+
+/// The text, and spaces behind it up to so many bytes.
+pub(crate) fn filled(alloc: Global, text: &str, length: usize) -> Result<String, NoMemory> {
+    let mut filled = String::from_str(alloc, text)?;
+    for _ in text.len()..length {
+        filled.push(' ')?;
+    }
+    Ok(filled)
 }
 
 pub(crate) fn opened(alloc: Global, texts: &[(&str, &str)]) -> Result<Workspace, SchemaFault> {
@@ -68,18 +76,18 @@ pub(crate) fn said<T: Drop>(answer: Result<T, Refusal>) -> (u32, &'static str) {
 }
 
 /// What an edit is answered.
-pub(crate) fn told(alloc: Global, answer: Result<Entry, Refusal>) -> Result<String, Fail> {
+pub(crate) fn told(alloc: Global, answer: &Result<Entry, Refusal>) -> Result<String, NoMemory> {
     match answer {
-        Ok(entry) => told_of_entry(alloc, &entry),
-        Err(refusal) => Ok(told_of_refusal(alloc, &refusal)?),
+        Ok(entry) => told_of_entry(alloc, entry),
+        Err(refusal) => told_of_refusal(alloc, refusal),
     }
 }
 
-/// A refusal as `number name`, behind which a captured reference has its `path offset`.
-pub(crate) fn told_of_refusal(alloc: Global, refusal: &Refusal) -> Result<String, NoMemory> {
+// A refusal as `number name`, behind which a reference has its `path offset`.
+fn told_of_refusal(alloc: Global, refusal: &Refusal) -> Result<String, NoMemory> {
     let (number, name) = (refusal.number(), refusal.name());
     match refusal {
-        Refusal::Captured { path, offset } => {
+        Refusal::Captured { path, offset } | Refusal::Needed { path, offset } => {
             let (path, offset) = (path.as_str(), *offset);
             Ok(format!(in alloc; "{number} {name} {path} {offset}")?)
         }
@@ -88,7 +96,7 @@ pub(crate) fn told_of_refusal(alloc: Global, refusal: &Refusal) -> Result<String
 }
 
 /// The changes of an entry, each as `path before after (at old new)..;`.
-pub(crate) fn told_of_entry(alloc: Global, entry: &Entry) -> Result<String, Fail> {
+pub(crate) fn told_of_entry(alloc: Global, entry: &Entry) -> Result<String, NoMemory> {
     let mut out = String::new(alloc);
     for change in entry.changes() {
         let (path, before, after) = (change.path.as_str(), change.before, change.after);
@@ -98,7 +106,7 @@ pub(crate) fn told_of_entry(alloc: Global, entry: &Entry) -> Result<String, Fail
     Ok(out)
 }
 
-fn told_of_splices(alloc: Global, change: &Change) -> Result<String, Fail> {
+fn told_of_splices(alloc: Global, change: &Change) -> Result<String, NoMemory> {
     let mut out = String::new(alloc);
     for splice in change.splices.as_slice() {
         let (at, old, new) = (splice.at, splice.old.as_str(), splice.new.as_str());

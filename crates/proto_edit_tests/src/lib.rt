@@ -1,4 +1,4 @@
-//! Tests of the workspace and its edits, through its public calls alone.
+//! Tests of the workspace and its renames, through its public calls alone.
 #![tactic(auto)]
 
 #[cfg(test)]

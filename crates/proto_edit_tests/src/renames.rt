@@ -38,18 +38,16 @@ fn as_a_run(
 fn sorted(
     alloc: Global,
     answers: Vec<Result<Entry, Refusal>>,
-) -> Result<(String, Vec<Entry>), Fail> {
+) -> Result<(String, Vec<Entry>), NoMemory> {
     let mut text = String::new(alloc);
     let mut entries = Vec::new(alloc);
     for answer in answers {
-        match answer {
-            Ok(entry) => {
-                text.push_str(told_of_entry(alloc, &entry)?.as_str())?;
-                entries.push(entry)?;
-            }
-            Err(refusal) => text.push_str(told_of_refusal(alloc, &refusal)?.as_str())?,
-        }
+        text.push_str(told(alloc, &answer)?.as_str())?;
         text.push('\n')?;
+        match answer {
+            Ok(entry) => entries.push(entry)?,
+            Err(_refusal) => {}
+        }
     }
     Ok((text, entries))
 }
@@ -127,19 +125,10 @@ fn are_undone_from_the_last_one_on(rt: HostRuntime) -> Result<(), Fail> {
     Ok(())
 }
 
-// The text, and spaces behind it up to the greatest length of a file.
-fn filled(alloc: Global, text: &str) -> Result<String, NoMemory> {
-    let mut filled = String::from_str(alloc, text)?;
-    for _ in text.len()..1048576 {
-        filled.push(' ')?;
-    }
-    Ok(filled)
-}
-
 #[test]
 fn do_not_fit_a_full_file(rt: HostRuntime) -> Result<(), Fail> {
     let alloc = rt.alloc();
-    let text = filled(alloc, ONE[0].1)?;
+    let text = filled(alloc, ONE[0].1, 1048576)?;
     let mut workspace = opened(alloc, &[("a.proto", text.as_str())])?;
     for (to, answer) in [
         ("b_c_d", "16 TooLarge"),
@@ -147,41 +136,7 @@ fn do_not_fit_a_full_file(rt: HostRuntime) -> Result<(), Fail> {
         ("b_c_d", "1 UnknownTarget"),
     ] {
         let got = apply(alloc, &mut workspace, "A.b_c", to);
-        assert_eq!(rt; told(alloc, got)?.as_str(), answer, "to {to}");
-    }
-    Ok(())
-}
-
-// One edit of each other kind: of this name, and of imports of this file.
-fn other_edits(alloc: Global, name: &str, file: &str) -> Result<[Edit; 3], NoMemory> {
-    let text = |text: &str| String::from_str(alloc, text);
-    Ok([
-        Edit::DeleteField { name: text(name)? },
-        Edit::AddImport {
-            file: text(file)?,
-            path: text("b.proto")?,
-        },
-        Edit::DropImport {
-            file: text(file)?,
-            path: text("b.proto")?,
-        },
-    ])
-}
-
-#[test]
-fn are_the_only_edits_yet(rt: HostRuntime) -> Result<(), Fail> {
-    let alloc = rt.alloc();
-    let workspace = opened(alloc, ONE)?;
-    let no = (2, "KindNotAllowed");
-    for (name, file, deletion) in [
-        ("A", "a.proto", no),
-        ("A.b_c", "no.proto", no),
-        ("A.q", "a.proto", (1, "UnknownTarget")),
-    ] {
-        let edits = other_edits(alloc, name, file)?;
-        for (edit, wanted) in edits.iter().zip([deletion, no, no]) {
-            assert!(rt; said(workspace.with_edit(alloc, edit)) == wanted, "{name}");
-        }
+        assert_eq!(rt; told(alloc, &got)?.as_str(), answer, "to {to}");
     }
     Ok(())
 }

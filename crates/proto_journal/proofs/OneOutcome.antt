@@ -10,8 +10,9 @@ use Rattle.proto_entries.specs.declared.refusal.Refusal.{Refusal}
 use Rattle.proto_entries.specs.declared.refusal.Refusal.TheVariants as refusal
 use Rattle.proto_entries.specs.RefusalTable.{number_of}
 use Rattle.proto_edit.specs.Compiled.{AreCompiled}
+use Rattle.proto_edit.specs.Laws.{RefusedOnce, StepsOnce}
 use Rattle.proto_edit.specs.Workspaces.{Asked, IsLeastCase, IsMappedStep, IsPlaceOf, IsUndo}
-use Rattle.proto_edit.proofs.OneAnswer.{least_once, place_once, steps_once}
+use Rattle.proto_edit.proofs.OneAnswer.{least_once}
 use Rattle.proto_edit.proofs.Steps.{undo_once}
 use Rattle.proto_records.specs.declared.fault.JournalFault.{JournalFault}
 use Rattle.proto_records.specs.declared.fault.JournalFault.TheVariants as fault
@@ -78,16 +79,16 @@ numbered : {P : Type 0} (m n : ℕ) → m ≡ n → (n == n) ≡ true → (m == 
 numbered m n same itself differs = let e : true ≡ false = sym itself ∙ ap (λ (k : ℕ). k == n) (sym same) ∙ differs in cc
 
 -- one number and one place, one refusal
-told_alike : (from : List FileOf) (e : Asked) (r s : Refusal) → AreCompiled from → number_of r ≡ number_of s → IsTold from e r → IsTold from e s → IsSameRefusal r s
-told_alike from e r s has same (by_number x p a b) (by_number y q c d) = subst (λ (z : Refusal). IsSameRefusal r z) (sym p ∙ ap plain same ∙ q) (same_itself r)
-told_alike from e r s has same (by_number x p a b) (captured path offset there) = numbered (number_of r) 7 same refl a
-told_alike from e r s has same (by_number x p a b) (needed path offset there) = numbered (number_of r) 15 same refl b
-told_alike from e r s has same (captured path offset there) (by_number y q c d) = numbered (number_of s) 7 (sym same) refl c
-told_alike from e r s has same (captured path offset x) (captured file other y) = place_once from e (string_bytes path) (string_bytes file) offset other has x y
-told_alike from e r s has same (captured path offset x) (needed file other y) = numbered 7 15 same refl refl
-told_alike from e r s has same (needed path offset there) (by_number y q c d) = numbered (number_of s) 15 (sym same) refl d
-told_alike from e r s has same (needed path offset x) (captured file other y) = numbered 15 7 same refl refl
-told_alike from e r s has same (needed path offset x) (needed file other y) = place_once from e (string_bytes path) (string_bytes file) offset other has x y
+told_alike : RefusedOnce → (from : List FileOf) (e : Asked) (r s : Refusal) → AreCompiled from → number_of r ≡ number_of s → IsTold from e r → IsTold from e s → IsSameRefusal r s
+told_alike refused_once from e r s has same (by_number x p a b) (by_number y q c d) = subst (λ (z : Refusal). IsSameRefusal r z) (sym p ∙ ap plain same ∙ q) (same_itself r)
+told_alike refused_once from e r s has same (by_number x p a b) (captured path offset there) = numbered (number_of r) 7 same refl a
+told_alike refused_once from e r s has same (by_number x p a b) (needed path offset there) = numbered (number_of r) 15 same refl b
+told_alike refused_once from e r s has same (captured path offset there) (by_number y q c d) = numbered (number_of s) 7 (sym same) refl c
+told_alike refused_once from e r s has same (captured path offset x) (captured file other y) = (refused_once from e has).1 (string_bytes path) (string_bytes file) offset other x y
+told_alike refused_once from e r s has same (captured path offset x) (needed file other y) = numbered 7 15 same refl refl
+told_alike refused_once from e r s has same (needed path offset there) (by_number y q c d) = numbered (number_of s) 15 (sym same) refl d
+told_alike refused_once from e r s has same (needed path offset x) (captured file other y) = numbered 15 7 same refl refl
+told_alike refused_once from e r s has same (needed path offset x) (needed file other y) = (refused_once from e has).1 (string_bytes path) (string_bytes file) offset other x y
 
 -- ---- stores
 
@@ -138,7 +139,7 @@ is_stale : (from to : List FileOf) (old : Held) (new : Option Held) (r : Refusal
 is_stale from to old new refusal.Stale o = record { stay = o.0; stale = o.1; is = refl }
 is_stale from to old new r o = absurd o
 
-module _ (one_way : IsReadInOneWay) where
+module _ (one_way : IsReadInOneWay) (steps_once : StepsOnce) (refused_once : RefusedOnce) where
   -- ---- what a journal says is one thing
 
   not_unreadable : {P : Type 0} (old : Held) → IsUnreadable old → IsReady old → P
@@ -245,7 +246,7 @@ module _ (one_way : IsReadInOneWay) where
     of_refused a (Err (fault.Refused r)) s p q =
         let i : IsRefused e from other old now r = is_refused e from other old now r q in
         let x = stays_once from to other old new now p.stay i.stay in
-        (told_alike from e a r has (least_once from e (number_of a) (number_of r) p.least i.least) p.is i.is, x.0, x.1)
+        (told_alike refused_once from e a r has (least_once from e (number_of a) (number_of r) p.least i.least) p.is i.is, x.0, x.1)
 
   pub commits_are_one : CommitsAreOne
   commits_are_one e from to other old new now (Ok x) b has s t p q = of_committed e from to other old new now has x b t p q

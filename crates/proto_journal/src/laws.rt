@@ -3,6 +3,7 @@
 ghost use Rattle.proto_journal.specs.Laws.{CommitsAreOne, CutCommitsComeBack, CutUndosComeBack, TornUndoIsTorn, UndosAreOne};
 ghost use Rattle.proto_recovery.specs.Laws.{TornBetweenIsTorn};
 
+use proto_edit::laws::answers_are_one as edits_are_one;
 use proto_records::laws::{journals_are_read_in_one_way, journals_grow_and_shrink};
 use proto_recovery::laws::{recoveries_are_one, torn_stores_come_back};
 
@@ -13,6 +14,7 @@ pub fn answers_are_one()
     ensures undos { UndosAreOne }
 {
     journals_are_read_in_one_way();
+    edits_are_one();
 }
 
 /// Where a commit or an undo leaves a store torn, each file of the entry is as before or as after it.

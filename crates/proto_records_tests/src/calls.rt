@@ -7,14 +7,14 @@ use proto_text::{Splice, Splices};
 use std::alloc::Global;
 
 /// The line of a rename of `b_c` to `d_e` in a file of 48 bytes.
-pub const LINE: &str =
+pub(crate) const LINE: &str =
     "{\"files\":[{\"after\":48,\"before\":48,\"path\":\"a.proto\",\"splices\":[{\"at\":38,\"new\":\"d_e\",\"old\":\"b_c\"}]}],\"state\":\"done\",\"version\":1}\n";
 
-pub const OPEN_LINE: &str =
+pub(crate) const OPEN_LINE: &str =
     "{\"files\":[{\"after\":48,\"before\":48,\"path\":\"a.proto\",\"splices\":[{\"at\":38,\"new\":\"d_e\",\"old\":\"b_c\"}]}],\"state\":\"open\",\"version\":1}\n";
 
 /// The entry of one splice at byte 38 of a file of 48 bytes, if there is one.
-pub fn entry_of(
+pub(crate) fn entry_of(
     alloc: Global,
     old: &str,
     new: &str,
@@ -50,19 +50,22 @@ fn texts_of(alloc: Global, records: &[Record]) -> Result<String, NoMemory> {
 }
 
 /// The texts of the records that are read.
-pub fn reread(alloc: Global, bytes: &[u8]) -> Result<String, JournalFault> {
+pub(crate) fn reread(alloc: Global, bytes: &[u8]) -> Result<String, JournalFault> {
     let records = read_records(alloc, bytes)?;
     Ok(texts_of(alloc, records.as_slice())?)
 }
 
 /// The text of the record that is read.
-pub fn reread_entry(alloc: Global, bytes: &[u8]) -> Result<String, JournalFault> {
+pub(crate) fn reread_entry(alloc: Global, bytes: &[u8]) -> Result<String, JournalFault> {
     let noted = read_entry(alloc, bytes)?;
     Ok(entry_text(alloc, &noted)?)
 }
 
 /// The text that was read, or the number and the name of the fault.
-pub fn said(alloc: Global, answer: Result<String, JournalFault>) -> Result<String, NoMemory> {
+pub(crate) fn said(
+    alloc: Global,
+    answer: Result<String, JournalFault>,
+) -> Result<String, NoMemory> {
     match answer {
         Ok(text) => Ok(text),
         Err(fault) => {
@@ -74,19 +77,19 @@ pub fn said(alloc: Global, answer: Result<String, JournalFault>) -> Result<Strin
 }
 
 /// Whether a record is read of the line whose text is the line.
-pub fn is_line(alloc: Global, line: &str) -> Result<bool, NoMemory> {
+pub(crate) fn is_line(alloc: Global, line: &str) -> Result<bool, NoMemory> {
     let answer = said(alloc, reread_entry(alloc, line.as_bytes()))?;
     Ok(answer.as_str() == line)
 }
 
 /// Whether a line is no record's text.
-pub fn is_bad(alloc: Global, line: &str) -> Result<bool, NoMemory> {
+pub(crate) fn is_bad(alloc: Global, line: &str) -> Result<bool, NoMemory> {
     let answer = said(alloc, reread_entry(alloc, line.as_bytes()))?;
     Ok(answer.as_str() == "1 BadJournal")
 }
 
 /// The line with a part replaced where it stands first, or the empty text where it does not stand.
-pub fn with_part(alloc: Global, from: &str, to: &str) -> Result<String, NoMemory> {
+pub(crate) fn with_part(alloc: Global, from: &str, to: &str) -> Result<String, NoMemory> {
     match LINE.split_once(from) {
         Some((front, back)) => Ok(format!(in alloc; "{front}{to}{back}")?),
         None => Ok(String::new(alloc)),
@@ -94,7 +97,7 @@ pub fn with_part(alloc: Global, from: &str, to: &str) -> Result<String, NoMemory
 }
 
 /// The line of these changes, done.
-pub fn with_files(alloc: Global, files: &str) -> Result<String, NoMemory> {
+pub(crate) fn with_files(alloc: Global, files: &str) -> Result<String, NoMemory> {
     let mut line = String::from_str(alloc, "{\"files\":[")?;
     line.push_str(files)?;
     line.push_str("],\"state\":\"done\",\"version\":1}\n")?;

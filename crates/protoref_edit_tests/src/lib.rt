@@ -8,13 +8,13 @@ mod full;
 #[cfg(test)]
 mod journals;
 #[cfg(test)]
-mod lines;
-#[cfg(test)]
 mod mended;
 #[cfg(test)]
 mod recoveries;
 #[cfg(test)]
 mod renames;
+#[cfg(test)]
+mod statements;
 #[cfg(test)]
 mod stops;
 #[cfg(test)]

@@ -1,7 +1,6 @@
 //! What renames print and leave, and why they are refused.
 
 use crate::calls::{LINE, RENAMED, ROW, expect, expect_held, rename, store_of};
-use proto_edit::Edit;
 use protoref_run::{Command, Status};
 use std::process::Abort;
 use std::test::Fail;
@@ -108,11 +107,4 @@ fn goes_on_behind_older_entries(rt: HostRuntime) -> Result<(), Fail> {
         )?;
     }
     expect_held(&rt, &mut store, ROW, "")
-}
-
-#[test]
-fn tells_of_other_edits(rt: HostRuntime) -> Result<(), Fail> {
-    let name = String::from_str(rt.alloc(), "A.q")?;
-    let edit = Command::Edit(Edit::DeleteField { name });
-    expect_refused(&rt, edit, ROW, "refused: 1 UnknownTarget\n")
 }

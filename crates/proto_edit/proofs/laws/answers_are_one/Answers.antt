@@ -2,4 +2,4 @@ use Rattle.proto_edit.proofs.OneAnswer.{described_once, mapped_once, refused_onc
 use Rattle.proto_edit.proofs.laws.answers_are_one.Goals as goal
 
 pub returns : goal.returns
-returns c = record { described = described_once; steps = steps_once; mapped = mapped_once; refused = refused_once }
+returns c = record { described = described_once; steps = steps_once c.statements_are_known.ensures; mapped = mapped_once c.statements_are_known.ensures; refused = refused_once c.statements_are_known.ensures }

@@ -2,4 +2,4 @@ use Rattle.proto_edit.proofs.Steps.{edits_are_made, steps_compile}
 use Rattle.proto_edit.proofs.laws.edits_compile.Goals as goal
 
 pub returns : goal.returns
-returns c = record { made = edits_are_made; mapped = steps_compile }
+returns c = record { made = edits_are_made c.statements_are_known.ensures; mapped = steps_compile c.statements_are_known.ensures }

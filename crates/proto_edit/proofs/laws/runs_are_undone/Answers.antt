@@ -3,4 +3,4 @@ use Rattle.proto_edit.proofs.Steps.{runs_are_undone, undone_once}
 use Rattle.proto_edit.proofs.laws.runs_are_undone.Goals as goal
 
 pub returns : goal.returns
-returns c = record { back = runs_are_undone; puts = puts_are_once; once = undone_once }
+returns c = record { back = runs_are_undone c.statements_are_known.ensures; puts = puts_are_once; once = undone_once }

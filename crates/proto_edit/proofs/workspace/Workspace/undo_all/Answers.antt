@@ -28,10 +28,10 @@ returns-in_err-workspace-2-clause-err c =
 pub returns-in_err-workspace-2-clause-back : goal.returns-in_err-workspace-2-clause-back
 returns-in_err-workspace-2-clause-back c =
     let p = err_from_is_err_and c.from_residual-in_err-workspace-2.result c.from_residual-in_err-workspace-2.ensures.1 in
-    rw (p.1, p.2) (back_err c.args.self.now c.args.entries.now c.in_err-workspace-2.field-0.0 (refused (goal.at.returns-in_err-workspace-2-clause-back c).In_err-workspace-2))
+    rw (p.1, p.2) (back_err c.statements_are_known.ensures c.args.self.now c.args.entries.now c.in_err-workspace-2.field-0.0 (refused (goal.at.returns-in_err-workspace-2-clause-back c).In_err-workspace-2))
 
 pub returns-clause-back : goal.returns-clause-back
 returns-clause-back c =
     let road = YieldsList-from_rev_slice c.args.entries.now (cc) in
     let end = YieldsList-end road c.loop-entry.yielded _ c.loop-entry.yielded_by _ _ c.in-None.is c.next.ensures.steps in
-    back_ok c.args.self.now c.loop-entry.workspace c.args.entries.now (subst (λ (z : List (List ChangeOf)). Undone c.args.self.now z c.loop-entry.workspace) end.0 c.loop-entry.invariant)
+    back_ok c.statements_are_known.ensures c.args.self.now c.loop-entry.workspace c.args.entries.now (subst (λ (z : List (List ChangeOf)). Undone c.args.self.now z c.loop-entry.workspace) end.0 c.loop-entry.invariant)

@@ -1,0 +1,6 @@
+use Rattle.proto_edit.specs.Workspaces.{add_import}
+use Rattle.proto_edit.proofs.Steps.{admissible_step}
+use Rattle.proto_edit.proofs.laws.additions_are_steps.Goals as goal
+
+pub returns : goal.returns
+returns c = λ files file path has ok. admissible_step c.statements_are_known.ensures files (add_import file path) has ok

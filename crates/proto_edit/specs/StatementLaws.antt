@@ -1,0 +1,20 @@
+-- What edits of statements rest on: laws of deleted fields, of added and of dropped imports.
+use Rattle.proto_statement_changes.specs.DeletionChanges.{FieldsAreOne}
+use Rattle.proto_statement_deleted.specs.Workspace.{DeletionsAreMade, FieldsMayBeDeleted}
+use Rattle.proto_statement_imports.specs.Statements.{FilesAreThere, ImportsAreOne, ImportsAreThere}
+use Rattle.proto_statement_imports.specs.Workspaces.{AdditionsAreMade, DropsAreMade}
+use Rattle.proto_statement_names.specs.Fields.{FieldsAreOne as NamedFieldsAreOne}
+use Rattle.proto_statement_names.specs.Places.{NeededPlacesAreOne, OvertakenPlacesAreOne}
+
+pub record StatementLaws : Type 0 where
+  pub deleted : DeletionsAreMade
+  pub fields : FieldsMayBeDeleted
+  pub one_named : NamedFieldsAreOne
+  pub one_field : FieldsAreOne
+  pub added : AdditionsAreMade
+  pub files : FilesAreThere
+  pub overtaken : OvertakenPlacesAreOne
+  pub dropped : DropsAreMade
+  pub imports : ImportsAreThere
+  pub one_import : ImportsAreOne
+  pub needed : NeededPlacesAreOne

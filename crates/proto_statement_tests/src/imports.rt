@@ -1,0 +1,426 @@
+//! Added and dropped imports with their answers by the rules of docs/edits.md. Places are counted in the texts.
+
+use super::calls::{Place, Row};
+
+/// Imports added.
+pub(crate) const ADDED: &[Row] = &[
+    Row {
+        files: &[
+            (
+                "a.proto",
+                "syntax = \"proto3\"; message A { string b_c = 1; }",
+            ),
+            ("b.proto", ""),
+        ],
+        steps: &[
+            (
+                "add",
+                "a.proto",
+                "b.proto",
+                "a.proto 48 66 (18  \nimport \"b.proto\";);",
+            ),
+            ("add", "a.proto", "b.proto", "12 AlreadyImported"),
+            ("add", "b.proto", "a.proto", "14 Cycle"),
+            (
+                "drop",
+                "a.proto",
+                "b.proto",
+                "a.proto 66 49 (19 import \"b.proto\"; );",
+            ),
+        ],
+        after: &[
+            (
+                "a.proto",
+                "syntax = \"proto3\";\n message A { string b_c = 1; }",
+            ),
+            ("b.proto", ""),
+        ],
+        json: "",
+    },
+    Row {
+        files: &[("a.proto", ""), ("b.proto", "")],
+        steps: &[(
+            "add",
+            "a.proto",
+            "b.proto",
+            "a.proto 0 18 (0  import \"b.proto\";\n);",
+        )],
+        after: &[("a.proto", "import \"b.proto\";\n"), ("b.proto", "")],
+        json: "{\"dependency\":[\"b.proto\"],\"name\":\"a.proto\"}",
+    },
+    Row {
+        files: &[("a.proto", ""), ("b.proto", "")],
+        steps: &[
+            ("add", "a.proto", "a.proto", "14 Cycle"),
+            ("add", "a.proto", "x.proto", "11 UnknownFile"),
+            ("add", "x.proto", "a.proto", "11 UnknownFile"),
+            ("drop", "x.proto", "a.proto", "11 UnknownFile"),
+            ("drop", "a.proto", "b.proto", "13 NotImported"),
+            ("drop", "a.proto", "x.proto", "13 NotImported"),
+        ],
+        after: &[],
+        json: "",
+    },
+    Row {
+        files: &[("a.proto", "import \"\\142.proto\";"), ("b.proto", "")],
+        steps: &[
+            ("add", "a.proto", "b.proto", "12 AlreadyImported"),
+            (
+                "drop",
+                "a.proto",
+                "b.proto",
+                "a.proto 20 0 (0 import \"\\142.proto\"; );",
+            ),
+        ],
+        after: &[("a.proto", ""), ("b.proto", "")],
+        json: "{\"file\":[{\"name\":\"a.proto\"},{\"name\":\"b.proto\"}]}",
+    },
+];
+
+/// The places where imports are added.
+pub(crate) const PLACES: &[Place] = &[
+    [
+        "import \"c.proto\"; // last",
+        "a.proto 25 43 (17  \nimport \"b.proto\";);",
+        "import \"c.proto\";\nimport \"b.proto\"; // last",
+        "{\"dependency\":[\"c.proto\",\"b.proto\"],\"name\":\"a.proto\"}",
+    ],
+    [
+        "import \"c.proto\" // x\n;message M {}",
+        "a.proto 35 53 (23  \nimport \"b.proto\";);",
+        "import \"c.proto\" // x\n;\nimport \"b.proto\";message M {}",
+        "",
+    ],
+    [
+        "import \"c.proto\";\r\nmessage M {}",
+        "a.proto 31 49 (17  \nimport \"b.proto\";);",
+        "import \"c.proto\";\nimport \"b.proto\";\r\nmessage M {}",
+        "",
+    ],
+    [
+        "// c",
+        "a.proto 4 22 (0  import \"b.proto\";\n);",
+        "import \"b.proto\";\n// c",
+        "",
+    ],
+    [
+        ";",
+        "a.proto 1 19 (0  import \"b.proto\";\n);",
+        "import \"b.proto\";\n;",
+        "",
+    ],
+    [
+        "/* c */message M {}",
+        "a.proto 19 37 (0  import \"b.proto\";\n);",
+        "import \"b.proto\";\n/* c */message M {}",
+        "",
+    ],
+    [
+        "option deprecated = true;",
+        "a.proto 25 43 (0  import \"b.proto\";\n);",
+        "import \"b.proto\";\noption deprecated = true;",
+        "",
+    ],
+    [
+        "option deprecated = true; package p; message M {}",
+        "a.proto 49 67 (36  \nimport \"b.proto\";);",
+        "option deprecated = true; package p;\nimport \"b.proto\"; message M {}",
+        "",
+    ],
+];
+
+/// More of them, one behind a public import.
+pub(crate) const MORE_PLACES: &[Place] = &[
+    [
+        "package p; message M {} import \"c.proto\"; message N {}",
+        "a.proto 54 72 (41  \nimport \"b.proto\";);",
+        "package p; message M {} import \"c.proto\";\nimport \"b.proto\"; message N {}",
+        "\"dependency\":[\"c.proto\",\"b.proto\"]",
+    ],
+    [
+        "import \"c.proto\"; package p;",
+        "a.proto 28 46 (17  \nimport \"b.proto\";);",
+        "import \"c.proto\";\nimport \"b.proto\"; package p;",
+        "",
+    ],
+    [
+        "import public \"c.proto\";",
+        "a.proto 24 42 (24  \nimport \"b.proto\";);",
+        "import public \"c.proto\";\nimport \"b.proto\";",
+        "{\"dependency\":[\"c.proto\",\"b.proto\"],\"name\":\"a.proto\",\"publicDependency\":[0]}",
+    ],
+];
+
+/// References that an added import overtakes, and others.
+pub(crate) const OVERTAKEN: &[Row] = &[
+    Row {
+        files: &[
+            (
+                "a.proto",
+                "syntax = \"proto3\"; package a; import \"b.proto\"; message A { b.X f = 1; }",
+            ),
+            ("b.proto", "syntax = \"proto3\"; package b; message X {}"),
+            ("c.proto", "syntax = \"proto3\"; package a.b;"),
+        ],
+        steps: &[("add", "a.proto", "c.proto", "7 Captured a.proto 60")],
+        after: &[],
+        json: "",
+    },
+    Row {
+        files: &[
+            (
+                "a.proto",
+                "package a; import \"c.proto\"; message A { optional b.X f = 1; }",
+            ),
+            ("b.proto", "package a.b; import \"a.proto\"; message X {}"),
+            ("c.proto", "package b; message X {}"),
+        ],
+        steps: &[("add", "a.proto", "b.proto", "7 Captured a.proto 50")],
+        after: &[],
+        json: "",
+    },
+    Row {
+        files: &[
+            (
+                "a.proto",
+                "package p.q; import \"b.proto\"; message A { optional int32 n = 1; optional M m = 2; optional M o = 3; }",
+            ),
+            ("b.proto", "package p; message M {}"),
+            ("c.proto", "import public \"d.proto\";"),
+            ("d.proto", "package p.q; message M {}"),
+        ],
+        steps: &[
+            ("add", "a.proto", "c.proto", "7 Captured a.proto 74"),
+            ("add", "a.proto", "d.proto", "7 Captured a.proto 74"),
+        ],
+        after: &[],
+        json: "",
+    },
+    Row {
+        files: &[
+            (
+                "a.proto",
+                "package p.q; import \"b.proto\"; message A { optional .p.M m = 1; optional V v = 2; }",
+            ),
+            ("b.proto", "package p; message M {} message V {}"),
+            ("c.proto", "package p.q; message M {} enum E { V = 0; }"),
+        ],
+        steps: &[(
+            "add",
+            "a.proto",
+            "c.proto",
+            "a.proto 83 101 (30  \nimport \"c.proto\";);",
+        )],
+        after: &[
+            (
+                "a.proto",
+                "package p.q; import \"b.proto\";\nimport \"c.proto\"; message A { optional .p.M m = 1; optional V v = 2; }",
+            ),
+            ("b.proto", "package p; message M {} message V {}"),
+            ("c.proto", "package p.q; message M {} enum E { V = 0; }"),
+        ],
+        json: "",
+    },
+    Row {
+        files: &[
+            (
+                "a.proto",
+                "import \"b.proto\"; message A { optional X x = 1; }",
+            ),
+            ("b.proto", "import public \"c.proto\";"),
+            ("c.proto", "message X {}"),
+        ],
+        steps: &[
+            (
+                "add",
+                "a.proto",
+                "c.proto",
+                "a.proto 49 67 (17  \nimport \"c.proto\";);",
+            ),
+            (
+                "drop",
+                "a.proto",
+                "b.proto",
+                "a.proto 67 50 (0 import \"b.proto\"; );",
+            ),
+        ],
+        after: &[
+            (
+                "a.proto",
+                "\nimport \"c.proto\"; message A { optional X x = 1; }",
+            ),
+            ("b.proto", "import public \"c.proto\";"),
+            ("c.proto", "message X {}"),
+        ],
+        json: "",
+    },
+    Row {
+        files: &[
+            (
+                "a.proto",
+                "package p.q; import \"b.proto\"; service S { rpc R (.p.M) returns (M); }",
+            ),
+            ("b.proto", "package p; message M {}"),
+            ("c.proto", "package p.q; message M {}"),
+        ],
+        steps: &[("add", "a.proto", "c.proto", "7 Captured a.proto 65")],
+        after: &[],
+        json: "",
+    },
+];
+
+/// Imports dropped, one of them with comments within.
+pub(crate) const DROPPED: &[Row] = &[
+    Row {
+        files: &[
+            (
+                "a.proto",
+                "import \"x.proto\"; import public \"b.proto\"; import public \"c.proto\"; import \"d.proto\";",
+            ),
+            ("b.proto", ""),
+            ("c.proto", ""),
+            ("d.proto", ""),
+            ("x.proto", ""),
+        ],
+        steps: &[(
+            "drop",
+            "a.proto",
+            "b.proto",
+            "a.proto 85 61 (18 import public \"b.proto\"; );",
+        )],
+        after: &[
+            (
+                "a.proto",
+                "import \"x.proto\";  import public \"c.proto\"; import \"d.proto\";",
+            ),
+            ("b.proto", ""),
+            ("c.proto", ""),
+            ("d.proto", ""),
+            ("x.proto", ""),
+        ],
+        json: "{\"dependency\":[\"x.proto\",\"c.proto\",\"d.proto\"],\"name\":\"a.proto\",\"publicDependency\":[1]}",
+    },
+    Row {
+        files: &[
+            ("a.proto", "import \"b.proto\"; package p;"),
+            ("b.proto", ""),
+        ],
+        steps: &[(
+            "drop",
+            "a.proto",
+            "b.proto",
+            "a.proto 28 11 (0 import \"b.proto\"; );",
+        )],
+        after: &[("a.proto", " package p;"), ("b.proto", "")],
+        json: "{\"name\":\"a.proto\",\"package\":\"p\"}",
+    },
+    Row {
+        files: &[
+            (
+                "a.proto",
+                "syntax = \"proto3\"; import /* c */ public \"\\142.proto\" /* d */ ; // e",
+            ),
+            ("b.proto", ""),
+        ],
+        steps: &[(
+            "drop",
+            "a.proto",
+            "b.proto",
+            "a.proto 68 24 (19 import /* c */ public \"\\142.proto\" /* d */ ; );",
+        )],
+        after: &[("a.proto", "syntax = \"proto3\";  // e"), ("b.proto", "")],
+        json: "{\"name\":\"a.proto\",\"syntax\":\"proto3\"}",
+    },
+];
+
+/// References that need an import: the first of many, in a field, in a map and in a method.
+pub(crate) const NEEDED: &[Row] = &[
+    Row {
+        files: &[
+            (
+                "a.proto",
+                "syntax = \"proto3\"; import \"b.proto\"; message A { C c = 1; }",
+            ),
+            ("b.proto", "syntax = \"proto3\"; import public \"c.proto\";"),
+            ("c.proto", "syntax = \"proto3\"; message C {}"),
+        ],
+        steps: &[
+            ("drop", "b.proto", "c.proto", "15 Needed a.proto 49"),
+            ("drop", "a.proto", "b.proto", "15 Needed a.proto 49"),
+        ],
+        after: &[],
+        json: "{\"dependency\":[\"c.proto\"],\"name\":\"b.proto\",\"publicDependency\":[0],\"syntax\":\"proto3\"}",
+    },
+    Row {
+        files: &[
+            (
+                "a.proto",
+                "syntax = \"proto3\"; import \"b.proto\"; message A { C c = 1; }",
+            ),
+            ("b.proto", "syntax = \"proto3\"; import public \"c.proto\";"),
+            ("c.proto", "syntax = \"proto3\"; import public \"d.proto\";"),
+            ("d.proto", "syntax = \"proto3\"; message C {}"),
+        ],
+        steps: &[("drop", "c.proto", "d.proto", "15 Needed a.proto 49")],
+        after: &[],
+        json: "",
+    },
+    Row {
+        files: &[
+            (
+                "a.proto",
+                "import \"b.proto\"; import \"c.proto\"; message A { optional X x = 1; }",
+            ),
+            ("b.proto", "import public \"c.proto\";"),
+            ("c.proto", "message X {}"),
+        ],
+        steps: &[
+            (
+                "drop",
+                "b.proto",
+                "c.proto",
+                "b.proto 24 0 (0 import public \"c.proto\"; );",
+            ),
+            ("drop", "a.proto", "c.proto", "15 Needed a.proto 57"),
+        ],
+        after: &[
+            (
+                "a.proto",
+                "import \"b.proto\"; import \"c.proto\"; message A { optional X x = 1; }",
+            ),
+            ("b.proto", ""),
+            ("c.proto", "message X {}"),
+        ],
+        json: "",
+    },
+    Row {
+        files: &[
+            ("a.proto", "message X {}"),
+            ("b.proto", "import public \"a.proto\";"),
+            (
+                "c.proto",
+                "import \"b.proto\"; message C { optional int32 n = 1; map<string,.X> x = 2; optional X y = 3; }",
+            ),
+            (
+                "d.proto",
+                "import \"b.proto\"; message D { optional X x = 1; }",
+            ),
+        ],
+        steps: &[("drop", "b.proto", "a.proto", "15 Needed c.proto 63")],
+        after: &[],
+        json: "",
+    },
+    Row {
+        files: &[
+            ("a.proto", "message X {}"),
+            ("b.proto", "import public \"a.proto\";"),
+            (
+                "e.proto",
+                "import \"b.proto\"; service S { rpc R (X) returns (.X); }",
+            ),
+        ],
+        steps: &[("drop", "b.proto", "a.proto", "15 Needed e.proto 37")],
+        after: &[],
+        json: "",
+    },
+];

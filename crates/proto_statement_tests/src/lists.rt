@@ -1,0 +1,89 @@
+//! Edits of all kinds one after another, with refused ones among them. Places are counted in the texts.
+
+use super::calls::*;
+use super::statements::expect_steps;
+use std::test::Fail;
+
+pub(crate) const LISTS: &[Row] = &[Row {
+    files: &[
+        (
+            "a.proto",
+            "syntax = \"proto3\"; import \"b.proto\"; message A { oneof o { B x = 1; int32 y = 2; } string b_c = 3; }",
+        ),
+        ("b.proto", "syntax = \"proto3\"; message B {}"),
+        ("c.proto", ""),
+    ],
+    steps: &[
+        (
+            "rename",
+            "B",
+            "Node",
+            "a.proto 100 103 (59 B Node);b.proto 31 34 (27 B Node);",
+        ),
+        ("drop", "a.proto", "b.proto", "15 Needed a.proto 59"),
+        (
+            "delete",
+            "A.x",
+            "",
+            "a.proto 103 118 (59 Node x = 1; int32 y = 2; }  int32 y = 2; } reserved 1; reserved \"x\";);",
+        ),
+        ("rename", "A.x", "z", "1 UnknownTarget"),
+        (
+            "add",
+            "a.proto",
+            "c.proto",
+            "a.proto 118 136 (36  \nimport \"c.proto\";);",
+        ),
+        (
+            "drop",
+            "a.proto",
+            "b.proto",
+            "a.proto 136 119 (19 import \"b.proto\"; );",
+        ),
+    ],
+    after: &[
+        (
+            "a.proto",
+            "syntax = \"proto3\"; \nimport \"c.proto\"; message A { oneof o {  int32 y = 2; } reserved 1; reserved \"x\"; string b_c = 3; }",
+        ),
+        ("b.proto", "syntax = \"proto3\"; message Node {}"),
+        ("c.proto", ""),
+    ],
+    json: "{\"file\":[{\"dependency\":[\"c.proto\"],\"messageType\":[{\"field\":[{\"jsonName\":\"y\",\"label\":\"LABEL_OPTIONAL\",\"name\":\"y\",\"number\":2,\"oneofIndex\":0,\"type\":\"TYPE_INT32\"},{\"jsonName\":\"bC\",\"label\":\"LABEL_OPTIONAL\",\"name\":\"b_c\",\"number\":3,\"type\":\"TYPE_STRING\"}],\"name\":\"A\",\"oneofDecl\":[{\"name\":\"o\"}],\"reservedName\":[\"x\"],\"reservedRange\":[{\"end\":2,\"start\":1}]}],\"name\":\"a.proto\",\"syntax\":\"proto3\"},{\"messageType\":[{\"name\":\"Node\"}],\"name\":\"b.proto\",\"syntax\":\"proto3\"},{\"name\":\"c.proto\"}]}",
+}];
+
+// The texts of `a.proto` and `b.proto` after each undo, from the last entry to the first.
+const BACK: &[(&str, &str)] = &[
+    (
+        "syntax = \"proto3\"; import \"b.proto\";\nimport \"c.proto\"; message A { oneof o {  int32 y = 2; } reserved 1; reserved \"x\"; string b_c = 3; }",
+        "syntax = \"proto3\"; message Node {}",
+    ),
+    (
+        "syntax = \"proto3\"; import \"b.proto\"; message A { oneof o {  int32 y = 2; } reserved 1; reserved \"x\"; string b_c = 3; }",
+        "syntax = \"proto3\"; message Node {}",
+    ),
+    (
+        "syntax = \"proto3\"; import \"b.proto\"; message A { oneof o { Node x = 1; int32 y = 2; } string b_c = 3; }",
+        "syntax = \"proto3\"; message Node {}",
+    ),
+    (
+        "syntax = \"proto3\"; import \"b.proto\"; message A { oneof o { B x = 1; int32 y = 2; } string b_c = 3; }",
+        "syntax = \"proto3\"; message B {}",
+    ),
+];
+
+#[test]
+fn are_undone_one_by_one(rt: HostRuntime) -> Result<(), Fail> {
+    let alloc = rt.alloc();
+    for row in LISTS {
+        let mut workspace = opened(alloc, row.files)?;
+        let entries = expect_steps(&rt, &mut workspace, row.steps)?;
+        assert_eq!(rt; entries.len(), BACK.len());
+        for (entry, &(a, b)) in entries.iter().rev().zip(BACK) {
+            undo(alloc, &mut workspace, entry)?;
+            let files = [("a.proto", a), ("b.proto", b), ("c.proto", "")];
+            assert!(rt; are_texts(&workspace, &files), "not {a}");
+        }
+    }
+    Ok(())
+}

@@ -1,0 +1,78 @@
+"""The answers to edits in a model of schemas: what a command prints, the bytes that change, and the line of the journal."""
+
+from described import text
+from renames import rename_of
+from statements import addition_of, deletion_of, drop_of
+
+NAMES = {
+    1: "UnknownTarget",
+    2: "KindNotAllowed",
+    3: "NotAnIdentifier",
+    4: "KeywordName",
+    5: "SameName",
+    6: "Collision",
+    7: "Captured",
+    8: "NameReserved",
+    9: "JsonClash",
+    10: "LastOfOneof",
+    11: "UnknownFile",
+    12: "AlreadyImported",
+    13: "NotImported",
+    14: "Cycle",
+    15: "Needed",
+    16: "TooLarge",
+}
+# By the command's word, with the words behind ROOT.
+EDITS = {"rename": rename_of, "delete-field": deletion_of, "add-import": addition_of, "drop-import": drop_of}
+
+
+def answer(workspace, command, *words):
+    """The number of what refuses an edit, the reference that it tells of, and the edit itself where nothing refuses it."""
+    return EDITS[command](workspace, *words)
+
+
+def place_of(workspace, use):
+    """The path, line and column of a reference, as they are printed."""
+    file = workspace.files[use.file]
+    before = file.text[: use.reference.first.start]
+    return f"{file.path}:{before.count(chr(10)) + 1}:{len(before) - before.rfind(chr(10))}"
+
+
+def printed(workspace, command, *words):
+    """What the command prints, its status, and the edit if it is accepted."""
+    number, use, edit = answer(workspace, command, *words)
+    if number:
+        place = f" {place_of(workspace, use)}" if use else ""
+        return f"refused: {number} {NAMES[number]}{place}\n", 1, None
+    return "".join(f"changed {path}\n" for path, _, _, _ in edit.changes()), 0, edit
+
+
+def put(written, splices):
+    """The text with every splice put in its place."""
+    pieces, place = [], 0
+    for at, old, new in splices:
+        assert written[at : at + len(old)] == old and place <= at
+        pieces += [written[place:at], new]
+        place = at + len(old)
+    return "".join(pieces) + written[place:]
+
+
+def texts_after(texts, changes):
+    after = dict(texts)
+    for path, _, _, splices in changes:
+        after[path] = put(texts[path], splices)
+    return after
+
+
+def journal_line(changes):
+    """The changes of an accepted edit as the program's journal has them, as bytes read as Latin-1."""
+    files = [
+        {
+            "path": path,
+            "before": before,
+            "after": after,
+            "splices": [{"at": at, "old": old, "new": new} for at, old, new in splices],
+        }
+        for path, before, after, splices in changes
+    ]
+    return text({"files": files, "state": "done", "version": 1}) + "\n"
