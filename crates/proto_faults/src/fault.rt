@@ -5,84 +5,100 @@ ghost use Rattle.proto_faults.specs.FaultTable.{number_of, name_of, phase_of, an
 
 use crate::no_memory::NoMemory;
 use std::alloc::{AllocError, AllocFailed};
+use std::{error, fmt};
 use thiserror::Error;
 
 /// The faults of schemas, in the order of their numbers, which begin at 1.
-#[derive(Clone, Copy, Debug, PartialEq, Eq, Error)]
+#[derive(Clone, Copy, Debug, PartialEq, Eq)]
 pub enum FaultKind {
-    #[error("a file of more than 1,048,576 bytes")]
     TooLarge,
-    #[error("a file that is not UTF-8")]
     NotUtf8,
-    #[error("a character that begins no token, white space or comment")]
     BadChar,
-    #[error("a block comment that is not closed")]
     OpenComment,
-    #[error("a string that is not closed")]
     OpenString,
-    #[error("a string with a refused escape, or whose value is not UTF-8")]
     BadEscape,
-    #[error("a word that begins with a digit and is no number")]
     BadNumber,
-    #[error("a statement that the grammar does not have")]
     Syntax,
-    #[error("more than 32 braces open at once")]
     TooDeep,
-    #[error("an import of a path that is not in the workspace")]
     UnknownImport,
-    #[error("an import of a path that the file imports before")]
     DoubleImport,
-    #[error("an import that leads back to its file")]
     ImportCycle,
-    #[error("a full name that an earlier declaration or a package has")]
     DuplicateName,
-    #[error("a reference that means nothing")]
     Unresolved,
-    #[error("a method's reference that means an enum")]
     WrongKind,
-    #[error("a reference that means a generated map entry")]
     MapEntryRef,
-    #[error("a number or a range outside its limits")]
     NumberRange,
-    #[error("a field number that an earlier field has")]
     DuplicateNumber,
-    #[error("a number inside a reserved or extension range")]
     ReservedNumber,
-    #[error("a name that is reserved, or reserved twice")]
     ReservedName,
-    #[error("a range that shares a number with an earlier one")]
     RangeOverlap,
-    #[error("an enum without values")]
     EmptyEnum,
-    #[error("an enum whose first value has to be 0 and is not")]
     FirstNotZero,
-    #[error("an enum of a proto2 file in a field of a proto3 file")]
     ClosedEnum,
-    #[error("a proto2 field without a label")]
     Label,
-    #[error("a map key of a type that no key has")]
     BadMap,
-    #[error("an option that the element does not have, or with a value of another kind")]
     BadOption,
-    #[error("a default that the field does not have")]
     BadDefault,
-    #[error("a oneof without fields")]
     EmptyOneof,
-    #[error("a JSON name that an earlier field has")]
     JsonClash,
-    #[error("a word of proto2 in a proto3 file")]
     NotInProto3,
-    #[error("a value number that an earlier value has, without leave")]
     AliasNotAllowed,
-    #[error("a path that is no workspace path")]
     BadPath,
-    #[error("a path that is given twice")]
     DoublePath,
-    #[error("more files than a workspace holds")]
     TooManyFiles,
 }
 
+impl fmt::Display for FaultKind {
+    fn fmt<W: fmt::Write>(&self, f: &mut fmt::Formatter<W>) -> fmt::Result {
+        f.write_str(self.text())
+    }
+}
+
+impl error::Error for FaultKind {}
+
 impl FaultKind {
+    /// What is wrong, in words.
+    fn text(self) -> &'static str {
+        match self {
+            FaultKind::TooLarge => "a file of more than 1,048,576 bytes",
+            FaultKind::NotUtf8 => "a file that is not UTF-8",
+            FaultKind::BadChar => "a character that begins no token, white space or comment",
+            FaultKind::OpenComment => "a block comment that is not closed",
+            FaultKind::OpenString => "a string that is not closed",
+            FaultKind::BadEscape => "a string with a refused escape, or whose value is not UTF-8",
+            FaultKind::BadNumber => "a word that begins with a digit and is no number",
+            FaultKind::Syntax => "a statement that the grammar does not have",
+            FaultKind::TooDeep => "more than 32 braces open at once",
+            FaultKind::UnknownImport => "an import of a path that is not in the workspace",
+            FaultKind::DoubleImport => "an import of a path that the file imports before",
+            FaultKind::ImportCycle => "an import that leads back to its file",
+            FaultKind::DuplicateName => "a full name that an earlier declaration or a package has",
+            FaultKind::Unresolved => "a reference that means nothing",
+            FaultKind::WrongKind => "a method's reference that means an enum",
+            FaultKind::MapEntryRef => "a reference that means a generated map entry",
+            FaultKind::NumberRange => "a number or a range outside its limits",
+            FaultKind::DuplicateNumber => "a field number that an earlier field has",
+            FaultKind::ReservedNumber => "a number inside a reserved or extension range",
+            FaultKind::ReservedName => "a name that is reserved, or reserved twice",
+            FaultKind::RangeOverlap => "a range that shares a number with an earlier one",
+            FaultKind::EmptyEnum => "an enum without values",
+            FaultKind::FirstNotZero => "an enum whose first value has to be 0 and is not",
+            FaultKind::ClosedEnum => "an enum of a proto2 file in a field of a proto3 file",
+            FaultKind::Label => "a proto2 field without a label",
+            FaultKind::BadMap => "a map key of a type that no key has",
+            FaultKind::BadOption =>
+                "an option that the element does not have, or with a value of another kind",
+            FaultKind::BadDefault => "a default that the field does not have",
+            FaultKind::EmptyOneof => "a oneof without fields",
+            FaultKind::JsonClash => "a JSON name that an earlier field has",
+            FaultKind::NotInProto3 => "a word of proto2 in a proto3 file",
+            FaultKind::AliasNotAllowed => "a value number that an earlier value has, without leave",
+            FaultKind::BadPath => "a path that is no workspace path",
+            FaultKind::DoublePath => "a path that is given twice",
+            FaultKind::TooManyFiles => "more files than a workspace holds",
+        }
+    }
+
     /// The number of the fault, from 1 to 35.
     pub fn number(self) -> u32
         ensures { result ≡ number_of self }
