@@ -6,8 +6,8 @@ ghost use Rattle.proto_json.specs.JsonText.{object_if_any};
 ghost use Rattle.proto_json.specs.Views.{enum_desc, enum_value_desc};
 
 use crate::json_value::Json;
-use crate::object::{Member, object, object_if_any};
-use crate::values::{ToJson, array_if_any, optional};
+use crate::members::Members;
+use crate::values::ToJson;
 use proto_faults::NoMemory;
 use std::alloc::Global;
 
@@ -52,14 +52,13 @@ impl ToJson for EnumDescriptor {
     ghost text = { λ e. enum_text (enum_desc e) };
 
     fn to_json(&self, alloc: Global) -> Result<Json, NoMemory> {
-        let members = vec![in alloc;
-            Member::new("name", Some(self.name.to_json(alloc)?)),
-            Member::new("options", self.options.to_json(alloc)?),
-            Member::new("reservedName", array_if_any(alloc, &self.reserved_name)?),
-            Member::new("reservedRange", array_if_any(alloc, &self.reserved_range)?),
-            Member::new("value", array_if_any(alloc, &self.value)?),
-        ]?;
-        object(alloc, members)
+        let mut members = Members::new(alloc);
+        members.put_value("name", &self.name)?;
+        members.put("options", self.options.to_json(alloc)?)?;
+        members.put_list("reservedName", &self.reserved_name)?;
+        members.put_list("reservedRange", &self.reserved_range)?;
+        members.put_list("value", &self.value)?;
+        members.into_object()
     }
 }
 
@@ -67,12 +66,11 @@ impl ToJson for EnumValueDescriptor {
     ghost text = { λ v. enum_value_text (enum_value_desc v) };
 
     fn to_json(&self, alloc: Global) -> Result<Json, NoMemory> {
-        let members = vec![in alloc;
-            Member::new("name", Some(self.name.to_json(alloc)?)),
-            Member::new("number", Some(self.number.to_json(alloc)?)),
-            Member::new("options", self.options.to_json(alloc)?),
-        ]?;
-        object(alloc, members)
+        let mut members = Members::new(alloc);
+        members.put_value("name", &self.name)?;
+        members.put_value("number", &self.number)?;
+        members.put("options", self.options.to_json(alloc)?)?;
+        members.into_object()
     }
 }
 
@@ -80,11 +78,10 @@ impl ToJson for EnumReservedRange {
     ghost text = { λ r. enum_range_text r };
 
     fn to_json(&self, alloc: Global) -> Result<Json, NoMemory> {
-        let members = vec![in alloc;
-            Member::new("end", Some(self.end.to_json(alloc)?)),
-            Member::new("start", Some(self.start.to_json(alloc)?)),
-        ]?;
-        object(alloc, members)
+        let mut members = Members::new(alloc);
+        members.put_value("end", &self.end)?;
+        members.put_value("start", &self.start)?;
+        members.into_object()
     }
 }
 
@@ -92,11 +89,10 @@ impl EnumOptions {
     fn to_json(&self, alloc: Global) -> Result<Option<Json>, NoMemory>
         ensures { IfOk result (λ o. o ≡ object_if_any (enum_options_slots self.now)) }
     {
-        let members = vec![in alloc;
-            Member::new("allowAlias", optional(alloc, &self.allow_alias)?),
-            Member::new("deprecated", optional(alloc, &self.deprecated)?),
-        ]?;
-        object_if_any(alloc, members)
+        let mut members = Members::new(alloc);
+        members.put_optional("allowAlias", &self.allow_alias)?;
+        members.put_optional("deprecated", &self.deprecated)?;
+        members.into_object_if_any()
     }
 }
 
@@ -104,9 +100,8 @@ impl EnumValueOptions {
     fn to_json(&self, alloc: Global) -> Result<Option<Json>, NoMemory>
         ensures { IfOk result (λ o. o ≡ object_if_any (enum_value_options_slots self.now)) }
     {
-        let members = vec![in alloc;
-            Member::new("deprecated", optional(alloc, &self.deprecated)?),
-        ]?;
-        object_if_any(alloc, members)
+        let mut members = Members::new(alloc);
+        members.put_optional("deprecated", &self.deprecated)?;
+        members.into_object_if_any()
     }
 }

@@ -1,14 +1,13 @@
 //! Fields of messages.
 
-ghost use Rattle.std.specs.Prelude.{◌≡◌, IfOk, take, drop};
-ghost use Rattle.proto_json.specs.DescriptorText.{label_name, field_type_name, field_text, field_slots, field_options_slots};
+ghost use Rattle.std.specs.Prelude.{◌≡◌, IfOk};
+ghost use Rattle.proto_json.specs.DescriptorText.{label_name, field_type_name, field_text, field_options_slots};
 ghost use Rattle.proto_json.specs.JsonText.{quoted, object_if_any};
-ghost use Rattle.proto_json.specs.Members.{slots_of};
 ghost use Rattle.proto_json.specs.Views.{field_desc};
 
 use crate::json_value::Json;
-use crate::object::{Member, joined, object, object_if_any};
-use crate::values::{ToJson, optional};
+use crate::members::Members;
+use crate::values::ToJson;
 use proto_faults::NoMemory;
 use std::alloc::Global;
 
@@ -127,41 +126,10 @@ impl FieldOptions {
     fn to_json(&self, alloc: Global) -> Result<Option<Json>, NoMemory>
         ensures { IfOk result (λ o. o ≡ object_if_any (field_options_slots self.now)) }
     {
-        let members = vec![in alloc;
-            Member::new("deprecated", optional(alloc, &self.deprecated)?),
-            Member::new("packed", optional(alloc, &self.packed)?),
-        ]?;
-        object_if_any(alloc, members)
-    }
-}
-
-impl FieldDescriptor {
-    /// The members from `defaultValue` to `number`.
-    fn first_members(&self, alloc: Global) -> Result<Vec<Member>, NoMemory>
-        ensures { IfOk result (λ ms. slots_of ms.items ≡ take 5 (field_slots (field_desc self.now))) }
-    {
-        let members = vec![in alloc;
-            Member::new("defaultValue", optional(alloc, &self.default_value)?),
-            Member::new("jsonName", optional(alloc, &self.json_name)?),
-            Member::new("label", Some(self.label.to_json(alloc)?)),
-            Member::new("name", Some(self.name.to_json(alloc)?)),
-            Member::new("number", Some(Json::number(self.number))),
-        ]?;
-        Ok(members)
-    }
-
-    /// The members from `oneofIndex` to `typeName`.
-    fn last_members(&self, alloc: Global) -> Result<Vec<Member>, NoMemory>
-        ensures { IfOk result (λ ms. slots_of ms.items ≡ drop 5 (field_slots (field_desc self.now))) }
-    {
-        let members = vec![in alloc;
-            Member::new("oneofIndex", optional(alloc, &self.oneof_index)?),
-            Member::new("options", self.options.to_json(alloc)?),
-            Member::new("proto3Optional", Json::mark(self.proto3_optional)),
-            Member::new("type", Some(self.field_type.to_json(alloc)?)),
-            Member::new("typeName", optional(alloc, &self.type_name)?),
-        ]?;
-        Ok(members)
+        let mut members = Members::new(alloc);
+        members.put_optional("deprecated", &self.deprecated)?;
+        members.put_optional("packed", &self.packed)?;
+        members.into_object_if_any()
     }
 }
 
@@ -169,7 +137,17 @@ impl ToJson for FieldDescriptor {
     ghost text = { λ f. field_text (field_desc f) };
 
     fn to_json(&self, alloc: Global) -> Result<Json, NoMemory> {
-        let members = joined(self.first_members(alloc)?, self.last_members(alloc)?)?;
-        object(alloc, members)
+        let mut members = Members::new(alloc);
+        members.put_optional("defaultValue", &self.default_value)?;
+        members.put_optional("jsonName", &self.json_name)?;
+        members.put_value("label", &self.label)?;
+        members.put_value("name", &self.name)?;
+        members.put_value("number", &self.number)?;
+        members.put_optional("oneofIndex", &self.oneof_index)?;
+        members.put("options", self.options.to_json(alloc)?)?;
+        members.put("proto3Optional", Json::mark(self.proto3_optional))?;
+        members.put_value("type", &self.field_type)?;
+        members.put_optional("typeName", &self.type_name)?;
+        members.into_object()
     }
 }

@@ -1,17 +1,16 @@
 //! A set of files, and one file.
 
-ghost use Rattle.std.specs.Prelude.{◌≡◌, IfOk, string_bytes, option_map, take, drop};
-ghost use Rattle.proto_json.specs.DescriptorText.{optimize_mode_name, syntax_name, file_text, file_slots, file_options_slots, json_text};
+ghost use Rattle.std.specs.Prelude.{◌≡◌, IfOk, string_bytes, option_map};
+ghost use Rattle.proto_json.specs.DescriptorText.{optimize_mode_name, syntax_name, file_text, file_options_slots, json_text};
 ghost use Rattle.proto_json.specs.JsonText.{quoted, object_if_any};
-ghost use Rattle.proto_json.specs.Members.{slots_of};
 ghost use Rattle.proto_json.specs.Views.{file_desc, files_desc, file_options_desc};
 
 use crate::enumeration::EnumDescriptor;
 use crate::json_value::Json;
+use crate::members::Members;
 use crate::message::{MessageDescriptor, messages_json};
-use crate::object::{Member, joined, object, object_if_any};
 use crate::service::ServiceDescriptor;
-use crate::values::{ToJson, array_if_any, optional};
+use crate::values::ToJson;
 use proto_faults::NoMemory;
 use std::alloc::Global;
 
@@ -73,8 +72,9 @@ pub enum OptimizeMode {
 pub fn to_json(alloc: Global, descriptors: &Descriptors) -> Result<String, NoMemory>
     ensures { IfOk result (λ s. string_bytes s ≡ json_text (files_desc descriptors.now)) }
 {
-    let members = vec![in alloc; Member::new("file", array_if_any(alloc, &descriptors.file)?)]?;
-    let json = object(alloc, members)?;
+    let mut members = Members::new(alloc);
+    members.put_list("file", &descriptors.file)?;
+    let json = members.into_object()?;
     json.print(alloc)
 }
 
@@ -111,87 +111,40 @@ impl ToJson for OptimizeMode {
     }
 }
 
-impl FileDescriptor {
-    /// The members from `dependency` to `options`.
-    fn first_members(&self, alloc: Global) -> Result<Vec<Member>, NoMemory>
-        ensures { IfOk result (λ ms. slots_of ms.items ≡ take 5 (file_slots (file_desc self.now))) }
-    {
-        let messages = messages_json(alloc, &self.message_type)?;
-        let members = vec![in alloc;
-            Member::new("dependency", array_if_any(alloc, &self.dependency)?),
-            Member::new("enumType", array_if_any(alloc, &self.enum_type)?),
-            Member::new("messageType", messages.into_array_if_any()),
-            Member::new("name", Some(self.name.to_json(alloc)?)),
-            Member::new("options", self.options.to_json(alloc)?),
-        ]?;
-        Ok(members)
-    }
-
-    /// The members from `package` to `syntax`.
-    fn last_members(&self, alloc: Global) -> Result<Vec<Member>, NoMemory>
-        ensures { IfOk result (λ ms. slots_of ms.items ≡ drop 5 (file_slots (file_desc self.now))) }
-    {
-        let members = vec![in alloc;
-            Member::new("package", optional(alloc, &self.package)?),
-            Member::new(
-                "publicDependency",
-                array_if_any(alloc, &self.public_dependency)?
-            ),
-            Member::new("service", array_if_any(alloc, &self.service)?),
-            Member::new("syntax", self.syntax.to_json(alloc)?),
-        ]?;
-        Ok(members)
-    }
-}
-
 impl ToJson for FileDescriptor {
     ghost text = { λ f. file_text (file_desc f) };
 
     fn to_json(&self, alloc: Global) -> Result<Json, NoMemory> {
-        let members = joined(self.first_members(alloc)?, self.last_members(alloc)?)?;
-        object(alloc, members)
+        let mut members = Members::new(alloc);
+        members.put_list("dependency", &self.dependency)?;
+        members.put_list("enumType", &self.enum_type)?;
+        let messages = messages_json(alloc, &self.message_type)?;
+        members.put("messageType", messages.into_array_if_any())?;
+        members.put_value("name", &self.name)?;
+        members.put("options", self.options.to_json(alloc)?)?;
+        members.put_optional("package", &self.package)?;
+        members.put_list("publicDependency", &self.public_dependency)?;
+        members.put_list("service", &self.service)?;
+        members.put("syntax", self.syntax.to_json(alloc)?)?;
+        members.into_object()
     }
 }
 
 impl FileOptions {
-    /// The members from `ccEnableArenas` to `javaMultipleFiles`.
-    fn first_members(&self, alloc: Global) -> Result<Vec<Member>, NoMemory>
-        ensures { IfOk result (λ ms. slots_of ms.items ≡ take 5 (file_options_slots (file_options_desc self.now))) }
-    {
-        let members = vec![in alloc;
-            Member::new("ccEnableArenas", optional(alloc, &self.cc_enable_arenas)?),
-            Member::new("csharpNamespace", optional(alloc, &self.csharp_namespace)?),
-            Member::new("deprecated", optional(alloc, &self.deprecated)?),
-            Member::new("goPackage", optional(alloc, &self.go_package)?),
-            Member::new(
-                "javaMultipleFiles",
-                optional(alloc, &self.java_multiple_files)?
-            ),
-        ]?;
-        Ok(members)
-    }
-
-    /// The members from `javaOuterClassname` to `phpNamespace`.
-    fn last_members(&self, alloc: Global) -> Result<Vec<Member>, NoMemory>
-        ensures { IfOk result (λ ms. slots_of ms.items ≡ drop 5 (file_options_slots (file_options_desc self.now))) }
-    {
-        let members = vec![in alloc;
-            Member::new(
-                "javaOuterClassname",
-                optional(alloc, &self.java_outer_classname)?
-            ),
-            Member::new("javaPackage", optional(alloc, &self.java_package)?),
-            Member::new("objcClassPrefix", optional(alloc, &self.objc_class_prefix)?),
-            Member::new("optimizeFor", optional(alloc, &self.optimize_for)?),
-            Member::new("phpNamespace", optional(alloc, &self.php_namespace)?),
-        ]?;
-        Ok(members)
-    }
-
     fn to_json(&self, alloc: Global) -> Result<Option<Json>, NoMemory>
         ensures { IfOk result (λ o. o ≡ object_if_any (file_options_slots (file_options_desc self.now))) }
     {
-        let members = joined(self.first_members(alloc)?, self.last_members(alloc)?)?;
-        object_if_any(alloc, members)
+        let mut members = Members::new(alloc);
+        members.put_optional("ccEnableArenas", &self.cc_enable_arenas)?;
+        members.put_optional("csharpNamespace", &self.csharp_namespace)?;
+        members.put_optional("deprecated", &self.deprecated)?;
+        members.put_optional("goPackage", &self.go_package)?;
+        members.put_optional("javaMultipleFiles", &self.java_multiple_files)?;
+        members.put_optional("javaOuterClassname", &self.java_outer_classname)?;
+        members.put_optional("javaPackage", &self.java_package)?;
+        members.put_optional("objcClassPrefix", &self.objc_class_prefix)?;
+        members.put_optional("optimizeFor", &self.optimize_for)?;
+        members.put_optional("phpNamespace", &self.php_namespace)?;
+        members.into_object_if_any()
     }
 }

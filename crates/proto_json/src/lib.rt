@@ -7,6 +7,7 @@ mod file;
 mod items;
 mod json_value;
 mod key_order;
+mod members;
 mod message;
 mod object;
 mod service;

@@ -1,9 +1,8 @@
 //! Messages, with those nested in them.
 
-ghost use Rattle.std.specs.Prelude.{◌≡◌, [], IfOk, take, drop};
+ghost use Rattle.std.specs.Prelude.{◌≡◌, [], ◌++◌, IfOk, OnOk, take, drop};
 ghost use Rattle.proto_json.specs.DescriptorText.{message_texts, message_slots, range_text, oneof_text, message_options_slots};
 ghost use Rattle.proto_json.specs.JsonText.{object_if_any};
-ghost use Rattle.proto_json.specs.Members.{slots_of};
 ghost use Rattle.proto_json.specs.Views.{message_desc, oneof_desc, message_tree, messages_desc};
 ghost use Rattle.proto_json.specs.declared.message.MessageDescriptor.{out-MessageDescriptor};
 ghost use Rattle.proto_json.specs.MessageText.{tree_text, level_text};
@@ -12,8 +11,8 @@ use crate::enumeration::EnumDescriptor;
 use crate::field::FieldDescriptor;
 use crate::items::Items;
 use crate::json_value::Json;
-use crate::object::{Member, joined, object, object_if_any};
-use crate::values::{ToJson, array_if_any, optional};
+use crate::members::Members;
+use crate::values::ToJson;
 use proto_faults::NoMemory;
 use std::alloc::Global;
 
@@ -73,41 +72,28 @@ fn message_json(alloc: Global, message: &MessageDescriptor) -> Result<Json, NoMe
     message_around(alloc, message, nested)
 }
 
-/// The members from `enumType` to `nestedType`.
-fn first_members(
-    alloc: Global,
-    message: &MessageDescriptor,
-    nested: Items,
-) -> Result<Vec<Member>, NoMemory>
-    ensures { IfOk result (λ ms. slots_of ms.items ≡ take 5 (message_slots (message_desc (out-MessageDescriptor message.now)) nested)) }
+/// Puts the members from `enumType` to `name`.
+fn put_first(members: &mut Members, message: &MessageDescriptor) -> Result<(), NoMemory>
+    ensures { OnOk result (members.new ≡ members.old ++ take 4 (message_slots (message_desc (out-MessageDescriptor message.now)) [])) }
 {
-    let members = vec![in alloc;
-        Member::new("enumType", array_if_any(alloc, &message.enum_type)?),
-        Member::new(
-            "extensionRange",
-            array_if_any(alloc, &message.extension_range)?
-        ),
-        Member::new("field", array_if_any(alloc, &message.field)?),
-        Member::new("name", Some(message.name.to_json(alloc)?)),
-        Member::new("nestedType", nested.into_array_if_any()),
-    ]?;
-    Ok(members)
+    members.put_list("enumType", &message.enum_type)?;
+    members.put_list("extensionRange", &message.extension_range)?;
+    members.put_list("field", &message.field)?;
+    members.put_value("name", &message.name)
 }
 
-/// The members from `oneofDecl` to `reservedRange`.
-fn last_members(alloc: Global, message: &MessageDescriptor) -> Result<Vec<Member>, NoMemory>
-    ensures { IfOk result (λ ms. slots_of ms.items ≡ drop 5 (message_slots (message_desc (out-MessageDescriptor message.now)) [])) }
+/// Puts the members from `oneofDecl` to `reservedRange`.
+fn put_last(
+    alloc: Global,
+    members: &mut Members,
+    message: &MessageDescriptor,
+) -> Result<(), NoMemory>
+    ensures { OnOk result (members.new ≡ members.old ++ drop 5 (message_slots (message_desc (out-MessageDescriptor message.now)) [])) }
 {
-    let members = vec![in alloc;
-        Member::new("oneofDecl", array_if_any(alloc, &message.oneof_decl)?),
-        Member::new("options", message.options.to_json(alloc)?),
-        Member::new("reservedName", array_if_any(alloc, &message.reserved_name)?),
-        Member::new(
-            "reservedRange",
-            array_if_any(alloc, &message.reserved_range)?
-        ),
-    ]?;
-    Ok(members)
+    members.put_list("oneofDecl", &message.oneof_decl)?;
+    members.put("options", message.options.to_json(alloc)?)?;
+    members.put_list("reservedName", &message.reserved_name)?;
+    members.put_list("reservedRange", &message.reserved_range)
 }
 
 /// The message, with the values of those nested in it.
@@ -118,22 +104,21 @@ fn message_around(
 ) -> Result<Json, NoMemory>
     ensures { IfOk result (λ j. j ≡ level_text message.now nested) }
 {
-    let members = joined(
-        first_members(alloc, message, nested)?,
-        last_members(alloc, message)?,
-    )?;
-    object(alloc, members)
+    let mut members = Members::new(alloc);
+    put_first(&mut members, message)?;
+    members.put("nestedType", nested.into_array_if_any())?;
+    put_last(alloc, &mut members, message)?;
+    members.into_object()
 }
 
 impl ToJson for NumberRange {
     ghost text = { λ r. range_text r };
 
     fn to_json(&self, alloc: Global) -> Result<Json, NoMemory> {
-        let members = vec![in alloc;
-            Member::new("end", Some(Json::number(self.end))),
-            Member::new("start", Some(Json::number(self.start))),
-        ]?;
-        object(alloc, members)
+        let mut members = Members::new(alloc);
+        members.put_value("end", &self.end)?;
+        members.put_value("start", &self.start)?;
+        members.into_object()
     }
 }
 
@@ -141,8 +126,9 @@ impl ToJson for OneofDescriptor {
     ghost text = { λ o. oneof_text (oneof_desc o) };
 
     fn to_json(&self, alloc: Global) -> Result<Json, NoMemory> {
-        let members = vec![in alloc; Member::new("name", Some(self.name.to_json(alloc)?))]?;
-        object(alloc, members)
+        let mut members = Members::new(alloc);
+        members.put_value("name", &self.name)?;
+        members.into_object()
     }
 }
 
@@ -150,10 +136,9 @@ impl MessageOptions {
     fn to_json(&self, alloc: Global) -> Result<Option<Json>, NoMemory>
         ensures { IfOk result (λ o. o ≡ object_if_any (message_options_slots self.now)) }
     {
-        let members = vec![in alloc;
-            Member::new("deprecated", optional(alloc, &self.deprecated)?),
-            Member::new("mapEntry", Json::mark(self.map_entry)),
-        ]?;
-        object_if_any(alloc, members)
+        let mut members = Members::new(alloc);
+        members.put_optional("deprecated", &self.deprecated)?;
+        members.put("mapEntry", Json::mark(self.map_entry))?;
+        members.into_object_if_any()
     }
 }

@@ -1,10 +1,10 @@
-//! Objects: their keys, in the order of their bytes, and the values that are there.
+//! The members of an object that are there, in a map.
 
 ghost use Rattle.std.specs.Prelude.{◌≡◌, [], ◌∷◌, ◌++◌, true, false, IfOk, OnOk};
 ghost use Rattle.serde_json.specs.View.{members_view};
 ghost use Rattle.serde_json.specs.Written.{members_have_float};
 ghost use Rattle.proto_json.specs.Members.{slot_of, slots_of, held, there, IsAbove};
-ghost use Rattle.proto_json.specs.JsonText.{object_text, object_if_any, keys_of, are_rising};
+ghost use Rattle.proto_json.specs.JsonText.{keys_of, are_rising};
 
 use crate::json_value::Json;
 use proto_faults::NoMemory;
@@ -26,43 +26,8 @@ impl Member {
     }
 }
 
-/// The members of the one list, and those of the other behind them.
-pub(crate) fn joined(first: Vec<Member>, last: Vec<Member>) -> Result<Vec<Member>, NoMemory>
-    ensures { IfOk result (λ all. slots_of all.items ≡ slots_of first.items ++ slots_of last.items) }
-{
-    let mut all = first;
-    let mut behind = last;
-    all.append(&mut behind)?;
-    Ok(all)
-}
-
-/// The object of the members that are there. The keys are in the order of their bytes.
-pub(crate) fn object(alloc: Global, members: Vec<Member>) -> Result<Json, NoMemory>
-    requires { are_rising (keys_of (slots_of members.items)) ≡ true }
-    ensures { IfOk result (λ j. j ≡ object_text (slots_of members.items)) }
-{
-    let map = map_of(alloc, members)?;
-    Ok(Json {
-        value: Value::Object(map),
-    })
-}
-
-/// The same, which is left out where it has no members.
-pub(crate) fn object_if_any(alloc: Global, members: Vec<Member>) -> Result<Option<Json>, NoMemory>
-    requires { are_rising (keys_of (slots_of members.items)) ≡ true }
-    ensures { IfOk result (λ o. o ≡ object_if_any (slots_of members.items)) }
-{
-    let map = map_of(alloc, members)?;
-    if map.is_empty() {
-        return Ok(None);
-    }
-    Ok(Some(Json {
-        value: Value::Object(map),
-    }))
-}
-
 /// The members that are there, in a map.
-fn map_of(alloc: Global, members: Vec<Member>) -> Result<Map<String, Value>, NoMemory>
+pub(crate) fn map_of(alloc: Global, members: Vec<Member>) -> Result<Map<String, Value>, NoMemory>
     requires { are_rising (keys_of (slots_of members.items)) ≡ true }
     ensures members { IfOk result
         (λ map. held (members_view map.entries) ≡ there (slots_of members.items)) }

@@ -6,8 +6,8 @@ ghost use Rattle.proto_json.specs.JsonText.{quoted, object_if_any};
 ghost use Rattle.proto_json.specs.Views.{service_desc, method_desc};
 
 use crate::json_value::Json;
-use crate::object::{Member, object, object_if_any};
-use crate::values::{ToJson, array_if_any, optional};
+use crate::members::Members;
+use crate::values::ToJson;
 use proto_faults::NoMemory;
 use std::alloc::Global;
 
@@ -76,12 +76,11 @@ impl ToJson for ServiceDescriptor {
     ghost text = { λ s. service_text (service_desc s) };
 
     fn to_json(&self, alloc: Global) -> Result<Json, NoMemory> {
-        let members = vec![in alloc;
-            Member::new("method", array_if_any(alloc, &self.method)?),
-            Member::new("name", Some(self.name.to_json(alloc)?)),
-            Member::new("options", self.options.to_json(alloc)?),
-        ]?;
-        object(alloc, members)
+        let mut members = Members::new(alloc);
+        members.put_list("method", &self.method)?;
+        members.put_value("name", &self.name)?;
+        members.put("options", self.options.to_json(alloc)?)?;
+        members.into_object()
     }
 }
 
@@ -89,15 +88,14 @@ impl ToJson for MethodDescriptor {
     ghost text = { λ m. method_text (method_desc m) };
 
     fn to_json(&self, alloc: Global) -> Result<Json, NoMemory> {
-        let members = vec![in alloc;
-            Member::new("clientStreaming", Json::mark(self.client_streaming)),
-            Member::new("inputType", Some(self.input_type.to_json(alloc)?)),
-            Member::new("name", Some(self.name.to_json(alloc)?)),
-            Member::new("options", self.options.to_json(alloc)?),
-            Member::new("outputType", Some(self.output_type.to_json(alloc)?)),
-            Member::new("serverStreaming", Json::mark(self.server_streaming)),
-        ]?;
-        object(alloc, members)
+        let mut members = Members::new(alloc);
+        members.put("clientStreaming", Json::mark(self.client_streaming))?;
+        members.put_value("inputType", &self.input_type)?;
+        members.put_value("name", &self.name)?;
+        members.put("options", self.options.to_json(alloc)?)?;
+        members.put_value("outputType", &self.output_type)?;
+        members.put("serverStreaming", Json::mark(self.server_streaming))?;
+        members.into_object()
     }
 }
 
@@ -105,10 +103,9 @@ impl ServiceOptions {
     fn to_json(&self, alloc: Global) -> Result<Option<Json>, NoMemory>
         ensures { IfOk result (λ o. o ≡ object_if_any (service_options_slots self.now)) }
     {
-        let members = vec![in alloc;
-            Member::new("deprecated", optional(alloc, &self.deprecated)?),
-        ]?;
-        object_if_any(alloc, members)
+        let mut members = Members::new(alloc);
+        members.put_optional("deprecated", &self.deprecated)?;
+        members.into_object_if_any()
     }
 }
 
@@ -116,13 +113,9 @@ impl MethodOptions {
     fn to_json(&self, alloc: Global) -> Result<Option<Json>, NoMemory>
         ensures { IfOk result (λ o. o ≡ object_if_any (method_options_slots self.now)) }
     {
-        let members = vec![in alloc;
-            Member::new("deprecated", optional(alloc, &self.deprecated)?),
-            Member::new(
-                "idempotencyLevel",
-                optional(alloc, &self.idempotency_level)?
-            ),
-        ]?;
-        object_if_any(alloc, members)
+        let mut members = Members::new(alloc);
+        members.put_optional("deprecated", &self.deprecated)?;
+        members.put_optional("idempotencyLevel", &self.idempotency_level)?;
+        members.into_object_if_any()
     }
 }

@@ -32,6 +32,14 @@ impl ToJson for usize {
     }
 }
 
+impl ToJson for u32 {
+    ghost text = { λ n. decimal n };
+
+    fn to_json(&self, _alloc: Global) -> Result<Json, NoMemory> {
+        Ok(Json::number(*self))
+    }
+}
+
 impl ToJson for i32 {
     ghost text = { λ n. signed_decimal n };
 

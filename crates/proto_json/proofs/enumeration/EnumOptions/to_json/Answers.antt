@@ -1,13 +1,11 @@
-use Rattle.std.proofs.Common.{◌≡◌, List, IfOk, refl, ap, ◌∙◌, subst}
+use Rattle.std.proofs.Common.{IfOk, List, refl, subst, ◌≡◌}
 use Rattle.proto_json.specs.DescriptorText.{enum_options_slots}
 use Rattle.proto_json.specs.JsonText.{Slot, object_if_any}
-use Rattle.proto_json.specs.Members.{slots_of}
-use Rattle.proto_json.proofs.Slots.{slots-cons}
+use Rattle.proto_json.proofs.Slots.{slots-put}
 use Rattle.proto_json.proofs.enumeration.EnumOptions.to_json.Goals as goal
 
 pub returns : goal.returns
 returns c =
-    let same : slots_of c.in_ok-members.members.items ≡ enum_options_slots c.args.self.now = ap slots_of c.in_ok-members.ensures.items ∙ (
-    slots-cons c.new.ensures c.in_ok-optional.ensures (
-    slots-cons c.new-2.ensures c.in_ok-optional-2.ensures refl)) in
-    subst (λ (slots : List Slot). IfOk c.object_if_any.result (λ j. j ≡ object_if_any slots)) same c.object_if_any.ensures
+    let one = slots-put _ c.new-members.ensures c.in_ok-put_optional.ensures refl in
+    let same : c.put_optional-2.new.self ≡ enum_options_slots c.args.self.now = slots-put _ one c.in_ok-put_optional-2.ensures refl in
+    subst (λ (slots : List Slot). IfOk c.into_object_if_any.result (λ j. j ≡ object_if_any slots)) same c.into_object_if_any.ensures
