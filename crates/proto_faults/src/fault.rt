@@ -57,7 +57,7 @@ impl fmt::Display for FaultKind {
 impl error::Error for FaultKind {}
 
 impl FaultKind {
-    /// What is wrong, in words.
+    /// What is wrong, in words, for people.
     fn text(self) -> &'static str {
         match self {
             FaultKind::TooLarge => "a file of more than 1,048,576 bytes",
