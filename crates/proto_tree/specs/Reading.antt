@@ -258,6 +258,13 @@ heading_at c = made (λ x. (record { keyword = x.0; name = x.1.0 }, x.1.1)) (one
 abbrev pub opened : (Heading → Header) → Class → Reader Piece
 opened make c = made (λ x. piece.Open (make x.0) x.1) (heading_at c)
 
+-- what the keyword of a block makes of its heading
+abbrev pub header_of : Class → Heading → Header
+header_of class.Message h = header.Message h
+header_of class.Oneof h = header.Oneof h
+header_of class.Enum h = header.Enum h
+header_of _ h = header.Service h
+
 abbrev pub stated : {A : Type 0} → (A → Statement) → Reader A → Reader Piece
 stated make p = made (λ x. piece.Statement (make x)) p
 

@@ -74,7 +74,10 @@ fn method_item(alloc: Global, tokens: &[Lexeme]) -> Result<(Found<MethodItem>, &
             Some(item) => Ok((Found::Item(item), rest)),
             None => Err(Fault::Syntax(tokens.len())),
         },
-        Piece::Open(_, _) => Err(Fault::Syntax(tokens.len())),
+        Piece::Open(header, _) => {
+            drop(header);
+            Err(Fault::Syntax(tokens.len()))
+        }
         Piece::Close(close) => Ok((Found::Close(close), rest)),
     }
 }
@@ -146,7 +149,10 @@ fn enum_item(alloc: Global, tokens: &[Lexeme]) -> Result<(Found<EnumItem>, &[Lex
             Some(item) => Ok((Found::Item(item), rest)),
             None => Err(Fault::Syntax(tokens.len())),
         },
-        Piece::Open(_, _) => Err(Fault::Syntax(tokens.len())),
+        Piece::Open(header, _) => {
+            drop(header);
+            Err(Fault::Syntax(tokens.len()))
+        }
         Piece::Close(close) => Ok((Found::Close(close), rest)),
     }
 }
@@ -178,7 +184,10 @@ fn oneof_field(alloc: Global, tokens: &[Lexeme]) -> Result<(Found<Field>, &[Lexe
             Some(item) => Ok((Found::Item(item), rest)),
             None => Err(Fault::Syntax(tokens.len())),
         },
-        Piece::Open(_, _) => Err(Fault::Syntax(tokens.len())),
+        Piece::Open(header, _) => {
+            drop(header);
+            Err(Fault::Syntax(tokens.len()))
+        }
         Piece::Close(close) => Ok((Found::Close(close), rest)),
     }
 }
@@ -224,7 +233,10 @@ fn member(alloc: Global, tokens: &[Lexeme]) -> Result<(Found<Member>, &[Lexeme])
                 let nested = block(heading, open, items, close);
                 Ok((Found::Item(Member::Enum(nested)), rest))
             }
-            _ => Err(Fault::Syntax(tokens.len())),
+            other => {
+                drop(other);
+                Err(Fault::Syntax(tokens.len()))
+            }
         },
         Piece::Close(close) => Ok((Found::Close(close), rest)),
     }

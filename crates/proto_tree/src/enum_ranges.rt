@@ -1,11 +1,12 @@
 //! Reading ranges and reserved names of enums.
 
 ghost use Rattle.std.specs.Prelude.{◌≡◌};
-ghost use Rattle.proto_tree.specs.Reading.{Gives, maybe, many, behind_at, signed_at, range_end_at, up_to_at, range_at, ranges_at, reserved_list_at, reserved_at};
+ghost use Rattle.proto_tree.specs.Reading.{Gives, stated, maybe, many, behind_at, signed_at, range_end_at, up_to_at, range_at, ranges_at, reserved_list_at, reserved_at};
 
 use crate::class::{Class, Lexeme, Want};
 use crate::list::Sequence;
 use crate::options::signed;
+use crate::piece::{Piece, Statement};
 use crate::reading::{Stop, one, separated, starts};
 use crate::tree::{Behind, Range, RangeEnd, Reserved, ReservedList, Separated, Signed, UpTo};
 use std::alloc::Global;
@@ -100,18 +101,16 @@ fn reserved_list(alloc: Global, rest: &[Lexeme]) -> Result<(ReservedList<Signed>
 }
 
 #[tactic(auto, unfolding(crate::specs::Reading::reserved_at))]
-pub fn reserved(alloc: Global, rest: &[Lexeme]) -> Result<(Reserved<Signed>, &[Lexeme]), Stop>
-    ensures { Gives (λ x. (x.0, x.1.now)) result (reserved_at signed_at rest.now) }
+pub fn reserved(alloc: Global, rest: &[Lexeme]) -> Result<(Piece, &[Lexeme]), Stop>
+    ensures { Gives (λ x. (x.0, x.1.now)) result (stated Statement.EnumReserved (reserved_at signed_at) rest.now) }
 {
     let (keyword, rest) = one(rest, Class::Reserved)?;
     let (list, rest) = reserved_list(alloc, rest)?;
     let (semicolon, rest) = one(rest, Class::Semicolon)?;
-    Ok((
-        Reserved {
-            keyword,
-            list,
-            semicolon,
-        },
-        rest,
-    ))
+    let reserved = Reserved {
+        keyword,
+        list,
+        semicolon,
+    };
+    Ok((Piece::Statement(Statement::EnumReserved(reserved)), rest))
 }

@@ -50,7 +50,10 @@ fn item(
                 let service = block(heading, open, items, close);
                 Ok((Item::Service(service), context.after(kind), rest))
             }
-            _ => Err(Fault::Syntax(tokens.len())),
+            other => {
+                drop(other);
+                Err(Fault::Syntax(tokens.len()))
+            }
         },
         Piece::Close(_) => Err(Fault::Syntax(tokens.len())),
     }

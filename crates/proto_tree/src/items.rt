@@ -18,7 +18,10 @@ pub fn member_of(statement: Statement) -> Option<Member>
         Statement::Reserved(reserved) => Some(Member::Reserved(reserved)),
         Statement::Extensions(extensions) => Some(Member::Extensions(extensions)),
         Statement::Empty(at) => Some(Member::Empty(at)),
-        _ => None,
+        other => {
+            drop(other);
+            None
+        }
     }
 }
 
@@ -28,10 +31,16 @@ pub fn oneof_field_of(statement: Statement) -> Option<Field>
 {
     match statement {
         Statement::Field(field) => match field.label {
-            Some(_) => None,
+            Some(_) => {
+                drop(field);
+                None
+            }
             None => Some(field),
         },
-        _ => None,
+        other => {
+            drop(other);
+            None
+        }
     }
 }
 
@@ -44,7 +53,10 @@ pub fn enum_item_of(statement: Statement) -> Option<EnumItem>
         Statement::Option(option) => Some(EnumItem::Option(option)),
         Statement::EnumReserved(reserved) => Some(EnumItem::Reserved(reserved)),
         Statement::Empty(at) => Some(EnumItem::Empty(at)),
-        _ => None,
+        other => {
+            drop(other);
+            None
+        }
     }
 }
 
@@ -59,7 +71,10 @@ pub fn service_item_of(statement: Statement) -> Option<ServiceItem>
         })),
         Statement::Option(option) => Some(ServiceItem::Option(option)),
         Statement::Empty(at) => Some(ServiceItem::Empty(at)),
-        _ => None,
+        other => {
+            drop(other);
+            None
+        }
     }
 }
 
@@ -70,7 +85,10 @@ pub fn method_item_of(statement: Statement) -> Option<MethodItem>
     match statement {
         Statement::Option(option) => Some(MethodItem::Option(option)),
         Statement::Empty(at) => Some(MethodItem::Empty(at)),
-        _ => None,
+        other => {
+            drop(other);
+            None
+        }
     }
 }
 
@@ -84,6 +102,9 @@ pub fn item_of(statement: Statement) -> Option<Item>
         Statement::Package(package) => Some(Item::Package(package)),
         Statement::Option(option) => Some(Item::Option(option)),
         Statement::Empty(at) => Some(Item::Empty(at)),
-        _ => None,
+        other => {
+            drop(other);
+            None
+        }
     }
 }

@@ -1,11 +1,12 @@
 //! Reading options and their values.
 
 ghost use Rattle.std.specs.Prelude.{◌≡◌};
-ghost use Rattle.proto_tree.specs.Reading.{Gives, token, many, behind_at, separated_at, signed_at, joined_at, constant_at, setting_at, settings_at, maybe_settings, option_at};
+ghost use Rattle.proto_tree.specs.Reading.{Gives, stated, token, many, behind_at, separated_at, signed_at, joined_at, constant_at, setting_at, settings_at, maybe_settings, option_at};
 
 use crate::class::{Class, Lexeme, Want};
 use crate::list::Sequence;
-use crate::reading::{Stop, one, option, starts, take};
+use crate::piece::{Piece, Statement};
+use crate::reading::{Stop, one, option, starts, take, three};
 use crate::tree::{Behind, Constant, Joined, Option_, Separated, Setting, Settings, Signed};
 use std::alloc::Global;
 
@@ -135,22 +136,20 @@ pub fn settings(alloc: Global, rest: &[Lexeme]) -> Result<(Option<Settings>, &[L
 }
 
 #[tactic(auto, unfolding(crate::specs::Reading::option_at))]
-pub fn option_statement(alloc: Global, rest: &[Lexeme]) -> Result<(Option_, &[Lexeme]), Stop>
-    ensures { Gives (λ x. (x.0, x.1.now)) result (option_at rest.now) }
+pub fn option_statement(alloc: Global, rest: &[Lexeme]) -> Result<(Piece, &[Lexeme]), Stop>
+    ensures { Gives (λ x. (x.0, x.1.now)) result (stated Statement.Option option_at rest.now) }
 {
-    let (keyword, rest) = one(rest, Class::Option)?;
-    let (name, rest) = take(rest, Want::OptionName)?;
-    let (equals, rest) = one(rest, Class::Equals)?;
+    let keyword = Want::One(Class::Option);
+    let equals = Want::One(Class::Equals);
+    let ((keyword, name, equals), rest) = three(rest, keyword, Want::OptionName, equals)?;
     let (value, rest) = constant(alloc, rest)?;
     let (semicolon, rest) = one(rest, Class::Semicolon)?;
-    Ok((
-        Option_ {
-            keyword,
-            name,
-            equals,
-            value,
-            semicolon,
-        },
-        rest,
-    ))
+    let option = Option_ {
+        keyword,
+        name,
+        equals,
+        value,
+        semicolon,
+    };
+    Ok((Piece::Statement(Statement::Option(option)), rest))
 }

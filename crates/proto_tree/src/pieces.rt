@@ -1,7 +1,7 @@
 //! Reading a piece: a statement, or what begins or ends a block.
 
 ghost use Rattle.std.specs.Prelude.{◌≡◌};
-ghost use Rattle.proto_tree.specs.Reading.{Gives, heading_at, close_at, empty_at, enum_piece_at, piece_at};
+ghost use Rattle.proto_tree.specs.Reading.{Gives, header_of, opened, close_at, empty_at, enum_piece_at, piece_at};
 ghost use Rattle.proto_tree.specs.Walk.{any_piece_in};
 
 use crate::class::{Class, Lexeme, Want};
@@ -11,17 +11,30 @@ use crate::methods::method;
 use crate::options::option_statement;
 use crate::piece::{Header, Heading, Piece, Statement};
 use crate::ranges::{extensions, reserved};
-use crate::reading::{Stop, one, starts, take};
+use crate::reading::{Stop, one, starts, three};
 use crate::statements::{field, import, map_field, package, syntax, value};
 use std::alloc::Global;
 
-fn heading(rest: &[Lexeme], class: Class) -> Result<((Heading, u32), &[Lexeme]), Stop>
-    ensures { Gives (λ x. (x.0, x.1.now)) result (heading_at class rest.now) }
+/// What stands before the brace of a block whose keyword is this one.
+fn header_of(class: Class, heading: Heading) -> Header
+    ensures { result ≡ header_of class heading }
 {
-    let (keyword, rest) = one(rest, class)?;
-    let (name, rest) = take(rest, Want::Name)?;
-    let (open, rest) = one(rest, Class::Open)?;
-    Ok(((Heading { keyword, name }, open), rest))
+    match class {
+        Class::Message => Header::Message(heading),
+        Class::Oneof => Header::Oneof(heading),
+        Class::Enum => Header::Enum(heading),
+        _ => Header::Service(heading),
+    }
+}
+
+/// A keyword, a name and a brace.
+fn opening(rest: &[Lexeme], class: Class) -> Result<(Piece, &[Lexeme]), Stop>
+    ensures { Gives (λ x. (x.0, x.1.now)) result (opened (header_of class) class rest.now) }
+{
+    let open = Want::One(Class::Open);
+    let ((keyword, name, open), rest) = three(rest, Want::One(class), Want::Name, open)?;
+    let header = header_of(class, Heading { keyword, name });
+    Ok((Piece::Open(header, open), rest))
 }
 
 fn close(rest: &[Lexeme]) -> Result<(Piece, &[Lexeme]), Stop>
@@ -49,15 +62,12 @@ fn enum_piece(alloc: Global, rest: &[Lexeme]) -> Result<(Piece, &[Lexeme]), Stop
         return empty(rest);
     }
     if starts(rest, Want::One(Class::Option)) {
-        let (option, rest) = option_statement(alloc, rest)?;
-        return Ok((Piece::Statement(Statement::Option(option)), rest));
+        return option_statement(alloc, rest);
     }
     if starts(rest, Want::One(Class::Reserved)) {
-        let (reserved, rest) = enum_ranges::reserved(alloc, rest)?;
-        return Ok((Piece::Statement(Statement::EnumReserved(reserved)), rest));
+        return enum_ranges::reserved(alloc, rest);
     }
-    let (value, rest) = value(alloc, rest)?;
-    Ok((Piece::Statement(Statement::Value(value)), rest))
+    value(alloc, rest)
 }
 
 #[tactic(auto, unfolding(crate::specs::Reading::piece_at))]
@@ -71,54 +81,42 @@ fn piece(alloc: Global, rest: &[Lexeme]) -> Result<(Piece, &[Lexeme]), Stop>
         return empty(rest);
     }
     if starts(rest, Want::One(Class::Message)) {
-        let ((heading, open), rest) = heading(rest, Class::Message)?;
-        return Ok((Piece::Open(Header::Message(heading), open), rest));
+        return opening(rest, Class::Message);
     }
     if starts(rest, Want::One(Class::Oneof)) {
-        let ((heading, open), rest) = heading(rest, Class::Oneof)?;
-        return Ok((Piece::Open(Header::Oneof(heading), open), rest));
+        return opening(rest, Class::Oneof);
     }
     if starts(rest, Want::One(Class::Enum)) {
-        let ((heading, open), rest) = heading(rest, Class::Enum)?;
-        return Ok((Piece::Open(Header::Enum(heading), open), rest));
+        return opening(rest, Class::Enum);
     }
     if starts(rest, Want::One(Class::Service)) {
-        let ((heading, open), rest) = heading(rest, Class::Service)?;
-        return Ok((Piece::Open(Header::Service(heading), open), rest));
+        return opening(rest, Class::Service);
     }
     if starts(rest, Want::One(Class::Syntax)) {
-        let (syntax, rest) = syntax(rest)?;
-        return Ok((Piece::Statement(Statement::Syntax(syntax)), rest));
+        return syntax(rest);
     }
     if starts(rest, Want::One(Class::Import)) {
-        let (import, rest) = import(rest)?;
-        return Ok((Piece::Statement(Statement::Import(import)), rest));
+        return import(rest);
     }
     if starts(rest, Want::One(Class::Package)) {
-        let (package, rest) = package(alloc, rest)?;
-        return Ok((Piece::Statement(Statement::Package(package)), rest));
+        return package(alloc, rest);
     }
     if starts(rest, Want::One(Class::Option)) {
-        let (option, rest) = option_statement(alloc, rest)?;
-        return Ok((Piece::Statement(Statement::Option(option)), rest));
+        return option_statement(alloc, rest);
     }
     if starts(rest, Want::One(Class::Map)) {
-        let (field, rest) = map_field(alloc, rest)?;
-        return Ok((Piece::Statement(Statement::MapField(field)), rest));
+        return map_field(alloc, rest);
     }
     if starts(rest, Want::One(Class::Reserved)) {
-        let (reserved, rest) = reserved(alloc, rest)?;
-        return Ok((Piece::Statement(Statement::Reserved(reserved)), rest));
+        return reserved(alloc, rest);
     }
     if starts(rest, Want::One(Class::Extensions)) {
-        let (extensions, rest) = extensions(alloc, rest)?;
-        return Ok((Piece::Statement(Statement::Extensions(extensions)), rest));
+        return extensions(alloc, rest);
     }
     if starts(rest, Want::One(Class::Rpc)) {
         return method(alloc, rest);
     }
-    let (field, rest) = field(alloc, rest)?;
-    Ok((Piece::Statement(Statement::Field(field)), rest))
+    field(alloc, rest)
 }
 
 /// A piece, read as the context asks.

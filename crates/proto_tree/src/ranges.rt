@@ -1,10 +1,11 @@
 //! Reading ranges and reserved names of messages.
 
 ghost use Rattle.std.specs.Prelude.{◌≡◌};
-ghost use Rattle.proto_tree.specs.Reading.{Gives, maybe, many, behind_at, one_token, range_end_at, up_to_at, range_at, ranges_at, reserved_list_at, reserved_at, extensions_at};
+ghost use Rattle.proto_tree.specs.Reading.{Gives, stated, maybe, many, behind_at, one_token, range_end_at, up_to_at, range_at, ranges_at, reserved_list_at, reserved_at, extensions_at};
 
 use crate::class::{Class, Lexeme, Want};
 use crate::list::Sequence;
+use crate::piece::{Piece, Statement};
 use crate::reading::{Stop, one, separated, starts};
 use crate::tree::{Behind, Extensions, Range, RangeEnd, Reserved, ReservedList, Separated, UpTo};
 use std::alloc::Global;
@@ -99,35 +100,31 @@ fn reserved_list(alloc: Global, rest: &[Lexeme]) -> Result<(ReservedList<u32>, &
 }
 
 #[tactic(auto, unfolding(crate::specs::Reading::reserved_at))]
-pub fn reserved(alloc: Global, rest: &[Lexeme]) -> Result<(Reserved<u32>, &[Lexeme]), Stop>
-    ensures { Gives (λ x. (x.0, x.1.now)) result (reserved_at (one_token Class.Number) rest.now) }
+pub fn reserved(alloc: Global, rest: &[Lexeme]) -> Result<(Piece, &[Lexeme]), Stop>
+    ensures { Gives (λ x. (x.0, x.1.now)) result (stated Statement.Reserved (reserved_at (one_token Class.Number)) rest.now) }
 {
     let (keyword, rest) = one(rest, Class::Reserved)?;
     let (list, rest) = reserved_list(alloc, rest)?;
     let (semicolon, rest) = one(rest, Class::Semicolon)?;
-    Ok((
-        Reserved {
-            keyword,
-            list,
-            semicolon,
-        },
-        rest,
-    ))
+    let reserved = Reserved {
+        keyword,
+        list,
+        semicolon,
+    };
+    Ok((Piece::Statement(Statement::Reserved(reserved)), rest))
 }
 
 #[tactic(auto, unfolding(crate::specs::Reading::extensions_at))]
-pub fn extensions(alloc: Global, rest: &[Lexeme]) -> Result<(Extensions, &[Lexeme]), Stop>
-    ensures { Gives (λ x. (x.0, x.1.now)) result (extensions_at rest.now) }
+pub fn extensions(alloc: Global, rest: &[Lexeme]) -> Result<(Piece, &[Lexeme]), Stop>
+    ensures { Gives (λ x. (x.0, x.1.now)) result (stated Statement.Extensions extensions_at rest.now) }
 {
     let (keyword, rest) = one(rest, Class::Extensions)?;
     let (ranges, rest) = ranges(alloc, rest)?;
     let (semicolon, rest) = one(rest, Class::Semicolon)?;
-    Ok((
-        Extensions {
-            keyword,
-            ranges,
-            semicolon,
-        },
-        rest,
-    ))
+    let extensions = Extensions {
+        keyword,
+        ranges,
+        semicolon,
+    };
+    Ok((Piece::Statement(Statement::Extensions(extensions)), rest))
 }

@@ -1,7 +1,7 @@
 //! Reading tokens from the left.
 
 ghost use Rattle.std.specs.Prelude.{◌≡◌};
-ghost use Rattle.proto_tree.specs.Reading.{Gives, token, starts, maybe_token, many, behind_at, from_at};
+ghost use Rattle.proto_tree.specs.Reading.{Gives, token, ◌then◌, starts, maybe_token, many, behind_at, from_at};
 
 use crate::class::{Class, Lexeme, Want};
 use crate::list::Sequence;
@@ -58,6 +58,21 @@ pub fn one(rest: &[Lexeme], class: Class) -> Result<(u32, &[Lexeme]), Stop>
     ensures { Gives (λ x. (x.0, x.1.now)) result (token (Want.One class) rest.now) }
 {
     take(rest, Want::One(class))
+}
+
+/// Three tokens that are what is wanted, one behind another.
+pub fn three(
+    rest: &[Lexeme],
+    first: Want,
+    second: Want,
+    third: Want,
+) -> Result<((u32, u32, u32), &[Lexeme]), Stop>
+    ensures { Gives (λ x. ((x.0.0, (x.0.1, x.0.2)), x.1.now)) result ((token first then token second then token third) rest.now) }
+{
+    let (first, rest) = take(rest, first)?;
+    let (second, rest) = take(rest, second)?;
+    let (third, rest) = take(rest, third)?;
+    Ok(((first, second, third), rest))
 }
 
 /// Whether the first token is what is wanted.

@@ -1,64 +1,89 @@
 //! Reading the statements of a file, a message and an enum.
 
 ghost use Rattle.std.specs.Prelude.{◌≡◌};
-ghost use Rattle.proto_tree.specs.Reading.{Gives, syntax_at, import_at, package_at, field_at, map_field_at, value_at};
+ghost use Rattle.proto_tree.specs.Reading.{Gives, stated, syntax_at, import_at, package_at, field_at, map_field_at, numbered_at, value_at};
 
 use crate::class::{Class, Lexeme, Want};
 use crate::names::{field_type, package_name};
 use crate::options::{settings, signed};
-use crate::reading::{Stop, one, option, take};
-use crate::tree::{Field, Import, MapField, Package, Syntax, Value};
+use crate::piece::{Piece, Statement};
+use crate::reading::{Stop, one, option, take, three};
+use crate::tree::{Field, Import, MapField, Package, Settings, Syntax, Value};
 use std::alloc::Global;
 
 #[tactic(auto, unfolding(crate::specs::Reading::syntax_at))]
-pub fn syntax(rest: &[Lexeme]) -> Result<(Syntax, &[Lexeme]), Stop>
-    ensures { Gives (λ x. (x.0, x.1.now)) result (syntax_at rest.now) }
+pub fn syntax(rest: &[Lexeme]) -> Result<(Piece, &[Lexeme]), Stop>
+    ensures { Gives (λ x. (x.0, x.1.now)) result (stated Statement.Syntax syntax_at rest.now) }
 {
-    let (keyword, rest) = one(rest, Class::Syntax)?;
-    let (equals, rest) = one(rest, Class::Equals)?;
-    let (text, rest) = one(rest, Class::ProtoText)?;
+    let equals = Want::One(Class::Equals);
+    let text = Want::One(Class::ProtoText);
+    let ((keyword, equals, text), rest) = three(rest, Want::One(Class::Syntax), equals, text)?;
     let (semicolon, rest) = one(rest, Class::Semicolon)?;
-    Ok((
-        Syntax {
-            keyword,
-            equals,
-            text,
-            semicolon,
-        },
-        rest,
-    ))
+    let syntax = Syntax {
+        keyword,
+        equals,
+        text,
+        semicolon,
+    };
+    Ok((Piece::Statement(Statement::Syntax(syntax)), rest))
 }
 
 #[tactic(auto, unfolding(crate::specs::Reading::import_at))]
-pub fn import(rest: &[Lexeme]) -> Result<(Import, &[Lexeme]), Stop>
-    ensures { Gives (λ x. (x.0, x.1.now)) result (import_at rest.now) }
+pub fn import(rest: &[Lexeme]) -> Result<(Piece, &[Lexeme]), Stop>
+    ensures { Gives (λ x. (x.0, x.1.now)) result (stated Statement.Import import_at rest.now) }
 {
     let (keyword, rest) = one(rest, Class::Import)?;
     let (public, rest) = option(rest, Want::One(Class::Public))?;
     let (path, rest) = take(rest, Want::Text)?;
     let (semicolon, rest) = one(rest, Class::Semicolon)?;
-    Ok((
-        Import {
-            keyword,
-            public,
-            path,
-            semicolon,
-        },
-        rest,
-    ))
+    let import = Import {
+        keyword,
+        public,
+        path,
+        semicolon,
+    };
+    Ok((Piece::Statement(Statement::Import(import)), rest))
 }
 
 #[tactic(auto, unfolding(crate::specs::Reading::package_at))]
-pub fn package(alloc: Global, rest: &[Lexeme]) -> Result<(Package, &[Lexeme]), Stop>
-    ensures { Gives (λ x. (x.0, x.1.now)) result (package_at rest.now) }
+pub fn package(alloc: Global, rest: &[Lexeme]) -> Result<(Piece, &[Lexeme]), Stop>
+    ensures { Gives (λ x. (x.0, x.1.now)) result (stated Statement.Package package_at rest.now) }
 {
     let (keyword, rest) = one(rest, Class::Package)?;
     let (name, rest) = package_name(alloc, rest)?;
     let (semicolon, rest) = one(rest, Class::Semicolon)?;
+    let package = Package {
+        keyword,
+        name,
+        semicolon,
+    };
+    Ok((Piece::Statement(Statement::Package(package)), rest))
+}
+
+/// What stands behind the type of a field, its name first.
+#[derive(Drop)]
+struct NumberAndSettings {
+    name: u32,
+    equals: u32,
+    number: u32,
+    settings: Option<Settings>,
+    semicolon: u32,
+}
+
+fn numbered(alloc: Global, rest: &[Lexeme]) -> Result<(NumberAndSettings, &[Lexeme]), Stop>
+    ensures { Gives (λ x. ((x.0.name, (x.0.equals, (x.0.number, (x.0.settings, x.0.semicolon)))), x.1.now)) result (numbered_at rest.now) }
+{
+    let equals = Want::One(Class::Equals);
+    let number = Want::One(Class::Number);
+    let ((name, equals, number), rest) = three(rest, Want::Name, equals, number)?;
+    let (settings, rest) = settings(alloc, rest)?;
+    let (semicolon, rest) = one(rest, Class::Semicolon)?;
     Ok((
-        Package {
-            keyword,
+        NumberAndSettings {
             name,
+            equals,
+            number,
+            settings,
             semicolon,
         },
         rest,
@@ -66,80 +91,66 @@ pub fn package(alloc: Global, rest: &[Lexeme]) -> Result<(Package, &[Lexeme]), S
 }
 
 #[tactic(auto, unfolding(crate::specs::Reading::field_at))]
-pub fn field(alloc: Global, rest: &[Lexeme]) -> Result<(Field, &[Lexeme]), Stop>
-    ensures { Gives (λ x. (x.0, x.1.now)) result (field_at rest.now) }
+pub fn field(alloc: Global, rest: &[Lexeme]) -> Result<(Piece, &[Lexeme]), Stop>
+    ensures { Gives (λ x. (x.0, x.1.now)) result (stated Statement.Field field_at rest.now) }
 {
     let (label, rest) = option(rest, Want::Label)?;
     let (kind, rest) = field_type(alloc, rest)?;
-    let (name, rest) = take(rest, Want::Name)?;
-    let (equals, rest) = one(rest, Class::Equals)?;
-    let (number, rest) = one(rest, Class::Number)?;
-    let (settings, rest) = settings(alloc, rest)?;
-    let (semicolon, rest) = one(rest, Class::Semicolon)?;
-    Ok((
-        Field {
-            label,
-            kind,
-            name,
-            equals,
-            number,
-            settings,
-            semicolon,
-        },
-        rest,
-    ))
+    let (numbered, rest) = numbered(alloc, rest)?;
+    let field = Field {
+        label,
+        kind,
+        name: numbered.name,
+        equals: numbered.equals,
+        number: numbered.number,
+        settings: numbered.settings,
+        semicolon: numbered.semicolon,
+    };
+    Ok((Piece::Statement(Statement::Field(field)), rest))
 }
 
 #[tactic(auto, unfolding(crate::specs::Reading::map_field_at))]
-pub fn map_field(alloc: Global, rest: &[Lexeme]) -> Result<(MapField, &[Lexeme]), Stop>
-    ensures { Gives (λ x. (x.0, x.1.now)) result (map_field_at rest.now) }
+pub fn map_field(alloc: Global, rest: &[Lexeme]) -> Result<(Piece, &[Lexeme]), Stop>
+    ensures { Gives (λ x. (x.0, x.1.now)) result (stated Statement.MapField map_field_at rest.now) }
 {
-    let (keyword, rest) = one(rest, Class::Map)?;
-    let (open, rest) = one(rest, Class::Less)?;
-    let (key, rest) = one(rest, Class::Scalar)?;
+    let less = Want::One(Class::Less);
+    let scalar = Want::One(Class::Scalar);
+    let ((keyword, open, key), rest) = three(rest, Want::One(Class::Map), less, scalar)?;
     let (comma, rest) = one(rest, Class::Comma)?;
     let (value, rest) = field_type(alloc, rest)?;
     let (close, rest) = one(rest, Class::Greater)?;
-    let (name, rest) = take(rest, Want::Name)?;
-    let (equals, rest) = one(rest, Class::Equals)?;
-    let (number, rest) = one(rest, Class::Number)?;
-    let (settings, rest) = settings(alloc, rest)?;
-    let (semicolon, rest) = one(rest, Class::Semicolon)?;
-    Ok((
-        MapField {
-            keyword,
-            open,
-            key,
-            comma,
-            value,
-            close,
-            name,
-            equals,
-            number,
-            settings,
-            semicolon,
-        },
-        rest,
-    ))
+    let (numbered, rest) = numbered(alloc, rest)?;
+    let field = MapField {
+        keyword,
+        open,
+        key,
+        comma,
+        value,
+        close,
+        name: numbered.name,
+        equals: numbered.equals,
+        number: numbered.number,
+        settings: numbered.settings,
+        semicolon: numbered.semicolon,
+    };
+    Ok((Piece::Statement(Statement::MapField(field)), rest))
 }
 
 #[tactic(auto, unfolding(crate::specs::Reading::value_at))]
-pub fn value(alloc: Global, rest: &[Lexeme]) -> Result<(Value, &[Lexeme]), Stop>
-    ensures { Gives (λ x. (x.0, x.1.now)) result (value_at rest.now) }
+pub fn value(alloc: Global, rest: &[Lexeme]) -> Result<(Piece, &[Lexeme]), Stop>
+    ensures { Gives (λ x. (x.0, x.1.now)) result (stated Statement.Value value_at rest.now) }
 {
     let (name, rest) = take(rest, Want::ValueName)?;
     let (equals, rest) = one(rest, Class::Equals)?;
     let (number, rest) = signed(rest)?;
     let (settings, rest) = settings(alloc, rest)?;
     let (semicolon, rest) = one(rest, Class::Semicolon)?;
-    Ok((
-        Value {
-            name,
-            equals,
-            number,
-            settings,
-            semicolon,
-        },
-        rest,
-    ))
+    let value = Value {
+        name,
+        equals,
+        number,
+        settings,
+        semicolon,
+    };
+    Ok((Piece::Statement(Statement::Value(value)), rest))
 }

@@ -7,7 +7,6 @@ use Rattle.proto_tree.specs.declared.tree.Member.TheVariants as member
 use Rattle.proto_tree.specs.File.{trees, field_tree, oneof_tree, enum_item_tree, enum_tree, member_tree, message_tree}
 use Rattle.proto_tree.proofs.Nodes.{statement_item, not_here, close_item, block_seen, fault_behind, fault_inside, opening_shorter, read_push, no_other_in_message, member_tree-Message, member_tree-Oneof, member_tree-Enum}
 use Rattle.proto_tree.proofs.blocks.+messages.Goals as goal
-use Rattle.proto_tree.proofs.blocks.+messages.Goals.{member-in-Message+in_ok-items-in-Message, member-in-Oneof+in_ok-items-in-Oneof, member-in-Enum+in_ok-items-in-Enum, member-in_default}
 
 pub member-members-requires : goal.member-members-requires
 member-members-requires t c =
@@ -44,25 +43,29 @@ pub member-returns-in-None : goal.member-returns-in-None
 member-returns-in-None t c =
     not_here context.Message (piece.Statement c.in-Statement.statement) c.args.tokens.now c.in_ok-piece.rest.now (rw c.in-Statement.is at c.in_ok-piece.ensures) c.in-None.ensures (λ e. refl)
 
-pub member-returns-after-header : goal.member-returns-after-header
-member-returns-after-header t c = elim c.match-header.branch [
-  | member-in-Message+in_ok-items-in-Message w ↦
-      let met = rw c.in-Open.is at c.in_ok-piece.ensures in
-      let found = rw w.in-Message.is at met in
-      rw w.result-is (block_seen context.Message (header.Message w.in-Message.heading) c.in-Open.«open» (trees member_tree w.in_ok-items-in-Message.items.items) (member_tree (member.Message w.block-message.result)) w.in_ok-items-in-Message.close c.args.tokens.now c.in_ok-piece.rest.now w.in_ok-items-in-Message.rest.now found refl w.in_ok-items-in-Message.ensures (member_tree-Message w.block-message.result ∙ ap message_tree w.block-message.ensures))
-  | member-in-Oneof+in_ok-items-in-Oneof w ↦
-      let met = rw c.in-Open.is at c.in_ok-piece.ensures in
-      let found = rw w.in-Oneof.is at met in
-      rw w.result-is (block_seen context.Message (header.Oneof w.in-Oneof.heading) c.in-Open.«open» (trees field_tree w.in_ok-items-in-Oneof.items.items) (member_tree (member.Oneof w.block-oneof.result)) w.in_ok-items-in-Oneof.close c.args.tokens.now c.in_ok-piece.rest.now w.in_ok-items-in-Oneof.rest.now found refl w.in_ok-items-in-Oneof.ensures (member_tree-Oneof w.block-oneof.result ∙ ap oneof_tree w.block-oneof.ensures))
-  | member-in-Enum+in_ok-items-in-Enum w ↦
-      let met = rw c.in-Open.is at c.in_ok-piece.ensures in
-      let found = rw w.in-Enum.is at met in
-      rw w.result-is (block_seen context.Message (header.Enum w.in-Enum.heading) c.in-Open.«open» (trees enum_item_tree w.in_ok-items-in-Enum.items.items) (member_tree (member.Enum w.block-nested.result)) w.in_ok-items-in-Enum.close c.args.tokens.now c.in_ok-piece.rest.now w.in_ok-items-in-Enum.rest.now found refl w.in_ok-items-in-Enum.ensures (member_tree-Enum w.block-nested.result ∙ ap enum_tree w.block-nested.ensures))
-  | member-in_default w ↦
-      let found = rw c.in-Open.is at c.in_ok-piece.ensures in
-      rw w.result-is (not_here context.Message (piece.Open c.in-Open.header c.in-Open.«open») c.args.tokens.now c.in_ok-piece.rest.now found
-      (no_other_in_message c.in-Open.header w.in_default.not-Message w.in_default.not-Oneof w.in_default.not-Enum) (λ e. refl))
-]
+pub member-returns-in_ok-items-in-Message : goal.member-returns-in_ok-items-in-Message
+member-returns-in_ok-items-in-Message t c =
+    let met = rw c.in-Open.is at c.in_ok-piece.ensures in
+    let found = rw c.in-Message.is at met in
+    block_seen context.Message (header.Message c.in-Message.heading) c.in-Open.«open» (trees member_tree c.in_ok-items-in-Message.items.items) (member_tree (member.Message c.block-message.result)) c.in_ok-items-in-Message.close c.args.tokens.now c.in_ok-piece.rest.now c.in_ok-items-in-Message.rest.now found refl c.in_ok-items-in-Message.ensures (member_tree-Message c.block-message.result ∙ ap message_tree c.block-message.ensures)
+
+pub member-returns-in_ok-items-in-Oneof : goal.member-returns-in_ok-items-in-Oneof
+member-returns-in_ok-items-in-Oneof t c =
+    let met = rw c.in-Open.is at c.in_ok-piece.ensures in
+    let found = rw c.in-Oneof.is at met in
+    block_seen context.Message (header.Oneof c.in-Oneof.heading) c.in-Open.«open» (trees field_tree c.in_ok-items-in-Oneof.items.items) (member_tree (member.Oneof c.block-oneof.result)) c.in_ok-items-in-Oneof.close c.args.tokens.now c.in_ok-piece.rest.now c.in_ok-items-in-Oneof.rest.now found refl c.in_ok-items-in-Oneof.ensures (member_tree-Oneof c.block-oneof.result ∙ ap oneof_tree c.block-oneof.ensures)
+
+pub member-returns-in_ok-items-in-Enum : goal.member-returns-in_ok-items-in-Enum
+member-returns-in_ok-items-in-Enum t c =
+    let met = rw c.in-Open.is at c.in_ok-piece.ensures in
+    let found = rw c.in-Enum.is at met in
+    block_seen context.Message (header.Enum c.in-Enum.heading) c.in-Open.«open» (trees enum_item_tree c.in_ok-items-in-Enum.items.items) (member_tree (member.Enum c.block-nested.result)) c.in_ok-items-in-Enum.close c.args.tokens.now c.in_ok-piece.rest.now c.in_ok-items-in-Enum.rest.now found refl c.in_ok-items-in-Enum.ensures (member_tree-Enum c.block-nested.result ∙ ap enum_tree c.block-nested.ensures)
+
+pub member-returns-in_default : goal.member-returns-in_default
+member-returns-in_default t c =
+    let found = rw c.in-Open.is at c.in_ok-piece.ensures in
+    not_here context.Message (piece.Open c.in-Open.header c.in-Open.«open») c.args.tokens.now c.in_ok-piece.rest.now found
+    (no_other_in_message c.in-Open.header c.in_default.not-Message c.in_default.not-Oneof c.in_default.not-Enum) (λ e. refl)
 
 pub member-returns-in-Close : goal.member-returns-in-Close
 member-returns-in-Close t c = close_item context.Message c.in-Close.close c.args.tokens.now c.in_ok-piece.rest.now (rw c.in-Close.is at c.in_ok-piece.ensures) refl

@@ -9,13 +9,13 @@ pub returns-in-Some : goal.returns-in-Some
 returns-in-Some c =
     statement_item context.Oneof field_tree c.in-Statement.statement c.in-Some.item c.args.tokens.now c.in_ok-piece.rest.now (rw c.in-Statement.is at c.in_ok-piece.ensures) c.in-Some.ensures
 
-pub returns-in-Statement : goal.returns-in-Statement
-returns-in-Statement c =
+pub returns-in-None : goal.returns-in-None
+returns-in-None c =
     not_here context.Oneof (piece.Statement c.in-Statement.statement) c.args.tokens.now c.in_ok-piece.rest.now (rw c.in-Statement.is at c.in_ok-piece.ensures) c.in-None.ensures (λ e. refl)
 
 pub returns-in-Open : goal.returns-in-Open
 returns-in-Open c =
-    not_here context.Oneof (piece.Open c.in-Open.field-0 c.in-Open.field-1) c.args.tokens.now c.in_ok-piece.rest.now (rw c.in-Open.is at c.in_ok-piece.ensures) (no_block_in_oneof c.in-Open.field-0) (λ e. refl)
+    not_here context.Oneof (piece.Open c.in-Open.header c.in-Open.field-1) c.args.tokens.now c.in_ok-piece.rest.now (rw c.in-Open.is at c.in_ok-piece.ensures) (no_block_in_oneof c.in-Open.header) (λ e. refl)
 
-pub returns : goal.returns
-returns c = close_item context.Oneof c.in-Close.close c.args.tokens.now c.in_ok-piece.rest.now (rw c.in-Close.is at c.in_ok-piece.ensures) refl
+pub returns-in-Close : goal.returns-in-Close
+returns-in-Close c = close_item context.Oneof c.in-Close.close c.args.tokens.now c.in_ok-piece.rest.now (rw c.in-Close.is at c.in_ok-piece.ensures) refl
