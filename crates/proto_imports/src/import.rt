@@ -1,14 +1,15 @@
 //! The imports of a workspace: the files that they name, or the first that is faulty.
 
-ghost use Rattle.std.specs.Prelude.{◌≡◌, ◌⊎◌, ◌↔◌, ◌<◌, ◌≤◌, ◌^◌, length, map, option_map, Some, IsTrue, IfOk, IfErr};
+ghost use Rattle.std.specs.Prelude.{◌≡◌, ◌⊎◌, ◌↔◌, ℕ, ◌<◌, ◌≤◌, ◌^◌, List, length, map, option_map, Some, IsTrue, IfOk, IfErr};
 ghost use Rattle.std.specs.List.{All};
 ghost use Rattle.proto_meaning.specs.Faults.{Fault, ImportFault, IsBefore, imports_of};
 ghost use Rattle.proto_imports.specs.Importing.{AreRising, all_asked, all_imports, fault_of, number_of, IsImportError};
-ghost use Rattle.proto_imports.specs.ImportSteps.{IsFirst};
+ghost use Rattle.proto_imports.specs.ImportSteps.{IsFileIndex, IsFirst};
 
 use crate::first_places::first_places;
 use crate::import_cycles::first_on_cycle;
 use crate::import_paths::{first_path_fault, resolved};
+use indexmap::IndexMap;
 use proto_faults::NoMemory;
 use std::alloc::{AllocError, Global};
 
@@ -117,9 +118,27 @@ pub fn resolve_imports(
     ensures fault { IfErr result (IsImportError (ImportFault (map (λ p. p.now) paths.now) (all_asked 0 (map (λ v. v.items) files.now)))) }
 {
     let index = first_places(alloc, paths)?;
-    let imports = resolved(alloc, &index, files)?;
-    let path_fault = first_path_fault(alloc, &index, files)?;
-    let cycle_fault = first_on_cycle(alloc, &index, files, &imports)?;
+    imports_by_index(alloc, &index, files)
+}
+
+/// The same, by the places of the paths.
+fn imports_by_index(
+    alloc: Global,
+    index: &IndexMap<String, u32>,
+    files: &[Vec<WrittenImport>],
+) -> Result<Vec<Vec<FileImport>>, ImportError>
+    requires count { length files.now ≤ 2 ^ 32 }
+    requires index { (paths : List (List ℕ)) × IsFileIndex index.now paths × (length paths ≡ length files.now) }
+    requires rising { All (λ v. AreRising v.items) files.now }
+    ensures clean { IfOk result (λ _. (paths : List (List ℕ)) → IsFileIndex index.now paths → (f : Fault) → ImportFault paths (all_asked 0 (map (λ v. v.items) files.now)) f → ⊥) }
+    ensures len { IfOk result (λ imports. length imports.items ≡ length files.now) }
+    ensures imports { IfOk result (λ imports. (paths : List (List ℕ)) → IsFileIndex index.now paths → all_imports 0 (map (λ v. v.items) imports.items) ≡ imports_of paths (all_asked 0 (map (λ v. v.items) files.now))) }
+    ensures within { IfOk result (λ imports. All (λ v. All (λ i. i.to < length files.now) v.items) imports.items) }
+    ensures fault { IfErr result (λ e. (paths : List (List ℕ)) → IsFileIndex index.now paths → IsImportError (ImportFault paths (all_asked 0 (map (λ v. v.items) files.now))) e) }
+{
+    let imports = resolved(alloc, index, files)?;
+    let path_fault = first_path_fault(alloc, index, files)?;
+    let cycle_fault = first_on_cycle(alloc, index, files, &imports)?;
     match first(path_fault, cycle_fault) {
         None => Ok(imports),
         Some(bad) => Err(ImportError::Bad(bad)),

@@ -1,39 +1,20 @@
-use Rattle.std.proofs.Common.{◌≡◌, length, map, option_map, sym, ◌∙◌, subst}
+use Rattle.std.proofs.Common.{map, sym, ◌∙◌}
 use Rattle.std.proofs.lemmas.List.{length-map}
-use Rattle.proto_meaning.specs.Faults.{ImportFault, imports_of}
-use Rattle.proto_imports.specs.Importing.{all_asked, all_imports, fault_of}
-use Rattle.proto_imports.specs.ImportSteps.{IsFirst}
-use Rattle.proto_imports.proofs.ImportFaults.{first_is}
-use Rattle.proto_imports.proofs.ImportGraph.{resolved_within}
+use Rattle.std.proofs.lemmas.Result.{IfErr-weaker, IfOk-weaker}
 use Rattle.proto_imports.proofs.import.resolve_imports.Goals as goal
 
-pub first_on_cycle-requires-clause-within : goal.first_on_cycle-requires-clause-within
-first_on_cycle-requires-clause-within c =
-    let paths = map (λ p. p.now) c.args.paths.now in
-    let asked = all_asked 0 (map (λ v. v.items) c.args.files.now) in
-    let same = subst (λ z. all_imports 0 (map (λ v. v.items) z) ≡ imports_of paths asked) (sym c.deref.ensures.value) (c.in_ok-imports.ensures.imports paths c.in_ok-index.ensures) in
-    resolved_within (λ v. v.items) c.deref.result.now paths asked (length c.args.files.now) (length-map c.args.paths.now (λ p. p.now) ∙ sym c.requires.paired) same
+pub imports_by_index-requires-clause-index : goal.imports_by_index-requires-clause-index
+imports_by_index-requires-clause-index c =
+    (map (λ p. p.now) c.args.paths.now, c.in_ok-index.ensures, length-map c.args.paths.now (λ p. p.now) ∙ sym c.requires.paired)
 
-pub returns-in-None-clause-clean : goal.returns-in-None-clause-clean
-returns-in-None-clause-clean c =
-    let paths = map (λ p. p.now) c.args.paths.now in
-    let asked = all_asked 0 (map (λ v. v.items) c.args.files.now) in
-    let same = subst (λ z. all_imports 0 (map (λ v. v.items) z) ≡ imports_of paths asked) (sym c.deref.ensures.value) (c.in_ok-imports.ensures.imports paths c.in_ok-index.ensures) in
-    let h = first_is paths asked (option_map fault_of c.in_ok-path_fault.path_fault) (option_map fault_of c.in_ok-cycle_fault.cycle_fault) (option_map fault_of c.first.result)
-    (c.in_ok-path_fault.ensures paths c.in_ok-index.ensures) (c.in_ok-cycle_fault.ensures paths c.in_ok-index.ensures same) c.first.ensures in
-    subst (λ o. IsFirst (ImportFault paths asked) (option_map fault_of o)) c.in-None.is h
+pub returns-clause-clean : goal.returns-clause-clean
+returns-clause-clean c =
+    IfOk-weaker c.imports_by_index.result _ _ (λ _ all. all (map (λ p. p.now) c.args.paths.now) c.in_ok-index.ensures) c.imports_by_index.ensures.clean
+
+pub returns-clause-imports : goal.returns-clause-imports
+returns-clause-imports c =
+    IfOk-weaker c.imports_by_index.result _ _ (λ _ all. all (map (λ p. p.now) c.args.paths.now) c.in_ok-index.ensures) c.imports_by_index.ensures.imports
 
 pub returns-clause-fault : goal.returns-clause-fault
 returns-clause-fault c =
-    let paths = map (λ p. p.now) c.args.paths.now in
-    let asked = all_asked 0 (map (λ v. v.items) c.args.files.now) in
-    let same = subst (λ z. all_imports 0 (map (λ v. v.items) z) ≡ imports_of paths asked) (sym c.deref.ensures.value) (c.in_ok-imports.ensures.imports paths c.in_ok-index.ensures) in
-    let h = first_is paths asked (option_map fault_of c.in_ok-path_fault.path_fault) (option_map fault_of c.in_ok-cycle_fault.cycle_fault) (option_map fault_of c.first.result)
-    (c.in_ok-path_fault.ensures paths c.in_ok-index.ensures) (c.in_ok-cycle_fault.ensures paths c.in_ok-index.ensures same) c.first.ensures in
-    subst (λ o. IsFirst (ImportFault paths asked) (option_map fault_of o)) c.in-Some.is h
-
-pub returns-in-None-clause-within : goal.returns-in-None-clause-within
-returns-in-None-clause-within c =
-    let paths = map (λ p. p.now) c.args.paths.now in
-    let asked = all_asked 0 (map (λ v. v.items) c.args.files.now) in
-    resolved_within (λ v. v.items) c.in_ok-imports.imports.items paths asked (length c.args.files.now) (length-map c.args.paths.now (λ p. p.now) ∙ sym c.requires.paired) (c.in_ok-imports.ensures.imports paths c.in_ok-index.ensures)
+    IfErr-weaker c.imports_by_index.result _ _ (λ _ all. all (map (λ p. p.now) c.args.paths.now) c.in_ok-index.ensures) c.imports_by_index.ensures.fault
