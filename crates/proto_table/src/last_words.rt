@@ -14,15 +14,22 @@ use proto_files::Words;
 use proto_listing::listing::{LastWord, Listed};
 use std::alloc::Global;
 
+/// A text of its own.
+fn copied(alloc: Global, text: &str) -> Result<String, NoMemory>
+    ensures { IfOk result (λ word. string_bytes word ≡ text.now) }
+{
+    Ok(String::from_str(alloc, text)?)
+}
+
 /// The last word of a declaration's name.
 fn last_word(alloc: Global, words: &Words, entry: &Listed) -> Result<String, NoMemory>
     ensures { IfOk result (λ word. string_bytes word ≡ last_word (word_at words.now) entry.now) }
 {
     match entry.word {
-        LastWord::Text => Ok(String::from_str(alloc, words.get(entry.token))?),
+        LastWord::Text => copied(alloc, words.get(entry.token)),
         LastWord::EntryName => entry_name(alloc, words.get(entry.token)),
-        LastWord::Key => Ok(String::from_str(alloc, "key")?),
-        LastWord::Value => Ok(String::from_str(alloc, "value")?),
+        LastWord::Key => copied(alloc, "key"),
+        LastWord::Value => copied(alloc, "value"),
     }
 }
 

@@ -283,11 +283,10 @@ impl Table {
 fn full_name(alloc: Global, above: &str, word: &str) -> Result<String, NoMemory>
     ensures { IfOk result (λ name. string_bytes name ≡ under above.now word.now) }
 {
-    if above.is_empty() {
-        return Ok(String::from_str(alloc, word)?);
-    }
     let mut name = String::from_str(alloc, above)?;
-    name.push_str(".")?;
+    if !name.is_empty() {
+        name.push_str(".")?;
+    }
     name.push_str(word)?;
     Ok(name)
 }
