@@ -37,7 +37,10 @@ fn add_first_value(
     scope: &str,
     items: &[EnumItem],
 ) -> Result<(), NoMemory>
-    ensures { OnOk result (map found_of found.new.items ≡ map found_of found.old.items ++ found_by rules.now.chosen (reading_of reading.now) rule.EnumFirstValueZero (enum_first_value_zero (reading_of reading.now) scope.now (trees enum_item_tree items.now))) }
+    ensures { OnOk result (map found_of found.new.items ≡ map found_of found.old.items
+        ++ found_by rules.now.chosen (reading_of reading.now) rule.EnumFirstValueZero
+        (enum_first_value_zero (reading_of reading.now) scope.now
+        (trees enum_item_tree items.now))) }
 {
     if !rules.has(Rule::EnumFirstValueZero) {
         return Ok(());
@@ -92,7 +95,10 @@ fn add_zero_suffixes(
     scope: &str,
     items: &[EnumItem],
 ) -> Result<(), NoMemory>
-    ensures { OnOk result (map found_of found.new.items ≡ map found_of found.old.items ++ found_by rules.now.chosen (reading_of reading.now) rule.EnumZeroValueSuffix (enum_zero_value_suffix (reading_of reading.now) scope.now (trees enum_item_tree items.now))) }
+    ensures { OnOk result (map found_of found.new.items ≡ map found_of found.old.items
+        ++ found_by rules.now.chosen (reading_of reading.now) rule.EnumZeroValueSuffix
+        (enum_zero_value_suffix (reading_of reading.now) scope.now
+        (trees enum_item_tree items.now))) }
 {
     if !rules.has(Rule::EnumZeroValueSuffix) {
         return Ok(());
@@ -113,7 +119,9 @@ fn add_enum_name(
     scope: &str,
     name: u32,
 ) -> Result<(), NoMemory>
-    ensures { OnOk result (map found_of found.new.items ≡ map found_of found.old.items ++ found_by rules.now.chosen (reading_of reading.now) rule.EnumPascalCase (enum_pascal_case (reading_of reading.now) scope.now name)) }
+    ensures { OnOk result (map found_of found.new.items ≡ map found_of found.old.items
+        ++ found_by rules.now.chosen (reading_of reading.now) rule.EnumPascalCase
+        (enum_pascal_case (reading_of reading.now) scope.now name)) }
 {
     let rule = Rule::EnumPascalCase;
     if !rules.has(rule) {
@@ -130,7 +138,10 @@ fn add_value_name(
     scope: &str,
     item: &EnumItem,
 ) -> Result<(), NoMemory>
-    ensures { OnOk result (map found_of found.new.items ≡ map found_of found.old.items ++ map (found_at (reading_of reading.now) rule.EnumValueUpperSnakeCase) (flat_map (λ v. unless_word (reading_of reading.now) is_upper_snake scope.now v.name) (values_in (enum_item_tree item.now)))) }
+    ensures { OnOk result (map found_of found.new.items ≡ map found_of found.old.items ++ map
+        (found_at (reading_of reading.now) rule.EnumValueUpperSnakeCase)
+        (flat_map (λ v. unless_word (reading_of reading.now) is_upper_snake scope.now v.name)
+        (values_in (enum_item_tree item.now)))) }
 {
     match item {
         EnumItem::Value(value) => {
@@ -150,7 +161,10 @@ fn add_value_names(
     scope: &str,
     items: &[EnumItem],
 ) -> Result<(), NoMemory>
-    ensures { OnOk result (map found_of found.new.items ≡ map found_of found.old.items ++ found_by rules.now.chosen (reading_of reading.now) rule.EnumValueUpperSnakeCase (enum_value_upper_snake_case (reading_of reading.now) scope.now (trees enum_item_tree items.now))) }
+    ensures { OnOk result (map found_of found.new.items ≡ map found_of found.old.items
+        ++ found_by rules.now.chosen (reading_of reading.now) rule.EnumValueUpperSnakeCase
+        (enum_value_upper_snake_case (reading_of reading.now) scope.now
+        (trees enum_item_tree items.now))) }
 {
     if !rules.has(Rule::EnumValueUpperSnakeCase) {
         return Ok(());
@@ -184,7 +198,11 @@ fn add_unprefixed(
     prefix: &str,
     item: &EnumItem,
 ) -> Result<(), NoMemory>
-    ensures { OnOk result (map found_of found.new.items ≡ map found_of found.old.items ++ map (found_at (reading_of reading.now) rule.EnumValuePrefix) (flat_map (λ v. unless_word (reading_of reading.now) (λ w. starts_with nat_eq w prefix.now) scope.now v.name) (values_in (enum_item_tree item.now)))) }
+    ensures { OnOk result (map found_of found.new.items ≡ map found_of found.old.items ++ map
+        (found_at (reading_of reading.now) rule.EnumValuePrefix)
+        (flat_map (λ v. unless_word (reading_of reading.now)
+        (λ w. starts_with nat_eq w prefix.now) scope.now v.name)
+        (values_in (enum_item_tree item.now)))) }
 {
     match item {
         EnumItem::Value(value) => {
@@ -204,7 +222,11 @@ fn add_each_unprefixed(
     prefix: &str,
     items: &[EnumItem],
 ) -> Result<(), NoMemory>
-    ensures { OnOk result (map found_of found.new.items ≡ map found_of found.old.items ++ map (found_at (reading_of reading.now) rule.EnumValuePrefix) (flat_map (λ v. unless_word (reading_of reading.now) (λ w. starts_with nat_eq w prefix.now) scope.now v.name) (values_in (trees enum_item_tree items.now)))) }
+    ensures { OnOk result (map found_of found.new.items ≡ map found_of found.old.items ++ map
+        (found_at (reading_of reading.now) rule.EnumValuePrefix)
+        (flat_map (λ v. unless_word (reading_of reading.now)
+        (λ w. starts_with nat_eq w prefix.now) scope.now v.name)
+        (values_in (trees enum_item_tree items.now)))) }
 {
     for item in items {
         add_unprefixed(alloc, found, reading, scope, prefix, item)?;
@@ -220,7 +242,10 @@ fn add_prefixes(
     scope: &str,
     names: &Enum,
 ) -> Result<(), NoMemory>
-    ensures { OnOk result (map found_of found.new.items ≡ map found_of found.old.items ++ found_by rules.now.chosen (reading_of reading.now) rule.EnumValuePrefix (enum_value_prefix (reading_of reading.now) scope.now names.now.name (trees enum_item_tree names.now.members.items))) }
+    ensures { OnOk result (map found_of found.new.items ≡ map found_of found.old.items
+        ++ found_by rules.now.chosen (reading_of reading.now) rule.EnumValuePrefix
+        (enum_value_prefix (reading_of reading.now) scope.now names.now.name
+        (trees enum_item_tree names.now.members.items))) }
 {
     if !rules.has(Rule::EnumValuePrefix) {
         return Ok(());
@@ -254,7 +279,10 @@ fn add_alias(
     full_name: &str,
     item: &EnumItem,
 ) -> Result<(), NoMemory>
-    ensures { OnOk result (map found_of found.new.items ≡ map found_of found.old.items ++ map (found_at (reading_of reading.now) rule.EnumNoAllowAlias) (flat_map (allowed_alias (reading_of reading.now) full_name.now) (statements (enum_item_tree item.now)))) }
+    ensures { OnOk result (map found_of found.new.items ≡ map found_of found.old.items ++ map
+        (found_at (reading_of reading.now) rule.EnumNoAllowAlias)
+        (flat_map (allowed_alias (reading_of reading.now) full_name.now)
+        (statements (enum_item_tree item.now)))) }
 {
     match item {
         EnumItem::Option(option) => {
@@ -281,7 +309,10 @@ fn add_each_alias(
     full_name: &str,
     items: &[EnumItem],
 ) -> Result<(), NoMemory>
-    ensures { OnOk result (map found_of found.new.items ≡ map found_of found.old.items ++ map (found_at (reading_of reading.now) rule.EnumNoAllowAlias) (flat_map (allowed_alias (reading_of reading.now) full_name.now) (statements (trees enum_item_tree items.now)))) }
+    ensures { OnOk result (map found_of found.new.items ≡ map found_of found.old.items ++ map
+        (found_at (reading_of reading.now) rule.EnumNoAllowAlias)
+        (flat_map (allowed_alias (reading_of reading.now) full_name.now)
+        (statements (trees enum_item_tree items.now)))) }
 {
     for item in items {
         add_alias(alloc, found, reading, full_name, item)?;
@@ -297,7 +328,10 @@ fn add_aliases(
     scope: &str,
     names: &Enum,
 ) -> Result<(), NoMemory>
-    ensures { OnOk result (map found_of found.new.items ≡ map found_of found.old.items ++ found_by rules.now.chosen (reading_of reading.now) rule.EnumNoAllowAlias (enum_no_allow_alias (reading_of reading.now) scope.now names.now.name (trees enum_item_tree names.now.members.items))) }
+    ensures { OnOk result (map found_of found.new.items ≡ map found_of found.old.items
+        ++ found_by rules.now.chosen (reading_of reading.now) rule.EnumNoAllowAlias
+        (enum_no_allow_alias (reading_of reading.now) scope.now names.now.name
+        (trees enum_item_tree names.now.members.items))) }
 {
     if !rules.has(Rule::EnumNoAllowAlias) {
         return Ok(());
@@ -317,7 +351,9 @@ pub(crate) fn add_enum(
     scope: &str,
     names: &Enum,
 ) -> Result<(), NoMemory>
-    ensures { OnOk result (map found_of found.new.items ≡ map found_of found.old.items ++ enum_finds rules.now.chosen (reading_of reading.now) scope.now names.now.name (trees enum_item_tree names.now.members.items)) }
+    ensures { OnOk result (map found_of found.new.items ≡ map found_of found.old.items
+        ++ enum_finds rules.now.chosen (reading_of reading.now) scope.now names.now.name
+        (trees enum_item_tree names.now.members.items)) }
 {
     let items = names.members.as_slice();
     add_first_value(alloc, found, rules, reading, scope, items)?;

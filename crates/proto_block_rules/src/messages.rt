@@ -25,7 +25,9 @@ fn add_message_name(
     scope: &str,
     name: u32,
 ) -> Result<(), NoMemory>
-    ensures { OnOk result (map found_of found.new.items ≡ map found_of found.old.items ++ found_by rules.now.chosen (reading_of reading.now) rule.MessagePascalCase (message_pascal_case (reading_of reading.now) scope.now name)) }
+    ensures { OnOk result (map found_of found.new.items ≡ map found_of found.old.items
+        ++ found_by rules.now.chosen (reading_of reading.now) rule.MessagePascalCase
+        (message_pascal_case (reading_of reading.now) scope.now name)) }
 {
     let rule = Rule::MessagePascalCase;
     if !rules.has(rule) {
@@ -43,7 +45,10 @@ fn add_each_field(
     message: &str,
     fields: &[FieldAt],
 ) -> Result<(), NoMemory>
-    ensures { OnOk result (map found_of found.new.items ≡ map found_of found.old.items ++ map (found_at (reading_of reading.now) rule.FieldLowerSnakeCase) (flat_map (λ f. unless_word (reading_of reading.now) is_lower_snake message.now f.name) (map field_of fields.now))) }
+    ensures { OnOk result (map found_of found.new.items ≡ map found_of found.old.items ++ map
+        (found_at (reading_of reading.now) rule.FieldLowerSnakeCase)
+        (flat_map (λ f. unless_word (reading_of reading.now) is_lower_snake message.now f.name)
+        (map field_of fields.now))) }
 {
     for field in fields {
         let passes = is_lower_snake(reading.text(field.name));
@@ -68,7 +73,10 @@ fn add_field_names(
     scope: &str,
     message: &Message,
 ) -> Result<(), NoMemory>
-    ensures { OnOk result (map found_of found.new.items ≡ map found_of found.old.items ++ found_by rules.now.chosen (reading_of reading.now) rule.FieldLowerSnakeCase (field_lower_snake_case (reading_of reading.now) scope.now message.now.name (trees member_tree message.now.members.items))) }
+    ensures { OnOk result (map found_of found.new.items ≡ map found_of found.old.items
+        ++ found_by rules.now.chosen (reading_of reading.now) rule.FieldLowerSnakeCase
+        (field_lower_snake_case (reading_of reading.now) scope.now message.now.name
+        (trees member_tree message.now.members.items))) }
 {
     if !rules.has(Rule::FieldLowerSnakeCase) {
         return Ok(());
@@ -87,7 +95,9 @@ pub(crate) fn add_message(
     scope: &str,
     message: &Message,
 ) -> Result<(), NoMemory>
-    ensures { OnOk result (map found_of found.new.items ≡ map found_of found.old.items ++ message_finds rules.now.chosen (reading_of reading.now) scope.now message.now.name (trees member_tree message.now.members.items)) }
+    ensures { OnOk result (map found_of found.new.items ≡ map found_of found.old.items
+        ++ message_finds rules.now.chosen (reading_of reading.now) scope.now message.now.name
+        (trees member_tree message.now.members.items)) }
 {
     add_message_name(alloc, found, rules, reading, scope, message.name)?;
     add_field_names(alloc, found, rules, reading, scope, message)
@@ -102,7 +112,8 @@ pub(crate) fn add_oneof(
     scope: &str,
     oneof: &Oneof,
 ) -> Result<(), NoMemory>
-    ensures { OnOk result (map found_of found.new.items ≡ map found_of found.old.items ++ oneof_finds rules.now.chosen (reading_of reading.now) scope.now oneof.now.name) }
+    ensures { OnOk result (map found_of found.new.items ≡ map found_of found.old.items
+        ++ oneof_finds rules.now.chosen (reading_of reading.now) scope.now oneof.now.name) }
 {
     let rule = Rule::OneofLowerSnakeCase;
     if !rules.has(rule) {

@@ -21,7 +21,8 @@ fn add_item_messages<'a>(
     reading: &Reading<'a>,
     item: &Item,
 ) -> Result<(), NoMemory>
-    ensures { OnOk result (map (λ s. s.now) all.new.items ≡ map (λ s. s.now) all.old.items ++ outer_messages (reading_of reading.now) (item_tree item.now)) }
+    ensures { OnOk result (map (λ s. s.now) all.new.items ≡ map (λ s. s.now) all.old.items
+        ++ outer_messages (reading_of reading.now) (item_tree item.now)) }
 {
     match item {
         Item::Service(service) => add_messages(all, reading, service),
@@ -34,7 +35,8 @@ fn add_file_messages<'a>(
     reading: &Reading<'a>,
     file: &File,
 ) -> Result<(), NoMemory>
-    ensures { OnOk result (map (λ s. s.now) all.new.items ≡ map (λ s. s.now) all.old.items ++ outer_messages (reading_of reading.now) (tree_of_file file.now)) }
+    ensures { OnOk result (map (λ s. s.now) all.new.items ≡ map (λ s. s.now) all.old.items
+        ++ outer_messages (reading_of reading.now) (tree_of_file file.now)) }
 {
     for item in &file.items {
         add_item_messages(all, reading, item)?;
@@ -50,7 +52,8 @@ pub fn all_messages<'a>(
     link: &'a Link,
 ) -> Result<Vec<&'a str>, NoMemory>
     requires { IsLinkOf files.now link.now }
-    ensures { IfOk result (λ all. (reads : List ReadOf) → AreRead files.now reads → map (λ s. s.now) all.items ≡ all_messages files.now reads) }
+    ensures { IfOk result (λ all. (reads : List ReadOf)
+        → AreRead files.now reads → map (λ s. s.now) all.items ≡ all_messages files.now reads) }
 {
     let mut all = Vec::new(alloc);
     for file in 0..files.len() {

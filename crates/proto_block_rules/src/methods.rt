@@ -38,7 +38,9 @@ fn add_method_name(
     service: &str,
     method: &Signature,
 ) -> Result<(), NoMemory>
-    ensures { OnOk result (map found_of found.new.items ≡ map found_of found.old.items ++ found_by rules.now.chosen (reading_of reading.now) rule.RpcPascalCase (rpc_pascal_case (reading_of reading.now) service.now method.now)) }
+    ensures { OnOk result (map found_of found.new.items ≡ map found_of found.old.items
+        ++ found_by rules.now.chosen (reading_of reading.now) rule.RpcPascalCase
+        (rpc_pascal_case (reading_of reading.now) service.now method.now)) }
 {
     let rule = Rule::RpcPascalCase;
     if !rules.has(rule) {
@@ -56,7 +58,9 @@ fn add_client_stream(
     service: &str,
     method: &Signature,
 ) -> Result<(), NoMemory>
-    ensures { OnOk result (map found_of found.new.items ≡ map found_of found.old.items ++ found_by rules.now.chosen (reading_of reading.now) rule.RpcNoClientStreaming (rpc_no_client_streaming (reading_of reading.now) service.now method.now)) }
+    ensures { OnOk result (map found_of found.new.items ≡ map found_of found.old.items
+        ++ found_by rules.now.chosen (reading_of reading.now) rule.RpcNoClientStreaming
+        (rpc_no_client_streaming (reading_of reading.now) service.now method.now)) }
 {
     let rule = Rule::RpcNoClientStreaming;
     if !rules.has(rule) {
@@ -74,7 +78,9 @@ fn add_server_stream(
     service: &str,
     method: &Signature,
 ) -> Result<(), NoMemory>
-    ensures { OnOk result (map found_of found.new.items ≡ map found_of found.old.items ++ found_by rules.now.chosen (reading_of reading.now) rule.RpcNoServerStreaming (rpc_no_server_streaming (reading_of reading.now) service.now method.now)) }
+    ensures { OnOk result (map found_of found.new.items ≡ map found_of found.old.items
+        ++ found_by rules.now.chosen (reading_of reading.now) rule.RpcNoServerStreaming
+        (rpc_no_server_streaming (reading_of reading.now) service.now method.now)) }
 {
     let rule = Rule::RpcNoServerStreaming;
     if !rules.has(rule) {
@@ -124,7 +130,10 @@ fn add_request_name(
     service: &ServiceName,
     method: &Signature,
 ) -> Result<(), NoMemory>
-    ensures { OnOk result (map found_of found.new.items ≡ map found_of found.old.items ++ found_by rules.now.chosen (reading_of reading.now) rule.RpcRequestStandardName (rpc_request_standard_name (reading_of reading.now) service.now.full.now service.now.token method.now)) }
+    ensures { OnOk result (map found_of found.new.items ≡ map found_of found.old.items
+        ++ found_by rules.now.chosen (reading_of reading.now) rule.RpcRequestStandardName
+        (rpc_request_standard_name
+        (reading_of reading.now) service.now.full.now service.now.token method.now)) }
 {
     if !rules.has(Rule::RpcRequestStandardName) {
         return Ok(());
@@ -151,7 +160,10 @@ fn add_response_name(
     service: &ServiceName,
     method: &Signature,
 ) -> Result<(), NoMemory>
-    ensures { OnOk result (map found_of found.new.items ≡ map found_of found.old.items ++ found_by rules.now.chosen (reading_of reading.now) rule.RpcResponseStandardName (rpc_response_standard_name (reading_of reading.now) service.now.full.now service.now.token method.now)) }
+    ensures { OnOk result (map found_of found.new.items ≡ map found_of found.old.items
+        ++ found_by rules.now.chosen (reading_of reading.now) rule.RpcResponseStandardName
+        (rpc_response_standard_name
+        (reading_of reading.now) service.now.full.now service.now.token method.now)) }
 {
     if !rules.has(Rule::RpcResponseStandardName) {
         return Ok(());
@@ -181,7 +193,10 @@ fn add_shared(
     service: &str,
     method: &Signature,
 ) -> Result<(), NoMemory>
-    ensures { OnOk result (map found_of found.new.items ≡ map found_of found.old.items ++ found_by rules.now.chosen (reading_of reading.now) rule.RpcRequestResponseUnique (rpc_request_response_unique (reading_of reading.now) messages.now service.now method.now)) }
+    ensures { OnOk result (map found_of found.new.items ≡ map found_of found.old.items
+        ++ found_by rules.now.chosen (reading_of reading.now) rule.RpcRequestResponseUnique
+        (rpc_request_response_unique
+        (reading_of reading.now) messages.now service.now method.now)) }
 {
     let rule = Rule::RpcRequestResponseUnique;
     if !rules.has(rule) {
@@ -205,7 +220,9 @@ pub(crate) fn add_method(
     service: &ServiceName,
     method: &Signature,
 ) -> Result<(), NoMemory>
-    ensures { OnOk result (map found_of found.new.items ≡ map found_of found.old.items ++ method_finds rules.now.chosen (reading_of reading.now) messages.now service.now.full.now service.now.token method.now) }
+    ensures { OnOk result (map found_of found.new.items ≡ map found_of found.old.items
+        ++ method_finds rules.now.chosen
+        (reading_of reading.now) messages.now service.now.full.now service.now.token method.now) }
 {
     add_client_stream(alloc, found, rules, reading, service.full, method)?;
     add_server_stream(alloc, found, rules, reading, service.full, method)?;

@@ -26,7 +26,9 @@ fn add_service_name(
     scope: &str,
     name: u32,
 ) -> Result<(), NoMemory>
-    ensures { OnOk result (map found_of found.new.items ≡ map found_of found.old.items ++ found_by rules.now.chosen (reading_of reading.now) rule.ServicePascalCase (service_pascal_case (reading_of reading.now) scope.now name)) }
+    ensures { OnOk result (map found_of found.new.items ≡ map found_of found.old.items
+        ++ found_by rules.now.chosen (reading_of reading.now) rule.ServicePascalCase
+        (service_pascal_case (reading_of reading.now) scope.now name)) }
 {
     let rule = Rule::ServicePascalCase;
     if !rules.has(rule) {
@@ -50,7 +52,9 @@ fn add_service_suffix(
     scope: &str,
     name: u32,
 ) -> Result<(), NoMemory>
-    ensures { OnOk result (map found_of found.new.items ≡ map found_of found.old.items ++ found_by rules.now.chosen (reading_of reading.now) rule.ServiceSuffix (service_suffix (reading_of reading.now) scope.now name)) }
+    ensures { OnOk result (map found_of found.new.items ≡ map found_of found.old.items
+        ++ found_by rules.now.chosen (reading_of reading.now) rule.ServiceSuffix
+        (service_suffix (reading_of reading.now) scope.now name)) }
 {
     let rule = Rule::ServiceSuffix;
     if !rules.has(rule) {
@@ -70,7 +74,9 @@ fn add_item(
     service: &ServiceName,
     item: &ServiceItem,
 ) -> Result<(), NoMemory>
-    ensures { OnOk result (map found_of found.new.items ≡ map found_of found.old.items ++ flat_map (method_finds rules.now.chosen (reading_of reading.now) messages.now service.now.full.now service.now.token) (signatures_in (service_item_tree item.now))) }
+    ensures { OnOk result (map found_of found.new.items ≡ map found_of found.old.items ++ flat_map
+        (method_finds rules.now.chosen (reading_of reading.now) messages.now service.now.full.now
+        service.now.token) (signatures_in (service_item_tree item.now))) }
 {
     match item {
         ServiceItem::Method(method) => {
@@ -97,7 +103,9 @@ fn add_items(
     service: &ServiceName,
     items: &[ServiceItem],
 ) -> Result<(), NoMemory>
-    ensures { OnOk result (map found_of found.new.items ≡ map found_of found.old.items ++ flat_map (method_finds rules.now.chosen (reading_of reading.now) messages.now service.now.full.now service.now.token) (signatures_in (trees service_item_tree items.now))) }
+    ensures { OnOk result (map found_of found.new.items ≡ map found_of found.old.items ++ flat_map
+        (method_finds rules.now.chosen (reading_of reading.now) messages.now service.now.full.now
+        service.now.token) (signatures_in (trees service_item_tree items.now))) }
 {
     for item in items {
         add_item(alloc, found, rules, reading, messages, service, item)?;
@@ -114,7 +122,9 @@ fn add_methods(
     scope: &str,
     service: &Service,
 ) -> Result<(), NoMemory>
-    ensures { OnOk result (map found_of found.new.items ≡ map found_of found.old.items ++ methods_finds rules.now.chosen (reading_of reading.now) messages.now scope.now service.now.name (trees service_item_tree service.now.members.items)) }
+    ensures { OnOk result (map found_of found.new.items ≡ map found_of found.old.items
+        ++ methods_finds rules.now.chosen (reading_of reading.now) messages.now scope.now
+        service.now.name (trees service_item_tree service.now.members.items)) }
 {
     let full = below(alloc, scope, reading.text(service.name))?;
     let name = ServiceName {
@@ -143,7 +153,10 @@ pub(crate) fn add_service(
     scope: &str,
     service: &Service,
 ) -> Result<(), NoMemory>
-    ensures { OnOk result (map found_of found.new.items ≡ map found_of found.old.items ++ (service_finds rules.now.chosen (reading_of reading.now) scope.now service.now.name ++ methods_finds rules.now.chosen (reading_of reading.now) messages.now scope.now service.now.name (trees service_item_tree service.now.members.items))) }
+    ensures { OnOk result (map found_of found.new.items ≡ map found_of found.old.items ++
+        (service_finds rules.now.chosen (reading_of reading.now) scope.now service.now.name
+        ++ methods_finds rules.now.chosen (reading_of reading.now) messages.now scope.now
+        service.now.name (trees service_item_tree service.now.members.items))) }
 {
     add_service_name(alloc, found, rules, reading, scope, service.name)?;
     add_service_suffix(alloc, found, rules, reading, scope, service.name)?;

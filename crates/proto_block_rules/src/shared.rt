@@ -71,7 +71,9 @@ fn add_of_method<'a>(
     reading: &Reading<'a>,
     method: &Signature,
 ) -> Result<(), NoMemory>
-    ensures { OnOk result (map (λ s. s.now) all.new.items ≡ map (λ s. s.now) all.old.items ++ (type_meant (reading_of reading.now) method.now.input ∷ type_meant (reading_of reading.now) method.now.output ∷ [])) }
+    ensures { OnOk result (map (λ s. s.now) all.new.items ≡ map (λ s. s.now) all.old.items ++
+        (type_meant (reading_of reading.now) method.now.input
+        ∷ type_meant (reading_of reading.now) method.now.output ∷ [])) }
 {
     all.push(reading.meant(&method.input.reference))?;
     all.push(reading.meant(&method.output.reference))?;
@@ -83,7 +85,8 @@ fn add_of_item<'a>(
     reading: &Reading<'a>,
     item: &ServiceItem,
 ) -> Result<(), NoMemory>
-    ensures { OnOk result (map (λ s. s.now) all.new.items ≡ map (λ s. s.now) all.old.items ++ messages_of (reading_of reading.now) (signatures_in (service_item_tree item.now))) }
+    ensures { OnOk result (map (λ s. s.now) all.new.items ≡ map (λ s. s.now) all.old.items
+        ++ messages_of (reading_of reading.now) (signatures_in (service_item_tree item.now))) }
 {
     match item {
         ServiceItem::Method(method) => add_of_method(all, reading, &method.signature),
@@ -97,7 +100,9 @@ pub(crate) fn add_messages<'a>(
     reading: &Reading<'a>,
     service: &Service,
 ) -> Result<(), NoMemory>
-    ensures { OnOk result (map (λ s. s.now) all.new.items ≡ map (λ s. s.now) all.old.items ++ messages_of (reading_of reading.now) (signatures_in (trees service_item_tree service.now.members.items))) }
+    ensures { OnOk result (map (λ s. s.now) all.new.items ≡ map (λ s. s.now) all.old.items
+        ++ messages_of (reading_of reading.now)
+        (signatures_in (trees service_item_tree service.now.members.items))) }
 {
     for item in &service.members {
         add_of_item(all, reading, item)?;

@@ -35,7 +35,8 @@ fn add_message_block(
     scope: &str,
     message: &Message,
 ) -> Result<(), NoMemory>
-    ensures { OnOk result (map found_of found.new.items ≡ map found_of found.old.items ++ walk_finds walk.now scope.now (message_tree message.now)) }
+    ensures { OnOk result (map found_of found.new.items ≡ map found_of found.old.items
+        ++ walk_finds walk.now scope.now (message_tree message.now)) }
 {
     add_message(alloc, found, walk.rules, walk.reading, scope, message)?;
     let full_name = below(alloc, scope, walk.reading.text(message.name))?;
@@ -50,7 +51,8 @@ fn add_members(
     scope: &str,
     members: &[Member],
 ) -> Result<(), NoMemory>
-    ensures { OnOk result (map found_of found.new.items ≡ map found_of found.old.items ++ walk_finds walk.now scope.now (trees member_tree members.now)) }
+    ensures { OnOk result (map found_of found.new.items ≡ map found_of found.old.items
+        ++ walk_finds walk.now scope.now (trees member_tree members.now)) }
 {
     for member in members {
         add_member(alloc, found, walk, scope, member)?;
@@ -67,7 +69,8 @@ fn add_member(
     scope: &str,
     member: &Member,
 ) -> Result<(), NoMemory>
-    ensures { OnOk result (map found_of found.new.items ≡ map found_of found.old.items ++ walk_finds walk.now scope.now (member_tree member.now)) }
+    ensures { OnOk result (map found_of found.new.items
+        ≡ map found_of found.old.items ++ walk_finds walk.now scope.now (member_tree member.now)) }
 {
     match member {
         Member::Message(message) => add_message_block(alloc, found, walk, scope, message),
@@ -85,7 +88,8 @@ fn add_item(
     scope: &str,
     item: &Item,
 ) -> Result<(), NoMemory>
-    ensures { OnOk result (map found_of found.new.items ≡ map found_of found.old.items ++ walk_finds walk.now scope.now (item_tree item.now)) }
+    ensures { OnOk result (map found_of found.new.items
+        ≡ map found_of found.old.items ++ walk_finds walk.now scope.now (item_tree item.now)) }
 {
     let Walk {
         rules,
@@ -111,8 +115,12 @@ pub fn add_blocks(
     scope: &str,
     file: &File,
 ) -> Result<(), NoMemory>
-    requires { scope.now ≡ joined (package_words (reading_of walk.now.reading.now) (tree_of_file file.now)) }
-    ensures { OnOk result (map found_of found.new.items ≡ map found_of found.old.items ++ blocks_finds walk.now.rules.now.chosen (reading_of walk.now.reading.now) walk.now.messages.now (file_blocks (reading_of walk.now.reading.now) (tree_of_file file.now))) }
+    requires { scope.now ≡ joined (package_words
+        (reading_of walk.now.reading.now) (tree_of_file file.now)) }
+    ensures { OnOk result (map found_of found.new.items ≡ map found_of found.old.items
+        ++ blocks_finds walk.now.rules.now.chosen
+        (reading_of walk.now.reading.now) walk.now.messages.now
+        (file_blocks (reading_of walk.now.reading.now) (tree_of_file file.now))) }
 {
     for item in &file.items {
         add_item(alloc, found, walk, scope, item)?;

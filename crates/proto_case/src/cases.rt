@@ -25,7 +25,8 @@ fn are_apart(bytes: &[u8]) -> bool
 
 // Lower-case letters, digits and `_` alone.
 fn has_lower_snake_bytes(bytes: &[u8]) -> bool
-    ensures { result ≡ list_all (λ b. is_ascii_lowercase b || is_ascii_digit b || b == 95) bytes.now }
+    ensures { result
+        ≡ list_all (λ b. is_ascii_lowercase b || is_ascii_digit b || b == 95) bytes.now }
 {
     bytes
         .iter()
@@ -47,7 +48,8 @@ pub fn is_lower_snake(name: &str) -> bool
 
 // Upper-case letters, digits and `_` alone.
 fn has_upper_snake_bytes(bytes: &[u8]) -> bool
-    ensures { result ≡ list_all (λ b. is_ascii_uppercase b || is_ascii_digit b || b == 95) bytes.now }
+    ensures { result
+        ≡ list_all (λ b. is_ascii_uppercase b || is_ascii_digit b || b == 95) bytes.now }
 {
     bytes
         .iter()

@@ -43,7 +43,8 @@ fn fault(alloc: Global, files: &Files, file: usize, flaw: Flaw) -> SchemaFault
 }
 
 fn least_flaw(alloc: Global, scene: &Scene, tree: &File) -> Result<Option<Flaw>, NoMemory>
-    ensures { IfOk result (λ flaw. IsLeast (Contains (file_flaws scene.now (tree_of_file tree.now))) flaw) }
+    ensures { IfOk result
+        (λ flaw. IsLeast (Contains (file_flaws scene.now (tree_of_file tree.now))) flaw) }
 {
     let found = file_flaws(alloc, scene, tree)?;
     Ok(least(&found))

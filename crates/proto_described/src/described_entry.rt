@@ -23,7 +23,8 @@ fn entry_field(
     kind: FieldType,
     type_name: Option<String>,
 ) -> Result<FieldDescriptor, NoMemory>
-    ensures { IfOk result (λ d. field_desc d ≡ entry_field word.now number kind (option_map string_bytes type_name)) }
+    ensures { IfOk result (λ d. field_desc d
+        ≡ entry_field word.now number kind (option_map string_bytes type_name)) }
 {
     Ok(FieldDescriptor {
         name: String::from_str(alloc, word)?,
@@ -48,7 +49,8 @@ fn entry_fields(
     scene: &Scene,
     field: &MapField,
 ) -> Result<Vec<FieldDescriptor>, NoMemory>
-    ensures { IfOk result (λ ds. map field_desc ds.items ≡ (entry_described scene.now field.now).field) }
+    ensures { IfOk result (λ ds. map field_desc ds.items
+        ≡ (entry_described scene.now field.now).field) }
 {
     let key_type = scalar_type(scene.text(field.key));
     let value_type = type_of(scene, &field.value);
@@ -64,7 +66,8 @@ pub(crate) fn entry_descriptor(
     scene: &Scene,
     field: &MapField,
 ) -> Result<MessageDescriptor, NoMemory>
-    ensures { IfOk result (λ d. message_tree d ≡ record { message = entry_described scene.now field.now; nested_type = NoMessages }) }
+    ensures { IfOk result (λ d. message_tree d
+        ≡ record { message = entry_described scene.now field.now; nested_type = NoMessages }) }
 {
     Ok(MessageDescriptor {
         name: entry_name(alloc, scene.text(field.name))?,

@@ -42,7 +42,8 @@ fn value_descriptors(
     scene: &Scene,
     values: &[&Value],
 ) -> Result<Vec<EnumValueDescriptor>, NoMemory>
-    ensures { IfOk result (λ ds. map enum_value_desc ds.items ≡ map (value_described scene.now) (map (λ v. v.now) values.now)) }
+    ensures { IfOk result (λ ds. map enum_value_desc ds.items
+        ≡ map (value_described scene.now) (map (λ v. v.now) values.now)) }
 {
     let mut descriptors = Vec::new(alloc);
     for value in values {
@@ -56,7 +57,8 @@ fn reserved_ranges(
     scene: &Scene,
     written: &[&Range<Signed>],
 ) -> Result<Vec<EnumReservedRange>, NoMemory>
-    ensures { IfOk result (λ found. found.items ≡ map (λ r. value_range (enum_range_of scene.now r)) (map (λ r. r.now) written.now)) }
+    ensures { IfOk result (λ found. found.items
+        ≡ map (λ r. value_range (enum_range_of scene.now r)) (map (λ r. r.now) written.now)) }
 {
     let ranges = value_ranges(alloc, scene, written)?;
     let mut found = Vec::new(alloc);
@@ -81,7 +83,8 @@ pub(crate) fn enum_descriptor(
     scene: &Scene,
     enumeration: &Enum,
 ) -> Result<EnumDescriptor, NoMemory>
-    ensures { IfOk result (λ d. enum_desc d ≡ enum_described scene.now enumeration.now.name (trees enum_item_tree enumeration.now.members.items)) }
+    ensures { IfOk result (λ d. enum_desc d ≡ enum_described scene.now enumeration.now.name
+        (trees enum_item_tree enumeration.now.members.items)) }
 {
     let items = &enumeration.members;
     let values = values(alloc, items)?;

@@ -51,7 +51,8 @@ fn field_type_name(
     full: &str,
     field: FieldAt,
 ) -> Result<Option<String>, NoMemory>
-    ensures { IfOk result (λ name. option_map string_bytes name ≡ field_type_name scene.now full.now (field_of field.entry)) }
+    ensures { IfOk result (λ name. option_map string_bytes name
+        ≡ field_type_name scene.now full.now (field_of field.entry)) }
 {
     if field.map_key.is_some() {
         let entry = entry_name(alloc, scene.text(field.name))?;
@@ -103,7 +104,8 @@ pub(crate) fn field_descriptor(
     full: &str,
     field: FieldAt,
 ) -> Result<FieldDescriptor, NoMemory>
-    ensures { IfOk result (λ d. field_desc d ≡ field_described scene.now full.now (field_of field.entry)) }
+    ensures { IfOk result (λ d. field_desc d
+        ≡ field_described scene.now full.now (field_of field.entry)) }
 {
     let options = options_between(alloc, field.settings)?;
     Ok(FieldDescriptor {

@@ -33,7 +33,8 @@ fn item_message(
     around: &str,
     item: &Item,
 ) -> Result<Option<MessageDescriptor>, NoMemory>
-    ensures { IfOk result (λ d. messages_desc (option_to_list d) ≡ messages_described scene.now around.now (item_tree item.now)) }
+    ensures { IfOk result (λ d. messages_desc
+        (option_to_list d) ≡ messages_described scene.now around.now (item_tree item.now)) }
 {
     match item {
         Item::Message(message) => { Ok(Some(message_descriptor(alloc, scene, around, message)?)) }
@@ -47,7 +48,8 @@ fn message_descriptors(
     around: &str,
     items: &[Item],
 ) -> Result<Vec<MessageDescriptor>, NoMemory>
-    ensures { IfOk result (λ ds. messages_desc ds.items ≡ messages_described scene.now around.now (trees item_tree items.now)) }
+    ensures { IfOk result (λ ds. messages_desc ds.items
+        ≡ messages_described scene.now around.now (trees item_tree items.now)) }
 {
     let mut descriptors = Vec::new(alloc);
     for item in items {
@@ -59,7 +61,8 @@ fn message_descriptors(
 }
 
 fn item_enum(alloc: Global, scene: &Scene, item: &Item) -> Result<Option<EnumDescriptor>, NoMemory>
-    ensures { IfOk result (λ d. map enum_desc (option_to_list d) ≡ enums_described scene.now (item_tree item.now)) }
+    ensures { IfOk result (λ d. map enum_desc
+        (option_to_list d) ≡ enums_described scene.now (item_tree item.now)) }
 {
     match item {
         Item::Enum(enumeration) => Ok(Some(enum_descriptor(alloc, scene, enumeration)?)),
@@ -73,7 +76,8 @@ fn enum_descriptors(
     scene: &Scene,
     items: &[Item],
 ) -> Result<Vec<EnumDescriptor>, NoMemory>
-    ensures { IfOk result (λ ds. map enum_desc ds.items ≡ enums_described scene.now (trees item_tree items.now)) }
+    ensures { IfOk result (λ ds. map enum_desc ds.items
+        ≡ enums_described scene.now (trees item_tree items.now)) }
 {
     let mut descriptors = Vec::new(alloc);
     for item in items {
@@ -89,7 +93,8 @@ fn item_service(
     scene: &Scene,
     item: &Item,
 ) -> Result<Option<ServiceDescriptor>, NoMemory>
-    ensures { IfOk result (λ d. map service_desc (option_to_list d) ≡ services_described scene.now (item_tree item.now)) }
+    ensures { IfOk result (λ d. map service_desc
+        (option_to_list d) ≡ services_described scene.now (item_tree item.now)) }
 {
     match item {
         Item::Service(service) => Ok(Some(service_descriptor(alloc, scene, service)?)),
@@ -103,7 +108,8 @@ fn service_descriptors(
     scene: &Scene,
     items: &[Item],
 ) -> Result<Vec<ServiceDescriptor>, NoMemory>
-    ensures { IfOk result (λ ds. map service_desc ds.items ≡ services_described scene.now (trees item_tree items.now)) }
+    ensures { IfOk result (λ ds. map service_desc ds.items
+        ≡ services_described scene.now (trees item_tree items.now)) }
 {
     let mut descriptors = Vec::new(alloc);
     for item in items {
@@ -126,7 +132,8 @@ fn joined_words(alloc: Global, scene: &Scene, first: u32, rest: &[u32]) -> Resul
 }
 
 fn package_name(alloc: Global, scene: &Scene, words: &[u32]) -> Result<Option<String>, NoMemory>
-    ensures { IfOk result (λ name. option_map string_bytes name ≡ package_named scene.now words.now) }
+    ensures { IfOk result (λ name. option_map string_bytes name
+        ≡ package_named scene.now words.now) }
 {
     match words {
         [] => Ok(None),
@@ -136,7 +143,8 @@ fn package_name(alloc: Global, scene: &Scene, words: &[u32]) -> Result<Option<St
 
 // What stands before the names of a package's symbols.
 fn prefix(alloc: Global, name: &Option<String>) -> Result<String, NoMemory>
-    ensures { IfOk result (λ s. string_bytes s ≡ package_prefix (option_map string_bytes name.now)) }
+    ensures { IfOk result (λ s. string_bytes s
+        ≡ package_prefix (option_map string_bytes name.now)) }
 {
     match name {
         Some(name) => absolute(alloc, name),
@@ -145,7 +153,8 @@ fn prefix(alloc: Global, name: &Option<String>) -> Result<String, NoMemory>
 }
 
 fn dependencies(alloc: Global, scene: &Scene, imports: &[Wanted]) -> Result<Vec<String>, NoMemory>
-    ensures { IfOk result (λ paths. map string_bytes paths.items ≡ map (λ w. value scene.now w.path) (map wanted_of imports.now)) }
+    ensures { IfOk result (λ paths. map string_bytes paths.items
+        ≡ map (λ w. value scene.now w.path) (map wanted_of imports.now)) }
 {
     let mut paths = Vec::new(alloc);
     for import in imports {
@@ -181,7 +190,8 @@ fn options_of_file(
     scene: &Scene,
     options: &[OptionAt],
 ) -> Result<FileOptions, NoMemory>
-    ensures { IfOk result (λ o. file_options_desc o ≡ file_options scene.now (map option_of options.now)) }
+    ensures { IfOk result (λ o. file_options_desc o
+        ≡ file_options scene.now (map option_of options.now)) }
 {
     Ok(FileOptions {
         java_package: text_option(alloc, scene, options, "java_package")?,
@@ -213,9 +223,12 @@ fn head(
     scene: &Scene,
     file: &File,
 ) -> Result<(Option<String>, Vec<String>, Vec<usize>), NoMemory>
-    ensures name { IfOk result (λ h. option_map string_bytes h.0 ≡ package_named scene.now (package_of (items_in (tree_of_file file.now)))) }
-    ensures paths { IfOk result (λ h. map string_bytes h.1.items ≡ map (λ w. value scene.now w.path) (imports_in (tree_of_file file.now))) }
-    ensures places { IfOk result (λ h. h.2.items ≡ public_places 0 (imports_in (tree_of_file file.now))) }
+    ensures name { IfOk result (λ h. option_map string_bytes h.0
+        ≡ package_named scene.now (package_of (items_in (tree_of_file file.now)))) }
+    ensures paths { IfOk result (λ h. map string_bytes h.1.items
+        ≡ map (λ w. value scene.now w.path) (imports_in (tree_of_file file.now))) }
+    ensures places { IfOk result (λ h. h.2.items
+        ≡ public_places 0 (imports_in (tree_of_file file.now))) }
 {
     let name = package_name(alloc, scene, &package(alloc, file)?)?;
     let imports = imports(alloc, file)?;
@@ -231,14 +244,16 @@ fn messages_of(
     name: &Option<String>,
     items: &[Item],
 ) -> Result<Vec<MessageDescriptor>, NoMemory>
-    ensures { IfOk result (λ ds. messages_desc ds.items ≡ messages_described scene.now (package_prefix (option_map string_bytes name.now)) (trees item_tree items.now)) }
+    ensures { IfOk result (λ ds. messages_desc ds.items ≡ messages_described scene.now
+        (package_prefix (option_map string_bytes name.now)) (trees item_tree items.now)) }
 {
     let prefix = prefix(alloc, name)?;
     message_descriptors(alloc, scene, &prefix, items)
 }
 
 fn written_options(alloc: Global, scene: &Scene, file: &File) -> Result<FileOptions, NoMemory>
-    ensures { IfOk result (λ o. file_options_desc o ≡ file_options scene.now (options_in (tree_of_file file.now))) }
+    ensures { IfOk result (λ o. file_options_desc o
+        ≡ file_options scene.now (options_in (tree_of_file file.now))) }
 {
     let options = file_options(alloc, file)?;
     options_of_file(alloc, scene, &options)
@@ -251,7 +266,8 @@ pub fn file_descriptor(
     path: &str,
     file: &File,
 ) -> Result<FileDescriptor, NoMemory>
-    ensures { IfOk result (λ d. file_desc d ≡ file_described scene.now path.now (tree_of_file file.now)) }
+    ensures { IfOk result (λ d. file_desc d ≡ file_described scene.now path.now
+        (tree_of_file file.now)) }
 {
     let items = file.items.as_slice();
     let (package, dependency, public_dependency) = head(alloc, scene, file)?;

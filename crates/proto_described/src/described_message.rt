@@ -33,7 +33,8 @@ pub(crate) fn message_descriptor(
     around: &str,
     message: &Message,
 ) -> Result<MessageDescriptor, NoMemory>
-    ensures { IfOk result (λ d. messages_desc (d ∷ []) ≡ messages_described scene.now around.now (written_message message.now)) }
+    ensures { IfOk result (λ d. messages_desc
+        (d ∷ []) ≡ messages_described scene.now around.now (written_message message.now)) }
 {
     let full = below(alloc, around, scene.text(message.name))?;
     let nested = nested_messages(alloc, scene, &full, &message.members)?;
@@ -47,7 +48,8 @@ fn nested_messages(
     full: &str,
     members: &[Member],
 ) -> Result<Vec<MessageDescriptor>, NoMemory>
-    ensures { IfOk result (λ ds. messages_desc ds.items ≡ messages_described scene.now full.now (trees member_tree members.now)) }
+    ensures { IfOk result (λ ds. messages_desc ds.items
+        ≡ messages_described scene.now full.now (trees member_tree members.now)) }
 {
     let mut nested = Vec::new(alloc);
     for member in members {
@@ -65,7 +67,8 @@ fn nested_message(
     full: &str,
     member: &Member,
 ) -> Result<Option<MessageDescriptor>, NoMemory>
-    ensures { IfOk result (λ d. messages_desc (option_to_list d) ≡ messages_described scene.now full.now (member_tree member.now)) }
+    ensures { IfOk result (λ d. messages_desc
+        (option_to_list d) ≡ messages_described scene.now full.now (member_tree member.now)) }
 {
     match member {
         Member::MapField(field) => Ok(Some(entry_descriptor(alloc, scene, field)?)),
@@ -83,7 +86,12 @@ fn message_around(
     members: &[Member],
     nested: Vec<MessageDescriptor>,
 ) -> Result<MessageDescriptor, NoMemory>
-    ensures { IfOk result (λ d. message_tree d ≡ record { message = message_described scene.now full.now name (trees member_tree members.now); nested_type = messages_desc nested.items }) }
+    ensures { IfOk result (λ d. message_tree d
+        ≡ record {
+          message = message_described scene.now full.now name
+              (trees member_tree members.now);
+          nested_type = messages_desc nested.items;
+        }) }
 {
     Ok(MessageDescriptor {
         name: String::from_str(alloc, scene.text(name))?,
@@ -104,7 +112,8 @@ fn field_descriptors(
     full: &str,
     members: &[Member],
 ) -> Result<Vec<FieldDescriptor>, NoMemory>
-    ensures { IfOk result (λ ds. map field_desc ds.items ≡ map (field_described scene.now full.now) (fields_in (trees member_tree members.now))) }
+    ensures { IfOk result (λ ds. map field_desc ds.items
+        ≡ map (field_described scene.now full.now) (fields_in (trees member_tree members.now))) }
 {
     let mut descriptors = Vec::new(alloc);
     let fields = fields_of(alloc, members)?;
@@ -119,7 +128,8 @@ fn member_enum(
     scene: &Scene,
     member: &Member,
 ) -> Result<Option<EnumDescriptor>, NoMemory>
-    ensures { IfOk result (λ d. map enum_desc (option_to_list d) ≡ enums_described scene.now (member_tree member.now)) }
+    ensures { IfOk result (λ d. map enum_desc
+        (option_to_list d) ≡ enums_described scene.now (member_tree member.now)) }
 {
     match member {
         Member::Enum(enumeration) => Ok(Some(enum_descriptor(alloc, scene, enumeration)?)),
@@ -133,7 +143,8 @@ fn enum_descriptors(
     scene: &Scene,
     members: &[Member],
 ) -> Result<Vec<EnumDescriptor>, NoMemory>
-    ensures { IfOk result (λ ds. map enum_desc ds.items ≡ enums_described scene.now (trees member_tree members.now)) }
+    ensures { IfOk result (λ ds. map enum_desc ds.items
+        ≡ enums_described scene.now (trees member_tree members.now)) }
 {
     let mut descriptors = Vec::new(alloc);
     for member in members {
@@ -149,7 +160,8 @@ fn member_oneof(
     scene: &Scene,
     member: &Member,
 ) -> Result<Option<OneofDescriptor>, NoMemory>
-    ensures { IfOk result (λ d. map oneof_desc (option_to_list d) ≡ oneof_names scene.now (member_tree member.now)) }
+    ensures { IfOk result (λ d. map oneof_desc
+        (option_to_list d) ≡ oneof_names scene.now (member_tree member.now)) }
 {
     match member {
         Member::Oneof(oneof) => Ok(Some(OneofDescriptor {
@@ -165,7 +177,8 @@ fn oneof_descriptors(
     scene: &Scene,
     members: &[Member],
 ) -> Result<Vec<OneofDescriptor>, NoMemory>
-    ensures { IfOk result (λ ds. map oneof_desc ds.items ≡ oneof_names scene.now (trees member_tree members.now)) }
+    ensures { IfOk result (λ ds. map oneof_desc ds.items
+        ≡ oneof_names scene.now (trees member_tree members.now)) }
 {
     let mut descriptors = Vec::new(alloc);
     for member in members {
@@ -181,7 +194,8 @@ fn number_ranges(
     scene: &Scene,
     written: &[&Range<u32>],
 ) -> Result<Vec<NumberRange>, NoMemory>
-    ensures { IfOk result (λ found. found.items ≡ map (λ r. number_range (range_of scene.now r)) (map (λ r. r.now) written.now)) }
+    ensures { IfOk result (λ found. found.items
+        ≡ map (λ r. number_range (range_of scene.now r)) (map (λ r. r.now) written.now)) }
 {
     let ranges = field_ranges(alloc, scene, written)?;
     let mut found = Vec::new(alloc);
@@ -196,7 +210,8 @@ fn extensions(
     scene: &Scene,
     members: &[Member],
 ) -> Result<Vec<NumberRange>, NoMemory>
-    ensures { IfOk result (λ found. found.items ≡ map (λ r. number_range (range_of scene.now r)) (flat_map extension_ranges (statements (trees member_tree members.now)))) }
+    ensures { IfOk result (λ found. found.items ≡ map (λ r. number_range (range_of scene.now r))
+        (flat_map extension_ranges (statements (trees member_tree members.now)))) }
 {
     number_ranges(alloc, scene, &extension_ranges(alloc, members)?)
 }
@@ -206,7 +221,8 @@ fn reserved_numbers(
     scene: &Scene,
     members: &[Member],
 ) -> Result<Vec<NumberRange>, NoMemory>
-    ensures { IfOk result (λ found. found.items ≡ map (λ r. number_range (range_of scene.now r)) (flat_map reserved_ranges (statements (trees member_tree members.now)))) }
+    ensures { IfOk result (λ found. found.items ≡ map (λ r. number_range (range_of scene.now r))
+        (flat_map reserved_ranges (statements (trees member_tree members.now)))) }
 {
     number_ranges(alloc, scene, &reserved_ranges(alloc, members)?)
 }
@@ -216,7 +232,8 @@ fn options_of_message(
     scene: &Scene,
     members: &[Member],
 ) -> Result<MessageOptions, NoMemory>
-    ensures { IfOk result (λ o. o ≡ message_options scene.now false (options_in (trees member_tree members.now))) }
+    ensures { IfOk result (λ o. o ≡ message_options scene.now false
+        (options_in (trees member_tree members.now))) }
 {
     let options = message_options(alloc, members)?;
     Ok(MessageOptions {

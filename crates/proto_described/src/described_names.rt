@@ -42,7 +42,8 @@ pub(crate) fn type_text(
 
 /// The values of string tokens.
 pub(crate) fn strings(alloc: Global, scene: &Scene, tokens: &[u32]) -> Result<Vec<String>, NoMemory>
-    ensures { IfOk result (λ strings. map string_bytes strings.items ≡ map (value scene.now) tokens.now) }
+    ensures { IfOk result (λ strings. map string_bytes strings.items
+        ≡ map (value scene.now) tokens.now) }
 {
     let mut strings = Vec::new(alloc);
     for token in tokens {

@@ -42,7 +42,8 @@ fn signature_descriptor(
     signature: &Signature,
     options: &[OptionAt],
 ) -> Result<MethodDescriptor, NoMemory>
-    ensures { IfOk result (λ d. method_desc d ≡ method_described scene.now signature.now (map option_of options.now)) }
+    ensures { IfOk result (λ d. method_desc d
+        ≡ method_described scene.now signature.now (map option_of options.now)) }
 {
     Ok(MethodDescriptor {
         name: String::from_str(alloc, scene.text(signature.name))?,
@@ -59,7 +60,8 @@ fn method_descriptor(
     scene: &Scene,
     method: &Method,
 ) -> Result<MethodDescriptor, NoMemory>
-    ensures { IfOk result (λ d. method_desc d ∷ [] ≡ methods_described scene.now (method_tree method.now)) }
+    ensures { IfOk result (λ d. method_desc d
+        ∷ [] ≡ methods_described scene.now (method_tree method.now)) }
 {
     match &method.end {
         MethodEnd::Semicolon(_) => signature_descriptor(alloc, scene, &method.signature, &[]),
@@ -75,7 +77,8 @@ fn item_method(
     scene: &Scene,
     item: &ServiceItem,
 ) -> Result<Option<MethodDescriptor>, NoMemory>
-    ensures { IfOk result (λ d. map method_desc (option_to_list d) ≡ methods_described scene.now (service_item_tree item.now)) }
+    ensures { IfOk result (λ d. map method_desc
+        (option_to_list d) ≡ methods_described scene.now (service_item_tree item.now)) }
 {
     match item {
         ServiceItem::Method(method) => Ok(Some(method_descriptor(alloc, scene, method)?)),
@@ -89,7 +92,8 @@ fn method_descriptors(
     scene: &Scene,
     items: &[ServiceItem],
 ) -> Result<Vec<MethodDescriptor>, NoMemory>
-    ensures { IfOk result (λ ds. map method_desc ds.items ≡ methods_described scene.now (trees service_item_tree items.now)) }
+    ensures { IfOk result (λ ds. map method_desc ds.items
+        ≡ methods_described scene.now (trees service_item_tree items.now)) }
 {
     let mut descriptors = Vec::new(alloc);
     for item in items {
@@ -106,7 +110,8 @@ pub(crate) fn service_descriptor(
     scene: &Scene,
     service: &Service,
 ) -> Result<ServiceDescriptor, NoMemory>
-    ensures { IfOk result (λ d. service_desc d ≡ service_described scene.now service.now.name (trees service_item_tree service.now.members.items)) }
+    ensures { IfOk result (λ d. service_desc d ≡ service_described scene.now service.now.name
+        (trees service_item_tree service.now.members.items)) }
 {
     let members = service.members.as_slice();
     let options = service_options(alloc, members)?;

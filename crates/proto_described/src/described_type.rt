@@ -54,7 +54,8 @@ pub(crate) fn meant_name(
     scene: &Scene,
     reference: &Reference,
 ) -> Result<Option<String>, NoMemory>
-    ensures { IfOk result (λ name. option_map string_bytes name ≡ option_map (λ m. absolute m.name) (meant_by scene.now reference.now)) }
+    ensures { IfOk result (λ name. option_map string_bytes name
+        ≡ option_map (λ m. absolute m.name) (meant_by scene.now reference.now)) }
 {
     match scene.meant(reference) {
         Some(meant) => Ok(Some(absolute(alloc, meant.name)?)),

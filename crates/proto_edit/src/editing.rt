@@ -20,7 +20,8 @@ use std::alloc::Global;
 impl Workspace {
     // What a rename changes, file by file, or the least case that refuses it.
     fn renamed(&self, alloc: Global, name: &str, to: &str) -> Result<Vec<Change>, Refusal>
-        ensures ok { IfOk result (λ cs. IsAdmissible self.now (rename_asked name.now to.now) × AreChanges self.now (rename_asked name.now to.now) (map change_of cs.items)) }
+        ensures ok { IfOk result (λ cs. IsAdmissible self.now (rename_asked name.now to.now)
+            × AreChanges self.now (rename_asked name.now to.now) (map change_of cs.items)) }
         ensures err { IfErr result (IsRefusal self.now (rename_asked name.now to.now)) }
     {
         rename(alloc, self.files(), self.link(), name, to)
@@ -28,7 +29,8 @@ impl Workspace {
 
     // What the deletion of a field changes, or the least case that refuses it. The numbers of fields that compile are small.
     fn deleted(&self, alloc: Global, name: &str) -> Result<Vec<Change>, Refusal>
-        ensures ok { IfOk result (λ cs. IsAdmissible self.now (delete_asked name.now) × AreChanges self.now (delete_asked name.now) (map change_of cs.items)) }
+        ensures ok { IfOk result (λ cs. IsAdmissible self.now (delete_asked name.now)
+            × AreChanges self.now (delete_asked name.now) (map change_of cs.items)) }
         ensures err { IfErr result (IsRefusal self.now (delete_asked name.now)) }
     {
         numbers_are_read();
@@ -37,7 +39,8 @@ impl Workspace {
 
     // What an added import changes, or the least case that refuses it.
     fn added(&self, alloc: Global, file: &str, path: &str) -> Result<Vec<Change>, Refusal>
-        ensures ok { IfOk result (λ cs. IsAdmissible self.now (add_asked file.now path.now) × AreChanges self.now (add_asked file.now path.now) (map change_of cs.items)) }
+        ensures ok { IfOk result (λ cs. IsAdmissible self.now (add_asked file.now path.now)
+            × AreChanges self.now (add_asked file.now path.now) (map change_of cs.items)) }
         ensures err { IfErr result (IsRefusal self.now (add_asked file.now path.now)) }
     {
         add_import(alloc, self.files(), self.link(), file, path)
@@ -45,7 +48,8 @@ impl Workspace {
 
     // What a dropped import changes, or the least case that refuses it.
     fn dropped(&self, alloc: Global, file: &str, path: &str) -> Result<Vec<Change>, Refusal>
-        ensures ok { IfOk result (λ cs. IsAdmissible self.now (drop_asked file.now path.now) × AreChanges self.now (drop_asked file.now path.now) (map change_of cs.items)) }
+        ensures ok { IfOk result (λ cs. IsAdmissible self.now (drop_asked file.now path.now)
+            × AreChanges self.now (drop_asked file.now path.now) (map change_of cs.items)) }
         ensures err { IfErr result (IsRefusal self.now (drop_asked file.now path.now)) }
     {
         drop_import(alloc, self.files(), self.link(), file, path)
@@ -53,7 +57,8 @@ impl Workspace {
 
     // What an edit changes, file by file, or the least case that refuses it.
     fn change(&self, alloc: Global, edit: &Edit) -> Result<Vec<Change>, Refusal>
-        ensures ok { IfOk result (λ cs. IsAdmissible self.now (asked edit.now) × AreChanges self.now (asked edit.now) (map change_of cs.items)) }
+        ensures ok { IfOk result (λ cs. IsAdmissible self.now
+            (asked edit.now) × AreChanges self.now (asked edit.now) (map change_of cs.items)) }
         ensures err { IfErr result (IsRefusal self.now (asked edit.now)) }
     {
         are_read(self.files());
@@ -117,7 +122,8 @@ impl Workspace {
     /// Edits this workspace and answers what was changed; a refused edit changes nothing.
     pub fn apply(&mut self, alloc: Global, edit: Edit) -> Result<Entry, Refusal>
         ensures ok { IfOk result (λ entry. IsMappedStep self.old (asked edit) entry self.new) }
-        ensures err { IfErr result (λ r. IsRefusal self.old (asked edit) r × (self.new ≡ self.old)) }
+        ensures err { IfErr result (λ r. IsRefusal self.old
+            (asked edit) r × (self.new ≡ self.old)) }
     {
         let (next, entry) = self.with_edit(alloc, &edit)?;
         *self = next;
@@ -127,7 +133,8 @@ impl Workspace {
     /// Goes back before an entry; a stale entry changes nothing.
     pub fn undo(&mut self, alloc: Global, entry: &Entry) -> Result<(), Refusal>
         ensures ok { IfOk result (λ _. IsUndo self.old entry.now self.new) }
-        ensures err { IfErr result (λ r. IsUndoRefusal self.old entry.now r × (self.new ≡ self.old)) }
+        ensures err { IfErr result (λ r. IsUndoRefusal self.old entry.now r
+            × (self.new ≡ self.old)) }
     {
         *self = self.without_entry(alloc, entry)?;
         Ok(())

@@ -15,7 +15,8 @@ use std::alloc::Global;
 pub fn one_splice(alloc: Global, at: u32, old: &str, new: &str) -> Result<Splices, NoMemory>
     requires old_fits { at + length old.now ≤ 1048576 }
     requires new_fits { at + length new.now ≤ 1048576 }
-    ensures { IfOk result (λ splices. splices ≡ record { at = at; old = old.now; new = new.now } ∷ []) }
+    ensures { IfOk result (λ splices. splices
+        ≡ record { at = at; old = old.now; new = new.now } ∷ []) }
 {
     let mut list = Vec::new(alloc);
     list.push(Splice {
@@ -76,7 +77,8 @@ fn turned_round(alloc: Global, change: &Change) -> Result<Change, NoMemory>
 
 /// The changes that lead back: each with its lengths exchanged and its splices inverted.
 pub fn all_turned_round(alloc: Global, changes: &[Change]) -> Result<Vec<Change>, NoMemory>
-    ensures { IfOk result (λ back. map change_of back.items ≡ inverted (map change_of changes.now)) }
+    ensures { IfOk result (λ back. map change_of back.items
+        ≡ inverted (map change_of changes.now)) }
 {
     let mut back = Vec::new(alloc);
     for change in changes {

@@ -34,7 +34,8 @@ fn lie_within(splices: &[Splice], len: u32) -> bool
 }
 
 fn have_same_lengths(splices: &[Splice]) -> bool
-    ensures { IsTrue result ↔ All (λ s. length (string_bytes s.old) ≡ length (string_bytes s.new)) splices.now }
+    ensures { IsTrue result ↔ All
+        (λ s. length (string_bytes s.old) ≡ length (string_bytes s.new)) splices.now }
 {
     splices.iter().all(|s| s.old.len() == s.new.len())
 }

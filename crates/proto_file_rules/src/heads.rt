@@ -196,7 +196,8 @@ impl<'a> FileHead<'a> {
     /// The head of a file.
     fn of(alloc: Global, files: &'a Files, file: usize) -> Result<FileHead<'a>, NoMemory>
         requires { file < length files.now }
-        ensures { IfOk result (λ h. (reads : List ReadOf) → AreRead files.now reads → h ≡ head_of_file files.now reads file) }
+        ensures { IfOk result (λ h. (reads : List ReadOf)
+            → AreRead files.now reads → h ≡ head_of_file files.now reads file) }
     {
         // Each path ends in `.proto`.
         let _count = files.len();
@@ -217,7 +218,8 @@ impl<'a> FileHead<'a> {
 /// The heads of all files.
 fn all_heads<'a>(alloc: Global, files: &'a Files) -> Result<Vec<FileHead<'a>>, NoMemory>
     ensures few { IfOk result (λ hs. length hs.items ≤ 2 ^ 32) }
-    ensures heads { IfOk result (λ hs. (reads : List ReadOf) → AreRead files.now reads → hs.items ≡ heads files.now reads) }
+    ensures heads { IfOk result (λ hs. (reads : List ReadOf)
+        → AreRead files.now reads → hs.items ≡ heads files.now reads) }
 {
     let mut all = Vec::new(alloc);
     for file in 0..files.len() {
@@ -256,7 +258,8 @@ fn first_of_packages(alloc: Global, heads: &[FileHead]) -> Result<IndexMap<Strin
 impl<'a> Heads<'a> {
     /// The heads of the files. Only want of memory is refused.
     pub fn new(alloc: Global, files: &'a Files) -> Result<Heads<'a>, NoMemory>
-        ensures { IfOk result (λ h. (reads : List ReadOf) → AreRead files.now reads → h ≡ heads files.now reads) }
+        ensures { IfOk result (λ h. (reads : List ReadOf)
+            → AreRead files.now reads → h ≡ heads files.now reads) }
     {
         let heads = all_heads(alloc, files)?;
         Ok(Heads {
@@ -276,7 +279,8 @@ impl<'a> Heads<'a> {
 
     /// The head of the first file of a directory.
     pub(crate) fn first_in_directory(&self, path: &str) -> Option<&FileHead<'a>>
-        ensures { option_map (λ h. h.now) result ≡ find (λ g. bytes_eq (directory g) path.now) self.now }
+        ensures { option_map (λ h. h.now) result
+            ≡ find (λ g. bytes_eq (directory g) path.now) self.now }
     {
         match place_of(&self.directories, path) {
             Some(place) => self.heads.get(place as usize),
@@ -286,7 +290,8 @@ impl<'a> Heads<'a> {
 
     /// The head of the first file of a package.
     pub(crate) fn first_of_package(&self, name: &str) -> Option<&FileHead<'a>>
-        ensures { option_map (λ h. h.now) result ≡ find (λ g. bytes_eq (package_name g) name.now) self.now }
+        ensures { option_map (λ h. h.now) result
+            ≡ find (λ g. bytes_eq (package_name g) name.now) self.now }
     {
         match place_of(&self.packages, name) {
             Some(place) => self.heads.get(place as usize),

@@ -62,7 +62,8 @@ fn public_target(
     import: &Wanted,
 ) -> Result<Option<u32>, NoMemory>
     requires { IsString (word_at words.now import.now.path) }
-    ensures { IfOk result (λ to. (paths : List (List ℕ)) → IsFileIndex index.now paths → to ≡ public_target paths (word_at words.now) (wanted_of import.now)) }
+    ensures { IfOk result (λ to. (paths : List (List ℕ)) → IsFileIndex index.now paths
+        → to ≡ public_target paths (word_at words.now) (wanted_of import.now)) }
 {
     if !import.is_public {
         return Ok(None);
@@ -88,7 +89,8 @@ fn public_targets(
     wanted: &[Wanted],
 ) -> Result<Vec<u32>, NoMemory>
     requires { All (λ w. IsString (word_at words.now w.path)) wanted.now }
-    ensures { IfOk result (λ targets. (paths : List (List ℕ)) → IsFileIndex index.now paths → targets.items ≡ public_targets paths (word_at words.now) (map wanted_of wanted.now)) }
+    ensures { IfOk result (λ targets. (paths : List (List ℕ)) → IsFileIndex index.now paths
+        → targets.items ≡ public_targets paths (word_at words.now) (map wanted_of wanted.now)) }
 {
     let mut targets = Vec::new(alloc);
     for import in wanted {
@@ -105,7 +107,8 @@ fn public_of(
     file: usize,
 ) -> Result<Vec<u32>, NoMemory>
     requires { file < length files.now }
-    ensures { IfOk result (λ public. (paths : List (List ℕ)) → IsFileIndex index.now paths → (reads : List ReadOf) → AreRead files.now reads
+    ensures { IfOk result (λ public. (paths : List (List ℕ))
+        → IsFileIndex index.now paths → (reads : List ReadOf) → AreRead files.now reads
         → public.items ≡ public_targets paths (λ i. text_of files.now reads (at file i)) (wanted_in (read_at reads file).tree)) }
 {
     let words = Words::new(files, file);
@@ -121,7 +124,8 @@ fn all_public(
     index: &IndexMap<String, u32>,
 ) -> Result<Vec<Vec<u32>>, NoMemory>
     ensures len { IfOk result (λ public. length public.items ≡ length files.now) }
-    ensures each { IfOk result (λ public. (paths : List (List ℕ)) → IsFileIndex index.now paths → (reads : List ReadOf) → AreRead files.now reads
+    ensures each { IfOk result (λ public. (paths : List (List ℕ))
+        → IsFileIndex index.now paths → (reads : List ReadOf) → AreRead files.now reads
         → Each (λ k v. v.items ≡ public_targets paths (λ i. text_of files.now reads (at k i)) (wanted_in (read_at reads k).tree)) public.items) }
 {
     let mut public = Vec::new(alloc);
@@ -179,7 +183,9 @@ fn add_import_no_public(
     import: &Import,
 ) -> Result<(), NoMemory>
     requires { IsString (text (reading_of reading.now) import.now.path) }
-    ensures { OnOk result (map found_of found.new.items ≡ map found_of found.old.items ++ found_by rules.now.chosen (reading_of reading.now) rule.ImportNoPublic (import_no_public (reading_of reading.now) import.now)) }
+    ensures { OnOk result (map found_of found.new.items ≡ map found_of found.old.items
+        ++ found_by rules.now.chosen (reading_of reading.now) rule.ImportNoPublic
+        (import_no_public (reading_of reading.now) import.now)) }
 {
     let rule = Rule::ImportNoPublic;
     if rules.has(rule) && import.public.is_some() {
@@ -209,7 +215,8 @@ fn add_import_used(
 ) -> Result<(), NoMemory>
     requires string { IsString (text (reading_of reading.now) import.now.path) }
     requires imports { AreImportsOf files.now imports.now }
-    requires marks { is_chosen rules.now.chosen rule.ImportUsed ≡ true → MarksUsed files.now reading.now.file marks.now }
+    requires marks { is_chosen rules.now.chosen rule.ImportUsed
+        ≡ true → MarksUsed files.now reading.now.file marks.now }
     ensures { OnOk result ((reads : List ReadOf) → AreRead files.now reads
         → map found_of found.new.items ≡ map found_of found.old.items ++ found_by rules.now.chosen (reading_of reading.now) rule.ImportUsed (import_used (names_of_files files.now reads) (paths_of files.now) (reading_of reading.now) reading.now.file import.now)) }
 {
@@ -242,7 +249,8 @@ fn add_import(
 ) -> Result<(), NoMemory>
     requires string { IsString (text (reading_of reading.now) import.now.path) }
     requires imports { AreImportsOf files.now imports.now }
-    requires marks { is_chosen rules.now.chosen rule.ImportUsed ≡ true → MarksUsed files.now reading.now.file marks.now }
+    requires marks { is_chosen rules.now.chosen rule.ImportUsed
+        ≡ true → MarksUsed files.now reading.now.file marks.now }
     ensures { OnOk result ((reads : List ReadOf) → AreRead files.now reads
         → map found_of found.new.items ≡ map found_of found.old.items ++ import_finds rules.now.chosen (names_of_files files.now reads) (paths_of files.now) (reading_of reading.now) reading.now.file import.now) }
 {
@@ -263,7 +271,8 @@ fn import(item: &Item) -> Option<&Import>
 /// The import statements of a file.
 #[tactic(auto, using(crate::proofs::ImportLists::imports_joined))]
 fn import_statements<'a>(alloc: Global, file: &'a File) -> Result<Vec<&'a Import>, NoMemory>
-    ensures { IfOk result (λ imports. map (λ i. i.now) imports.items ≡ imports_in (tree_of_file file.now)) }
+    ensures { IfOk result (λ imports. map (λ i. i.now) imports.items
+        ≡ imports_in (tree_of_file file.now)) }
 {
     let mut imports = Vec::new(alloc);
     for item in &file.items {
@@ -284,7 +293,8 @@ fn marks_for(
 ) -> Result<Vec<bool>, NoMemory>
     requires file { file < length files.now }
     requires link { IsLinkOf files.now link.now }
-    ensures { IfOk result (λ marks. is_chosen rules.now.chosen rule.ImportUsed ≡ true → MarksUsed files.now file marks.items) }
+    ensures { IfOk result (λ marks. is_chosen rules.now.chosen rule.ImportUsed
+        ≡ true → MarksUsed files.now file marks.items) }
 {
     if rules.has(Rule::ImportUsed) {
         let marks = used_files(alloc, files, link, file)?;
@@ -304,9 +314,11 @@ fn add_statements(
     marks: &[bool],
     statements: &[&Import],
 ) -> Result<(), NoMemory>
-    requires strings { All (λ i. IsString (text (reading_of reading.now) i.now.path)) statements.now }
+    requires strings { All
+        (λ i. IsString (text (reading_of reading.now) i.now.path)) statements.now }
     requires imports { AreImportsOf files.now imports.now }
-    requires marks { is_chosen rules.now.chosen rule.ImportUsed ≡ true → MarksUsed files.now reading.now.file marks.now }
+    requires marks { is_chosen rules.now.chosen rule.ImportUsed
+        ≡ true → MarksUsed files.now reading.now.file marks.now }
     ensures { OnOk result ((reads : List ReadOf) → AreRead files.now reads
         → map found_of found.new.items ≡ map found_of found.old.items ++ flat_map (import_finds rules.now.chosen (names_of_files files.now reads) (paths_of files.now) (reading_of reading.now) reading.now.file) (map (λ i. i.now) statements.now)) }
 {
@@ -327,7 +339,8 @@ pub fn add_imports(
     files: &Files,
 ) -> Result<(), NoMemory>
     requires file { reading.now.file < length files.now }
-    requires reading { (reads : List ReadOf) → AreRead files.now reads → reading_of reading.now ≡ read_of_file files.now reads reading.now.file }
+    requires reading { (reads : List ReadOf) → AreRead files.now reads
+        → reading_of reading.now ≡ read_of_file files.now reads reading.now.file }
     requires imports { AreImportsOf files.now imports.now }
     requires link { IsLinkOf files.now link.now }
     ensures { OnOk result ((reads : List ReadOf) → AreRead files.now reads

@@ -125,7 +125,8 @@ fn add(
     offset: u32,
     name: &str,
 ) -> Result<(), NoMemory>
-    ensures { OnOk result (map found_of found.new.items ≡ map found_of found.old.items ++ (record { offset = offset; rule = rule; name = name.now }) ∷ []) }
+    ensures { OnOk result (map found_of found.new.items ≡ map found_of found.old.items
+        ++ (record { offset = offset; rule = rule; name = name.now }) ∷ []) }
 {
     let name = String::from_str(alloc, name)?;
     found.push(Found { offset, rule, name })?;
@@ -139,7 +140,8 @@ fn add_package(
     rule: Rule,
     head: &FileHead,
 ) -> Result<(), NoMemory>
-    ensures { OnOk result (map found_of found.new.items ≡ map found_of found.old.items ++ (record { offset = head.now.offset; rule = rule; name = package_or_dash head.now }) ∷ []) }
+    ensures { OnOk result (map found_of found.new.items ≡ map found_of found.old.items ++
+        (record { offset = head.now.offset; rule = rule; name = package_or_dash head.now }) ∷ []) }
 {
     add(alloc, found, rule, head.offset(), package_or_dash(head))
 }
@@ -151,7 +153,9 @@ fn add_directory_same_package(
     heads: &Heads,
     head: &FileHead,
 ) -> Result<(), NoMemory>
-    ensures { OnOk result (map found_of found.new.items ≡ map found_of found.old.items ++ package_unless rules.now.chosen rule.DirectorySamePackage (has_package_of_directory heads.now head.now) head.now) }
+    ensures { OnOk result (map found_of found.new.items ≡ map found_of found.old.items
+        ++ package_unless rules.now.chosen rule.DirectorySamePackage
+        (has_package_of_directory heads.now head.now) head.now) }
 {
     let rule = Rule::DirectorySamePackage;
     if rules.has(rule) && !has_package_of_directory(heads, head) {
@@ -166,7 +170,9 @@ fn add_file_lower_snake_case(
     rules: &RuleSet,
     head: &FileHead,
 ) -> Result<(), NoMemory>
-    ensures { OnOk result (map found_of found.new.items ≡ map found_of found.old.items ++ found_unless rules.now.chosen rule.FileLowerSnakeCase (has_lower_snake_file head.now) 0 (file_name head.now)) }
+    ensures { OnOk result (map found_of found.new.items ≡ map found_of found.old.items
+        ++ found_unless rules.now.chosen rule.FileLowerSnakeCase
+        (has_lower_snake_file head.now) 0 (file_name head.now)) }
 {
     let rule = Rule::FileLowerSnakeCase;
     if rules.has(rule) && !has_lower_snake_file(head) {
@@ -181,7 +187,8 @@ fn add_package_defined(
     rules: &RuleSet,
     head: &FileHead,
 ) -> Result<(), NoMemory>
-    ensures { OnOk result (map found_of found.new.items ≡ map found_of found.old.items ++ package_unless rules.now.chosen rule.PackageDefined (has_package head.now) head.now) }
+    ensures { OnOk result (map found_of found.new.items ≡ map found_of found.old.items
+        ++ package_unless rules.now.chosen rule.PackageDefined (has_package head.now) head.now) }
 {
     let rule = Rule::PackageDefined;
     if rules.has(rule) && !has_package(head) {
@@ -196,7 +203,9 @@ fn add_package_directory_match(
     rules: &RuleSet,
     head: &FileHead,
 ) -> Result<(), NoMemory>
-    ensures { OnOk result (map found_of found.new.items ≡ map found_of found.old.items ++ package_unless rules.now.chosen rule.PackageDirectoryMatch (has_directory_like_package head.now) head.now) }
+    ensures { OnOk result (map found_of found.new.items ≡ map found_of found.old.items
+        ++ package_unless rules.now.chosen rule.PackageDirectoryMatch
+        (has_directory_like_package head.now) head.now) }
 {
     let rule = Rule::PackageDirectoryMatch;
     if rules.has(rule) && !has_directory_like_package(head) {
@@ -211,7 +220,9 @@ fn add_package_lower_snake_case(
     rules: &RuleSet,
     head: &FileHead,
 ) -> Result<(), NoMemory>
-    ensures { OnOk result (map found_of found.new.items ≡ map found_of found.old.items ++ package_unless rules.now.chosen rule.PackageLowerSnakeCase (has_lower_snake_package head.now) head.now) }
+    ensures { OnOk result (map found_of found.new.items ≡ map found_of found.old.items
+        ++ package_unless rules.now.chosen rule.PackageLowerSnakeCase
+        (has_lower_snake_package head.now) head.now) }
 {
     let rule = Rule::PackageLowerSnakeCase;
     if rules.has(rule) && !has_lower_snake_package(head) {
@@ -227,7 +238,9 @@ fn add_package_same_directory(
     heads: &Heads,
     head: &FileHead,
 ) -> Result<(), NoMemory>
-    ensures { OnOk result (map found_of found.new.items ≡ map found_of found.old.items ++ package_unless rules.now.chosen rule.PackageSameDirectory (has_directory_of_package heads.now head.now) head.now) }
+    ensures { OnOk result (map found_of found.new.items ≡ map found_of found.old.items
+        ++ package_unless rules.now.chosen rule.PackageSameDirectory
+        (has_directory_of_package heads.now head.now) head.now) }
 {
     let rule = Rule::PackageSameDirectory;
     if rules.has(rule) && !has_directory_of_package(heads, head) {
@@ -242,7 +255,9 @@ fn add_package_version_suffix(
     rules: &RuleSet,
     head: &FileHead,
 ) -> Result<(), NoMemory>
-    ensures { OnOk result (map found_of found.new.items ≡ map found_of found.old.items ++ package_unless rules.now.chosen rule.PackageVersionSuffix (has_version head.now) head.now) }
+    ensures { OnOk result (map found_of found.new.items ≡ map found_of found.old.items
+        ++ package_unless rules.now.chosen rule.PackageVersionSuffix
+        (has_version head.now) head.now) }
 {
     let rule = Rule::PackageVersionSuffix;
     if rules.has(rule) && !has_version(head) {
@@ -257,7 +272,8 @@ fn add_syntax_specified(
     rules: &RuleSet,
     head: &FileHead,
 ) -> Result<(), NoMemory>
-    ensures { OnOk result (map found_of found.new.items ≡ map found_of found.old.items ++ found_unless rules.now.chosen rule.SyntaxSpecified head.now.has_syntax 0 head.now.path) }
+    ensures { OnOk result (map found_of found.new.items ≡ map found_of found.old.items
+        ++ found_unless rules.now.chosen rule.SyntaxSpecified head.now.has_syntax 0 head.now.path) }
 {
     let rule = Rule::SyntaxSpecified;
     if rules.has(rule) && !head.has_syntax() {
@@ -275,7 +291,8 @@ pub fn add_head(
     file: usize,
 ) -> Result<(), NoMemory>
     requires { file < length heads.now }
-    ensures { OnOk result ((d : Head) → map found_of found.new.items ≡ map found_of found.old.items ++ head_finds rules.now.chosen heads.now (get_or heads.now file d)) }
+    ensures { OnOk result ((d : Head) → map found_of found.new.items ≡ map found_of found.old.items
+        ++ head_finds rules.now.chosen heads.now (get_or heads.now file d)) }
 {
     let head = heads.get(file);
     add_directory_same_package(alloc, found, rules, heads, head)?;

@@ -33,7 +33,8 @@ fn mark_meant(marks: &mut Vec<bool>, link: &Link, meant: Meant)
 /// Marks of the files that declare what the references of a file mean.
 fn meant_files(alloc: Global, link: &Link, file: u32, count: usize) -> Result<Vec<bool>, NoMemory>
     ensures len { IfOk result (λ marks. length marks.items ≡ count) }
-    ensures marks { IfOk result (λ marks. MarksMeant link.now (get_or link.now.meant file []) count marks.items) }
+    ensures marks { IfOk result (λ marks. MarksMeant link.now
+        (get_or link.now.meant file []) count marks.items) }
 {
     let mut marks = unmarked(alloc, count)?;
     for meant in link.meant_in(file) {

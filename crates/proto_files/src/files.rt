@@ -113,10 +113,12 @@ impl Files {
     pub fn token_text(&self, file: u32, token: u32) -> &str
         requires file { file < length self.now }
         requires token { HasToken self.now file token }
-        ensures slice { (tokens : List Token) (t : Token) → AreTokensOf self.now file tokens → slice_get tokens token ≡ Some t
+        ensures slice { (tokens : List Token) (t : Token)
+            → AreTokensOf self.now file tokens → slice_get tokens token ≡ Some t
             → result.now ≡ text_at (file_at self.now file).bytes t.span }
         // The same, as the word of this index among those of the tokens.
-        ensures word { (tokens : List Token) → AreTokensOf self.now file tokens → result.now ≡ words (file_at self.now file).bytes tokens token }
+        ensures word { (tokens : List Token) → AreTokensOf self.now file tokens
+            → result.now ≡ words (file_at self.now file).bytes tokens token }
     {
         let read = &self.files[file as usize];
         read.source.text(read.tokens[token as usize].span)

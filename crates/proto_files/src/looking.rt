@@ -34,7 +34,8 @@ fn file_between(files: &Files, start: usize, end: usize, path: &str) -> Option<u
     requires { end ≤ length files.now }
     ensures within { IfSome result (λ file. file < length files.now) }
     ensures path { IfSome result (λ file. (file_at files.now file).path ≡ path.now) }
-    ensures none { IfNone result ((file : ℕ) → start ≤ file → file < end → (file_at files.now file).path ≢ path.now) }
+    ensures none { IfNone result ((file : ℕ)
+        → start ≤ file → file < end → (file_at files.now file).path ≢ path.now) }
 {
     for file in start..end {
         if files.path(file) == path {
@@ -49,7 +50,8 @@ fn file_between(files: &Files, start: usize, end: usize, path: &str) -> Option<u
 pub fn file_named(files: &Files, start: usize, path: &str) -> Option<usize>
     ensures within { IfSome result (λ file. file < length files.now) }
     ensures path { IfSome result (λ file. (file_at files.now file).path ≡ path.now) }
-    ensures none { IfNone result ((file : ℕ) → file < length files.now → (file_at files.now file).path ≢ path.now) }
+    ensures none { IfNone result ((file : ℕ)
+        → file < length files.now → (file_at files.now file).path ≢ path.now) }
 {
     let count = files.len();
     let start = start.min(count);

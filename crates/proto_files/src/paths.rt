@@ -99,10 +99,12 @@ impl Paths {
     /// The files in the order of their paths. Where a path is no workspace path, is given twice, or there are more
     /// than `MAX_FILES` files, the least such fault is answered.
     pub fn new(alloc: Global, files: Vec<(String, Vec<u8>)>) -> Result<Paths, SchemaFault>
-        ensures clean { IfOk result (λ _. HasNoFault (PathFaults MAX_FILES (paths_of (files_of files.items)))) }
+        ensures clean { IfOk result (λ _. HasNoFault
+            (PathFaults MAX_FILES (paths_of (files_of files.items)))) }
         ensures same { IfOk result (λ paths. IsPermutation (files_of files.items) paths) }
         ensures in_order { IfOk result (λ paths. AreWorkspaceFiles paths) }
-        ensures fault { IfErr result (λ e. IsFilesError (PathFaults MAX_FILES (paths_of (files_of files.items))) e) }
+        ensures fault { IfErr result (λ e. IsFilesError
+            (PathFaults MAX_FILES (paths_of (files_of files.items))) e) }
     {
         Paths::up_to(alloc, MAX_FILES, files)
     }
@@ -114,10 +116,12 @@ impl Paths {
         files: Vec<(String, Vec<u8>)>,
     ) -> Result<Paths, SchemaFault>
         requires { limit ≤ MAX_FILES }
-        ensures clean { IfOk result (λ _. HasNoFault (PathFaults limit (paths_of (files_of files.items)))) }
+        ensures clean { IfOk result (λ _. HasNoFault
+            (PathFaults limit (paths_of (files_of files.items)))) }
         ensures same { IfOk result (λ paths. IsPermutation (files_of files.items) paths) }
         ensures in_order { IfOk result (λ paths. AreWorkspaceFiles paths) }
-        ensures fault { IfErr result (λ e. IsFilesError (PathFaults limit (paths_of (files_of files.items))) e) }
+        ensures fault { IfErr result (λ e. IsFilesError
+            (PathFaults limit (paths_of (files_of files.items))) e) }
     {
         let mut files = named(alloc, files)?;
         sort_by_path(&mut files);

@@ -41,7 +41,8 @@ pub fn add_unless(
     token: u32,
     name: &str,
 ) -> Result<(), NoMemory>
-    ensures { OnOk result (map found_of found.new.items ≡ map found_of found.old.items ++ map (found_at (reading_of reading.now) rule) (unless passes token name.now)) }
+    ensures { OnOk result (map found_of found.new.items ≡ map found_of found.old.items
+        ++ map (found_at (reading_of reading.now) rule) (unless passes token name.now)) }
 {
     if !passes {
         let offset = reading.offset(token);
@@ -61,7 +62,9 @@ pub fn add_below_unless(
     scope: &str,
     token: u32,
 ) -> Result<(), NoMemory>
-    ensures { OnOk result (map found_of found.new.items ≡ map found_of found.old.items ++ map (found_at (reading_of reading.now) rule) (unless passes token (below scope.now (text (reading_of reading.now) token)))) }
+    ensures { OnOk result (map found_of found.new.items ≡ map found_of found.old.items ++ map
+        (found_at (reading_of reading.now) rule)
+        (unless passes token (below scope.now (text (reading_of reading.now) token)))) }
 {
     if !passes {
         let offset = reading.offset(token);

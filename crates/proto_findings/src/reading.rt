@@ -28,7 +28,8 @@ impl<'a> Reading<'a> {
         requires file { file < length files.now }
         requires link { IsLinkOf files.now link.now }
         ensures file { result.file ≡ file }
-        ensures read { (reads : List ReadOf) → AreRead files.now reads → reading_of result ≡ read_of_file files.now reads file }
+        ensures read { (reads : List ReadOf) → AreRead files.now reads
+            → reading_of result ≡ read_of_file files.now reads file }
     {
         let place = file as usize;
         let tokens = files.tokens(place);
@@ -57,7 +58,8 @@ impl<'a> Reading<'a> {
 
     /// The full name that the reference means; empty for one that is not the file's.
     pub fn meant(&self, reference: &Reference) -> &'a str
-        ensures { result.now ≡ meant (reading_of self.now) (first_of reference.now.dot reference.now.words) }
+        ensures { result.now ≡ meant (reading_of self.now)
+            (first_of reference.now.dot reference.now.words) }
     {
         let first = reference.dot.unwrap_or(reference.words.first);
         match self.link.meant(self.file, first) {

@@ -111,11 +111,15 @@ pub fn resolve_imports(
     requires count { length paths.now ≤ 2 ^ 32 }
     requires paired { length files.now ≡ length paths.now }
     requires rising { All (λ v. AreRising v.items) files.now }
-    ensures clean { IfOk result (λ _. (f : Fault) → ImportFault (map (λ p. p.now) paths.now) (all_asked 0 (map (λ v. v.items) files.now)) f → ⊥) }
+    ensures clean { IfOk result (λ _. (f : Fault) → ImportFault
+        (map (λ p. p.now) paths.now) (all_asked 0 (map (λ v. v.items) files.now)) f → ⊥) }
     ensures len { IfOk result (λ imports. length imports.items ≡ length files.now) }
-    ensures imports { IfOk result (λ imports. all_imports 0 (map (λ v. v.items) imports.items) ≡ imports_of (map (λ p. p.now) paths.now) (all_asked 0 (map (λ v. v.items) files.now))) }
-    ensures within { IfOk result (λ imports. All (λ v. All (λ i. i.to < length files.now) v.items) imports.items) }
-    ensures fault { IfErr result (IsImportError (ImportFault (map (λ p. p.now) paths.now) (all_asked 0 (map (λ v. v.items) files.now)))) }
+    ensures imports { IfOk result (λ imports. all_imports 0 (map (λ v. v.items) imports.items)
+        ≡ imports_of (map (λ p. p.now) paths.now) (all_asked 0 (map (λ v. v.items) files.now))) }
+    ensures within { IfOk result (λ imports. All
+        (λ v. All (λ i. i.to < length files.now) v.items) imports.items) }
+    ensures fault { IfErr result (IsImportError
+        (ImportFault (map (λ p. p.now) paths.now) (all_asked 0 (map (λ v. v.items) files.now)))) }
 {
     let index = first_places(alloc, paths)?;
     imports_by_index(alloc, &index, files)
@@ -128,13 +132,19 @@ fn imports_by_index(
     files: &[Vec<WrittenImport>],
 ) -> Result<Vec<Vec<FileImport>>, ImportError>
     requires count { length files.now ≤ 2 ^ 32 }
-    requires index { (paths : List (List ℕ)) × IsFileIndex index.now paths × (length paths ≡ length files.now) }
+    requires index { (paths : List (List ℕ))
+        × IsFileIndex index.now paths × (length paths ≡ length files.now) }
     requires rising { All (λ v. AreRising v.items) files.now }
-    ensures clean { IfOk result (λ _. (paths : List (List ℕ)) → IsFileIndex index.now paths → (f : Fault) → ImportFault paths (all_asked 0 (map (λ v. v.items) files.now)) f → ⊥) }
+    ensures clean { IfOk result (λ _. (paths : List (List ℕ)) → IsFileIndex index.now paths
+        → (f : Fault) → ImportFault paths (all_asked 0 (map (λ v. v.items) files.now)) f → ⊥) }
     ensures len { IfOk result (λ imports. length imports.items ≡ length files.now) }
-    ensures imports { IfOk result (λ imports. (paths : List (List ℕ)) → IsFileIndex index.now paths → all_imports 0 (map (λ v. v.items) imports.items) ≡ imports_of paths (all_asked 0 (map (λ v. v.items) files.now))) }
-    ensures within { IfOk result (λ imports. All (λ v. All (λ i. i.to < length files.now) v.items) imports.items) }
-    ensures fault { IfErr result (λ e. (paths : List (List ℕ)) → IsFileIndex index.now paths → IsImportError (ImportFault paths (all_asked 0 (map (λ v. v.items) files.now))) e) }
+    ensures imports { IfOk result (λ imports. (paths : List (List ℕ)) → IsFileIndex index.now paths
+        → all_imports 0 (map (λ v. v.items) imports.items)
+        ≡ imports_of paths (all_asked 0 (map (λ v. v.items) files.now))) }
+    ensures within { IfOk result (λ imports. All
+        (λ v. All (λ i. i.to < length files.now) v.items) imports.items) }
+    ensures fault { IfErr result (λ e. (paths : List (List ℕ)) → IsFileIndex index.now paths
+        → IsImportError (ImportFault paths (all_asked 0 (map (λ v. v.items) files.now))) e) }
 {
     let imports = resolved(alloc, index, files)?;
     let path_fault = first_path_fault(alloc, index, files)?;
@@ -147,7 +157,8 @@ fn imports_by_index(
 
 /// The first of two faults.
 fn first(one: Option<BadImport>, other: Option<BadImport>) -> Option<BadImport>
-    ensures { IsFirst (λ f. (option_map fault_of one ≡ Some f) ⊎ (option_map fault_of other ≡ Some f)) (option_map fault_of result) }
+    ensures { IsFirst (λ f. (option_map fault_of one ≡ Some f) ⊎
+        (option_map fault_of other ≡ Some f)) (option_map fault_of result) }
 {
     match (one, other) {
         (Some(a), Some(b)) if b.is_before(&a) => Some(b),

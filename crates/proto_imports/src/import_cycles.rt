@@ -27,7 +27,10 @@ pub(crate) fn first_on_cycle(
     requires rising { All (λ v. AreRising v.items) files.now }
     requires paired { length imports.now ≡ length files.now }
     requires within { All (λ v. All (λ i. i.to < length files.now) v.items) imports.now }
-    ensures { IfOk result (λ o. (paths : List (List ℕ)) → IsFileIndex index.now paths → all_imports 0 (map (λ v. v.items) imports.now) ≡ imports_of paths (all_asked 0 (map (λ v. v.items) files.now)) → IsFirst (CycleFault paths (all_asked 0 (map (λ v. v.items) files.now))) (option_map fault_of o)) }
+    ensures { IfOk result (λ o. (paths : List (List ℕ)) → IsFileIndex index.now paths
+        → all_imports 0 (map (λ v. v.items) imports.now) ≡ imports_of paths
+        (all_asked 0 (map (λ v. v.items) files.now)) → IsFirst
+        (CycleFault paths (all_asked 0 (map (λ v. v.items) files.now))) (option_map fault_of o)) }
 {
     let next = all_targets(alloc, imports)?;
     let importers = turned(alloc, &next)?;
@@ -40,7 +43,8 @@ pub(crate) fn first_on_cycle(
 
 /// For each file, the files that it imports.
 fn all_targets(alloc: Global, imports: &[Vec<FileImport>]) -> Result<Vec<Vec<u32>>, NoMemory>
-    ensures { IfOk result (λ next. map (λ v. v.items) next.items ≡ map (λ v. map (λ i. i.to) v.items) imports.now) }
+    ensures { IfOk result (λ next. map (λ v. v.items) next.items
+        ≡ map (λ v. map (λ i. i.to) v.items) imports.now) }
 {
     let mut next = Vec::new(alloc);
     for own in imports {
@@ -65,7 +69,8 @@ fn turned(alloc: Global, next: &[Vec<u32>]) -> Result<Vec<Vec<u32>>, NoMemory>
     requires count { length next.now ≤ 2 ^ 32 }
     requires within { All (λ v. All (λ g. g < length next.now) v.items) next.now }
     ensures len { IfOk result (λ back. length back.items ≡ length next.now) }
-    ensures exact { IfOk result (λ back. AreTurned (map (λ v. v.items) next.now) (map (λ v. v.items) back.items)) }
+    ensures exact { IfOk result (λ back. AreTurned
+        (map (λ v. v.items) next.now) (map (λ v. v.items) back.items)) }
 {
     let mut back = empty_lists(alloc, next.len())?;
     for file in 0..next.len() {
@@ -89,7 +94,10 @@ fn empty_lists(alloc: Global, count: usize) -> Result<Vec<Vec<u32>>, NoMemory>
 fn put_in_all(lists: &mut Vec<Vec<u32>>, places: &[u32], file: u32) -> Result<(), NoMemory>
     requires { All (λ place. place < length lists.old.items) places.now }
     ensures len { OnOk result (length lists.new.items ≡ length lists.old.items) }
-    ensures exact { OnOk result ((place one : ℕ) → Contains (get_or (map (λ v. v.items) lists.new.items) place []) one ↔ (Contains (get_or (map (λ v. v.items) lists.old.items) place []) one ⊎ (Contains places.now place × (one ≡ file)))) }
+    ensures exact { OnOk result ((place one : ℕ) → Contains
+        (get_or (map (λ v. v.items) lists.new.items) place []) one ↔
+        (Contains (get_or (map (λ v. v.items) lists.old.items) place []) one ⊎
+        (Contains places.now place × (one ≡ file)))) }
 {
     for place in places {
         put_in(lists, *place, file)?;
@@ -100,7 +108,9 @@ fn put_in_all(lists: &mut Vec<Vec<u32>>, places: &[u32], file: u32) -> Result<()
 /// Puts a file into a list.
 fn put_in(lists: &mut Vec<Vec<u32>>, place: u32, file: u32) -> Result<(), NoMemory>
     requires { place < length lists.old.items }
-    ensures { OnOk result (map (λ v. v.items) lists.new.items ≡ slice_set (map (λ v. v.items) lists.old.items) place (get_or (map (λ v. v.items) lists.old.items) place [] ++ file ∷ [])) }
+    ensures { OnOk result (map (λ v. v.items) lists.new.items ≡ slice_set
+        (map (λ v. v.items) lists.old.items) place
+        (get_or (map (λ v. v.items) lists.old.items) place [] ++ file ∷ [])) }
 {
     let list = &mut lists[place as usize];
     list.push(file)?;
@@ -177,7 +187,9 @@ fn release(files: &[u32], waiting: &mut Vec<usize>, ready: &mut Vec<u32>) -> Res
 fn falls(next: &[Vec<u32>], ranks: &[usize]) -> bool
     requires len { length ranks.now ≡ length next.now }
     requires within { All (λ v. All (λ g. g < length next.now) v.items) next.now }
-    ensures { IsTrue result → (file target : ℕ) → Contains (get_or (map (λ v. v.items) next.now) file []) target → get_or ranks.now target 0 < get_or ranks.now file 0 }
+    ensures { IsTrue result → (file target : ℕ) → Contains
+        (get_or (map (λ v. v.items) next.now) file []) target
+        → get_or ranks.now target 0 < get_or ranks.now file 0 }
 {
     for file in 0..next.len() {
         if !are_below(ranks, &next[file], ranks[file]) {
@@ -211,7 +223,10 @@ fn first_back(
     requires rising { All (λ v. AreRising v.items) files.now }
     requires paired { length importers.now ≡ length files.now }
     requires within { All (λ v. All (λ g. g < length importers.now) v.items) importers.now }
-    ensures { IfOk result (λ o. (paths : List (List ℕ)) → IsFileIndex index.now paths → AreImporters (map (λ v. v.items) importers.now) (imports_of paths (all_asked 0 (map (λ v. v.items) files.now))) → IsFirst (CycleFault paths (all_asked 0 (map (λ v. v.items) files.now))) (option_map fault_of o)) }
+    ensures { IfOk result (λ o. (paths : List (List ℕ)) → IsFileIndex index.now paths → AreImporters
+        (map (λ v. v.items) importers.now)
+        (imports_of paths (all_asked 0 (map (λ v. v.items) files.now))) → IsFirst
+        (CycleFault paths (all_asked 0 (map (λ v. v.items) files.now))) (option_map fault_of o)) }
 {
     for file in 0..files.len() {
         let marked = reached(alloc, importers, file as u32)?;
@@ -230,7 +245,8 @@ fn first_to_marked(
     marked: &[bool],
 ) -> Option<BadImport>
     requires { AreRising written.now }
-    ensures { (paths : List (List ℕ)) → IsFileIndex index.now paths → IsFirst (MarkedFault paths marked.now file written.now) (option_map fault_of result) }
+    ensures { (paths : List (List ℕ)) → IsFileIndex index.now paths
+        → IsFirst (MarkedFault paths marked.now file written.now) (option_map fault_of result) }
 {
     for import in written {
         if names_marked(index, import.path.as_str(), marked) {
@@ -246,7 +262,8 @@ fn first_to_marked(
 
 /// Whether the file with a path is marked.
 fn names_marked(index: &IndexMap<String, u32>, path: &str, marked: &[bool]) -> bool
-    ensures { result ≡ option_map_or (λ to. get_or marked.now to false) (get_by_text index.now path.now) false }
+    ensures { result ≡ option_map_or (λ to. get_or marked.now to false)
+        (get_by_text index.now path.now) false }
 {
     match place_of(index, path) {
         Some(to) => is_marked(marked, to),

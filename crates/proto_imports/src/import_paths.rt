@@ -20,7 +20,9 @@ pub(crate) fn resolved(
     files: &[Vec<WrittenImport>],
 ) -> Result<Vec<Vec<FileImport>>, NoMemory>
     ensures len { IfOk result (λ imports. length imports.items ≡ length files.now) }
-    ensures imports { IfOk result (λ imports. (paths : List (List ℕ)) → IsFileIndex index.now paths → all_imports 0 (map (λ v. v.items) imports.items) ≡ imports_of paths (all_asked 0 (map (λ v. v.items) files.now))) }
+    ensures imports { IfOk result (λ imports. (paths : List (List ℕ)) → IsFileIndex index.now paths
+        → all_imports 0 (map (λ v. v.items) imports.items)
+        ≡ imports_of paths (all_asked 0 (map (λ v. v.items) files.now))) }
 {
     let mut imports = Vec::new(alloc);
     for written in files {
@@ -35,7 +37,9 @@ fn resolved_in(
     index: &IndexMap<String, u32>,
     written: &[WrittenImport],
 ) -> Result<Vec<FileImport>, NoMemory>
-    ensures { IfOk result (λ imports. (paths : List (List ℕ)) → IsFileIndex index.now paths → (file : ℕ) → map (import_from file) imports.items ≡ imports_of paths (map (asked_by file) written.now)) }
+    ensures { IfOk result (λ imports. (paths : List (List ℕ)) → IsFileIndex index.now paths →
+        (file : ℕ) → map (import_from file) imports.items
+        ≡ imports_of paths (map (asked_by file) written.now)) }
 {
     let mut imports = Vec::new(alloc);
     for import in written {
@@ -57,7 +61,8 @@ pub(crate) fn first_path_fault(
 ) -> Result<Option<BadImport>, NoMemory>
     requires count { length files.now ≤ 2 ^ 32 }
     requires rising { All (λ v. AreRising v.items) files.now }
-    ensures { IfOk result (λ o. (paths : List (List ℕ)) → IsFileIndex index.now paths → IsFirst (PathFault paths (all_asked 0 (map (λ v. v.items) files.now))) (option_map fault_of o)) }
+    ensures { IfOk result (λ o. (paths : List (List ℕ)) → IsFileIndex index.now paths → IsFirst
+        (PathFault paths (all_asked 0 (map (λ v. v.items) files.now))) (option_map fault_of o)) }
 {
     for file in 0..files.len() {
         if let Some(bad) = path_fault_in(alloc, index, file as u32, &files[file])? {
@@ -75,7 +80,8 @@ fn path_fault_in(
     written: &[WrittenImport],
 ) -> Result<Option<BadImport>, NoMemory>
     requires { AreRising written.now }
-    ensures { IfOk result (λ o. (paths : List (List ℕ)) → IsFileIndex index.now paths → IsFirst (PathFault paths (map (asked_by file) written.now)) (option_map fault_of o)) }
+    ensures { IfOk result (λ o. (paths : List (List ℕ)) → IsFileIndex index.now paths
+        → IsFirst (PathFault paths (map (asked_by file) written.now)) (option_map fault_of o)) }
 {
     let mut named = HashSet::new(alloc);
     for import in written {

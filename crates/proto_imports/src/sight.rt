@@ -20,7 +20,8 @@ pub fn all_seen(alloc: Global, imports: &[Vec<FileImport>]) -> Result<Vec<Vec<bo
     requires count { length imports.now ≤ 2 ^ 32 }
     requires within { All (λ v. All (λ i. i.to < length imports.now) v.items) imports.now }
     ensures len { IfOk result (λ seen. length seen.items ≡ length imports.now) }
-    ensures exact { IfOk result (λ seen. (w : Workspace) → w.files ≡ length imports.now → w.imports ≡ all_imports 0 (map (λ v. v.items) imports.now)
+    ensures exact { IfOk result (λ seen. (w : Workspace)
+        → w.files ≡ length imports.now → w.imports ≡ all_imports 0 (map (λ v. v.items) imports.now)
         → (file : ℕ) → file < length imports.now → MarksSeen w file (get_or (map (λ v. v.items) seen.items) file [])) }
 {
     let mut public = all_public(alloc, imports)?;
@@ -33,7 +34,8 @@ pub fn all_seen(alloc: Global, imports: &[Vec<FileImport>]) -> Result<Vec<Vec<bo
 
 /// For each file, the files that it imports publicly.
 fn all_public(alloc: Global, imports: &[Vec<FileImport>]) -> Result<Vec<Vec<u32>>, NoMemory>
-    ensures { IfOk result (λ next. map (λ v. v.items) next.items ≡ map (λ v. map (λ i. i.to) (filter (λ i. i.is_public) v.items)) imports.now) }
+    ensures { IfOk result (λ next. map (λ v. v.items) next.items
+        ≡ map (λ v. map (λ i. i.to) (filter (λ i. i.is_public) v.items)) imports.now) }
 {
     let mut next = Vec::new(alloc);
     for own in imports {
@@ -44,7 +46,8 @@ fn all_public(alloc: Global, imports: &[Vec<FileImport>]) -> Result<Vec<Vec<u32>
 
 /// The files that the public ones of these imports name.
 fn public_targets(alloc: Global, imports: &[FileImport]) -> Result<Vec<u32>, NoMemory>
-    ensures { IfOk result (λ files. files.items ≡ map (λ i. i.to) (filter (λ i. i.is_public) imports.now)) }
+    ensures { IfOk result (λ files. files.items
+        ≡ map (λ i. i.to) (filter (λ i. i.is_public) imports.now)) }
 {
     let mut files = Vec::new(alloc);
     for import in imports {
@@ -66,8 +69,10 @@ fn seen_from(
     requires file { file < length public.old.items }
     requires public { All (λ v. All (λ g. g < length public.old.items) v.items) public.old.items }
     requires own { All (λ i. i.to < length public.old.items) own.now }
-    ensures kept { OnOk result (map (λ v. v.items) public.new.items ≡ map (λ v. v.items) public.old.items) }
-    ensures exact { IfOk result (λ seen. (g : ℕ) → IsMarked seen.items g ↔ Walks (slice_set (map (λ v. v.items) public.old.items) file (map (λ i. i.to) own.now)) file g) }
+    ensures kept { OnOk result (map (λ v. v.items) public.new.items
+        ≡ map (λ v. v.items) public.old.items) }
+    ensures exact { IfOk result (λ seen. (g : ℕ) → IsMarked seen.items g ↔ Walks
+        (slice_set (map (λ v. v.items) public.old.items) file (map (λ i. i.to) own.now)) file g) }
 {
     let steps = targets(alloc, own)?;
     let before = mem::replace(&mut public[file as usize], steps);

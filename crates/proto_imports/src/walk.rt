@@ -12,7 +12,8 @@ pub fn reached(alloc: Global, next: &[Vec<u32>], start: u32) -> Result<Vec<bool>
     requires start { start < length next.now }
     requires files { All (λ v. All (λ g. g < length next.now) v.items) next.now }
     ensures len { IfOk result (λ seen. length seen.items ≡ length next.now) }
-    ensures exact { IfOk result (λ seen. (g : ℕ) → IsMarked seen.items g ↔ Walks (map (λ v. v.items) next.now) start g) }
+    ensures exact { IfOk result (λ seen. (g : ℕ)
+        → IsMarked seen.items g ↔ Walks (map (λ v. v.items) next.now) start g) }
 {
     let count = next.len();
     let mut seen = unmarked(alloc, count)?;
@@ -27,7 +28,8 @@ pub fn reached(alloc: Global, next: &[Vec<u32>], start: u32) -> Result<Vec<bool>
 /// Marks the files of a list; those that were not marked wait.
 fn visit(next: &[u32], seen: &mut Vec<bool>, todo: &mut Vec<u32>) -> Result<(), NoMemory>
     requires { All (λ g. g < length seen.old.items) next.now }
-    ensures { OnOk result (Visits next.now seen.old.items todo.old.items seen.new.items todo.new.items) }
+    ensures { OnOk result
+        (Visits next.now seen.old.items todo.old.items seen.new.items todo.new.items) }
 {
     for file in next {
         mark(*file, seen, todo)?;
@@ -38,8 +40,11 @@ fn visit(next: &[u32], seen: &mut Vec<bool>, todo: &mut Vec<u32>) -> Result<(), 
 /// Marks a file, which waits if it was not marked.
 fn mark(file: u32, seen: &mut Vec<bool>, todo: &mut Vec<u32>) -> Result<(), NoMemory>
     requires { file < length seen.old.items }
-    ensures old { OnOk result (IsMarked seen.old.items file → (seen.new.items ≡ seen.old.items) × (todo.new.items ≡ todo.old.items)) }
-    ensures new { OnOk result (get_or seen.old.items file false ≡ false → (seen.new.items ≡ slice_set seen.old.items file true) × (todo.new.items ≡ todo.old.items ++ file ∷ [])) }
+    ensures old { OnOk result (IsMarked seen.old.items file
+        → (seen.new.items ≡ seen.old.items) × (todo.new.items ≡ todo.old.items)) }
+    ensures new { OnOk result (get_or seen.old.items file false ≡ false →
+        (seen.new.items ≡ slice_set seen.old.items file true)
+        × (todo.new.items ≡ todo.old.items ++ file ∷ [])) }
 {
     if !seen[file as usize] {
         seen[file as usize] = true;

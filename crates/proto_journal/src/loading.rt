@@ -77,7 +77,8 @@ pub fn all_files<S: Store>(
 ) -> Result<Vec<(String, Vec<u8>)>, LoadFault>
     requires { S.failure_count store.old < 2 ^ 64 - 1 }
     ensures files { IfOk result (λ files. HoldsFiles (S.holds store.old) (files_of files.items)) }
-    ensures order { IfOk result (λ _. Over (S.holds store.old) (λ held. AreInPathOrder held.files)) }
+    ensures order { IfOk result (λ _. Over (S.holds store.old)
+        (λ held. AreInPathOrder held.files)) }
     ensures plain { IfErr result IsNoSchemaFault }
     ensures same { S.holds store.new ≡ S.holds store.old }
     ensures count { CountsLoad (S.failure_count store.old) (S.failure_count store.new) result }

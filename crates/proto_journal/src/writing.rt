@@ -37,8 +37,10 @@ fn replace_files<S: Store>(store: &mut S, before: &Files, after: &Files) -> Resu
     requires room { S.failure_count store.old < 2 ^ 64 - 1 }
     requires paths { paths_of after.now ≡ paths_of before.now }
     requires files { HoldsFiles (S.holds store.old) before.now }
-    ensures ok { OnOk result (S.holds store.new ≡ option_map (with_files after.now) (S.holds store.old)) }
-    ensures err { OnErr result (AreBetween before.now after.now (S.holds store.old) (S.holds store.new)) }
+    ensures ok { OnOk result (S.holds store.new
+        ≡ option_map (with_files after.now) (S.holds store.old)) }
+    ensures err { OnErr result (AreBetween before.now after.now
+        (S.holds store.old) (S.holds store.new)) }
     ensures count { Counts (S.failure_count store.old) (S.failure_count store.new) result }
 {
     for place in 0..after.len() {

@@ -132,7 +132,8 @@ impl ToJson for FileDescriptor {
 
 impl FileOptions {
     fn to_json(&self, alloc: Global) -> Result<Option<Json>, NoMemory>
-        ensures { IfOk result (λ o. o ≡ object_if_any (file_options_slots (file_options_desc self.now))) }
+        ensures { IfOk result (λ o. o ≡ object_if_any
+            (file_options_slots (file_options_desc self.now))) }
     {
         let mut members = Members::new(alloc);
         members.put_optional("ccEnableArenas", &self.cc_enable_arenas)?;

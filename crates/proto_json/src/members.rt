@@ -72,7 +72,8 @@ impl Members {
         key: &'static str,
         values: &Vec<T>,
     ) -> Result<(), NoMemory>
-        ensures { OnOk result (self.new ≡ self.old ++ (key.now, array_if_any (map T.text values.now.items)) ∷ []) }
+        ensures { OnOk result (self.new ≡ self.old
+            ++ (key.now, array_if_any (map T.text values.now.items)) ∷ []) }
     {
         let json = array_if_any(self.alloc, values)?;
         self.put(key, json)

@@ -74,7 +74,8 @@ fn message_json(alloc: Global, message: &MessageDescriptor) -> Result<Json, NoMe
 
 /// Puts the members from `enumType` to `name`.
 fn put_first(members: &mut Members, message: &MessageDescriptor) -> Result<(), NoMemory>
-    ensures { OnOk result (members.new ≡ members.old ++ take 4 (message_slots (message_desc (out-MessageDescriptor message.now)) [])) }
+    ensures { OnOk result (members.new ≡ members.old
+        ++ take 4 (message_slots (message_desc (out-MessageDescriptor message.now)) [])) }
 {
     members.put_list("enumType", &message.enum_type)?;
     members.put_list("extensionRange", &message.extension_range)?;
@@ -88,7 +89,8 @@ fn put_last(
     members: &mut Members,
     message: &MessageDescriptor,
 ) -> Result<(), NoMemory>
-    ensures { OnOk result (members.new ≡ members.old ++ drop 5 (message_slots (message_desc (out-MessageDescriptor message.now)) [])) }
+    ensures { OnOk result (members.new ≡ members.old
+        ++ drop 5 (message_slots (message_desc (out-MessageDescriptor message.now)) [])) }
 {
     members.put_list("oneofDecl", &message.oneof_decl)?;
     members.put("options", message.options.to_json(alloc)?)?;

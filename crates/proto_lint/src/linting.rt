@@ -34,7 +34,8 @@ fn add_findings(
     path: &str,
     found: Vec<Found>,
 ) -> Result<(), NoMemory>
-    ensures { OnOk result (map finding_of all.new.items ≡ map finding_of all.old.items ++ map (found_in path.now) (map found_of found.items)) }
+    ensures { OnOk result (map finding_of all.new.items
+        ≡ map finding_of all.old.items ++ map (found_in path.now) (map found_of found.items)) }
 {
     for Found { offset, rule, name } in found {
         let path = String::from_str(alloc, path)?;
@@ -76,7 +77,9 @@ impl<'a> Linter<'a> {
     fn finds_in(&self, alloc: Global, file: u32) -> Result<Vec<Found>, NoMemory>
         requires linter { IsLinter self.now }
         requires file { file < length self.now.files.now }
-        ensures { IfOk result (λ found. (reads : List ReadOf) → AreRead self.now.files.now reads → map found_of found.items ≡ file_finds self.now.rules.now.chosen self.now.files.now reads file) }
+        ensures { IfOk result (λ found. (reads : List ReadOf) → AreRead self.now.files.now reads
+            → map found_of found.items
+            ≡ file_finds self.now.rules.now.chosen self.now.files.now reads file) }
     {
         let Linter {
             files,
@@ -104,7 +107,9 @@ impl<'a> Linter<'a> {
     /// What the rules find, file after file.
     fn findings(&self, alloc: Global) -> Result<Vec<Finding>, NoMemory>
         requires { IsLinter self.now }
-        ensures { IfOk result (λ found. (reads : List ReadOf) → AreRead self.now.files.now reads → map finding_of found.items ≡ findings self.now.rules.now.chosen self.now.files.now reads) }
+        ensures { IfOk result (λ found. (reads : List ReadOf) → AreRead self.now.files.now reads
+            → map finding_of found.items
+            ≡ findings self.now.rules.now.chosen self.now.files.now reads) }
     {
         let mut all = Vec::new(alloc);
         for file in 0..self.files.len() {
@@ -124,7 +129,8 @@ pub fn lint(
     rules: &RuleSet,
 ) -> Result<Vec<Finding>, NoMemory>
     requires { IsLinkOf files.now link.now }
-    ensures { IfOk result (λ found. (reads : List ReadOf) → AreRead files.now reads → IsListingOf (findings rules.now.chosen files.now reads) (map finding_of found.items)) }
+    ensures { IfOk result (λ found. (reads : List ReadOf) → AreRead files.now reads
+        → IsListingOf (findings rules.now.chosen files.now reads) (map finding_of found.items)) }
 {
     let found = Linter::new(alloc, files, link, rules)?.findings(alloc)?;
     Ok(listed(found))

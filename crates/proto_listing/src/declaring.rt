@@ -18,16 +18,27 @@ ghost use Rattle.proto_meaning.specs.Joined.{joined, ArePlain};
 
 /// A tree's declarations nest, and a token declares one symbol, with its entry.
 pub fn trees()
-    ensures stands { (ms : Members) (path : List (Source ℕ)) (p : Placed) → Contains (all_placed path ms) p → (p.above ≡ path) ⊎ ((u : Placed) × Contains (all_placed path ms) u × (p.above ≡ u.above ++ u.last ∷ []) × (holds u.kind p.kind ≡ true)) }
-    ensures one_place { (ms : Members) (path : List (Source ℕ)) (low high d : ℕ) → AllSpan low high ms → (p q : Placed) → Contains (all_placed path ms) p → Contains (all_placed path ms) q → token_of p.last ≡ Some d → token_of q.last ≡ Some d → p.above ≡ q.above }
-    ensures nested { (text : ℕ → List ℕ) (entry : List ℕ → List ℕ) (file : ℕ) (ms : Members) → IsNested (map (symbol_of text entry) (skeleton_of file ms).declared) }
-    ensures woven { (file low high : ℕ) (ms : Members) → AllSpan low high ms → IsWoven (skeleton_of file ms) }
+    ensures stands { (ms : Members) (path : List (Source ℕ)) (p : Placed) → Contains
+        (all_placed path ms) p → (p.above ≡ path) ⊎
+        ((u : Placed) × Contains (all_placed path ms) u
+        × (p.above ≡ u.above ++ u.last ∷ []) × (holds u.kind p.kind ≡ true)) }
+    ensures one_place { (ms : Members) (path : List (Source ℕ)) (low high d : ℕ)
+        → AllSpan low high ms → (p q : Placed) → Contains (all_placed path ms) p → Contains
+        (all_placed path ms) q → token_of p.last
+        ≡ Some d → token_of q.last ≡ Some d → p.above ≡ q.above }
+    ensures nested { (text : ℕ → List ℕ) (entry : List ℕ → List ℕ) (file : ℕ)
+        (ms : Members) → IsNested (map (symbol_of text entry) (skeleton_of file ms).declared) }
+    ensures woven { (file low high : ℕ) (ms : Members)
+        → AllSpan low high ms → IsWoven (skeleton_of file ms) }
 {}
 
 /// The names of many files nest, and each token declares one symbol, with its entry.
 pub fn files()
-    ensures nested { (text : At → List ℕ) (entry : List ℕ → List ℕ) (imports : List Import) (fs : List FileNames) → IsNested (map (symbol_of text entry) (skeleton_of_files imports fs).declared) }
-    ensures woven { (imports : List Import) (fs : List FileNames) → All IsGrown fs → IsWoven (skeleton_of_files imports fs) }
+    ensures nested { (text : At → List ℕ) (entry : List ℕ → List ℕ) (imports : List Import)
+        (fs : List FileNames)
+        → IsNested (map (symbol_of text entry) (skeleton_of_files imports fs).declared) }
+    ensures woven { (imports : List Import) (fs : List FileNames)
+        → All IsGrown fs → IsWoven (skeleton_of_files imports fs) }
 {}
 
 /// The name of a map field's entry is not the field's.
@@ -42,9 +53,13 @@ pub fn names_as_text()
 
 /// A workspace whose names nest is linked exactly where no name and no reference is at fault.
 pub fn links()
-    ensures sound { (text : At → List ℕ) (k : Skeleton At) → IsNested (workspace_of text entry_name k).symbols → ((f : Fault) → NameFault text k.declared f → ⊥) → ((f : Fault) → ReferenceFault text k f → ⊥) → IsLinked (workspace_of text entry_name k) }
-    ensures names { (text : At → List ℕ) (k : Skeleton At) → IsLinked (workspace_of text entry_name k) → (f : Fault) → NameFault text k.declared f → ⊥ }
-    ensures references { (text : At → List ℕ) (k : Skeleton At) → IsLinked (workspace_of text entry_name k) → (f : Fault) → ReferenceFault text k f → ⊥ }
+    ensures sound { (text : At → List ℕ) (k : Skeleton At) → IsNested
+        (workspace_of text entry_name k).symbols → ((f : Fault) → NameFault text k.declared f → ⊥)
+        → ((f : Fault) → ReferenceFault text k f → ⊥) → IsLinked (workspace_of text entry_name k) }
+    ensures names { (text : At → List ℕ) (k : Skeleton At) → IsLinked
+        (workspace_of text entry_name k) → (f : Fault) → NameFault text k.declared f → ⊥ }
+    ensures references { (text : At → List ℕ) (k : Skeleton At)
+        → IsLinked (workspace_of text entry_name k) → (f : Fault) → ReferenceFault text k f → ⊥ }
 {}
 
 /// The tokens of what a file declares are in order, and each of its references stands in one of its declarations.

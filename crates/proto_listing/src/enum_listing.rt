@@ -15,7 +15,10 @@ use proto_tree::{Enum, EnumItem};
 /// An enum, and its values beside it.
 pub(crate) fn list_enum(listing: &mut Listing, above: Above, names: &Enum) -> Result<(), NoMemory>
     requires { needs above ≤ length listing.old.declared.items }
-    ensures { OnOk result (Adds listing.old listing.new above (λ path. beside path names.now.name Kind.Enum Kind.Value (picked value_names no_names (trees enum_item_tree names.now.members.items))) (λ path. [])) }
+    ensures { OnOk result (Adds listing.old listing.new above
+        (λ path. beside path names.now.name Kind.Enum Kind.Value
+        (picked value_names no_names (trees enum_item_tree names.now.members.items)))
+        (λ path. [])) }
 {
     listing.name(above, names.name, Kind::Enum)?;
     list_values(listing, above, &names.members)
@@ -23,7 +26,9 @@ pub(crate) fn list_enum(listing: &mut Listing, above: Above, names: &Enum) -> Re
 
 fn list_values(listing: &mut Listing, above: Above, items: &[EnumItem]) -> Result<(), NoMemory>
     requires { needs above ≤ length listing.old.declared.items }
-    ensures { OnOk result (Adds listing.old listing.new above (λ path. map (λ i. place path (Token i) Kind.Value) (picked value_names no_names (trees enum_item_tree items.now))) (λ path. [])) }
+    ensures { OnOk result (Adds listing.old listing.new above
+        (λ path. map (λ i. place path (Token i) Kind.Value)
+        (picked value_names no_names (trees enum_item_tree items.now))) (λ path. [])) }
 {
     for item in items {
         list_value(listing, above, item)?;
@@ -33,7 +38,9 @@ fn list_values(listing: &mut Listing, above: Above, items: &[EnumItem]) -> Resul
 
 fn list_value(listing: &mut Listing, above: Above, item: &EnumItem) -> Result<(), NoMemory>
     requires { needs above ≤ length listing.old.declared.items }
-    ensures { OnOk result (Adds listing.old listing.new above (λ path. map (λ i. place path (Token i) Kind.Value) (picked value_names no_names (enum_item_tree item.now))) (λ path. [])) }
+    ensures { OnOk result (Adds listing.old listing.new above
+        (λ path. map (λ i. place path (Token i) Kind.Value)
+        (picked value_names no_names (enum_item_tree item.now))) (λ path. [])) }
 {
     if let EnumItem::Value(value) = item {
         listing.name(above, value.name, Kind::Value)?;

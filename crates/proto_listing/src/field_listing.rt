@@ -19,7 +19,8 @@ fn list_type<'a>(
     kind: &'a FieldType,
 ) -> Result<(), NoMemory>
     requires { scope < length listing.old.declared.items }
-    ensures { OnOk result (Adds listing.old listing.new (Below scope) (λ path. []) (λ path. type_uses path kind.now)) }
+    ensures { OnOk result (Adds listing.old listing.new
+        (Below scope) (λ path. []) (λ path. type_uses path kind.now)) }
 {
     match kind {
         FieldType::Scalar(_) => Ok(()),
@@ -33,7 +34,9 @@ pub(crate) fn list_field<'a>(
     field: &'a Field,
 ) -> Result<(), NoMemory>
     requires { scope < length listing.old.declared.items }
-    ensures { OnOk result (Adds listing.old listing.new (Below scope) (λ path. place path (Token field.now.name) Kind.Field ∷ []) (λ path. type_uses path field.now.kind)) }
+    ensures { OnOk result (Adds listing.old listing.new (Below scope)
+        (λ path. place path (Token field.now.name) Kind.Field ∷ [])
+        (λ path. type_uses path field.now.kind)) }
 {
     listing.name(Above::Below(scope), field.name, Kind::Field)?;
     list_type(listing, scope, &field.kind)
@@ -46,7 +49,8 @@ pub(crate) fn list_map_field<'a>(
     field: &'a MapField,
 ) -> Result<(), NoMemory>
     requires { scope < length listing.old.declared.items }
-    ensures { OnOk result (Adds listing.old listing.new (Below scope) (λ path. placed path (map_field field.now.name)) (λ path. type_uses path field.now.value)) }
+    ensures { OnOk result (Adds listing.old listing.new (Below scope)
+        (λ path. placed path (map_field field.now.name)) (λ path. type_uses path field.now.value)) }
 {
     listing.name(Above::Below(scope), field.name, Kind::Field)?;
     list_entry(listing, scope, field.name)?;
@@ -55,7 +59,10 @@ pub(crate) fn list_map_field<'a>(
 
 fn list_entry(listing: &mut Listing, scope: usize, token: u32) -> Result<(), NoMemory>
     requires { scope < length listing.old.declared.items }
-    ensures { OnOk result (Adds listing.old listing.new (Below scope) (λ path. place path (EntryOf token) Kind.Entry ∷ place (path ++ EntryOf token ∷ []) (Given key_word) Kind.EntryField ∷ place (path ++ EntryOf token ∷ []) (Given value_word) Kind.EntryField ∷ []) (λ path. [])) }
+    ensures { OnOk result (Adds listing.old listing.new (Below scope)
+        (λ path. place path (EntryOf token) Kind.Entry ∷ place (path ++ EntryOf token ∷ [])
+        (Given key_word) Kind.EntryField ∷ place
+        (path ++ EntryOf token ∷ []) (Given value_word) Kind.EntryField ∷ []) (λ path. [])) }
 {
     let index = listing.add(Listed {
         above: Above::Below(scope),
@@ -85,7 +92,10 @@ pub(crate) fn list_oneof<'a>(
     oneof: &'a Oneof,
 ) -> Result<(), NoMemory>
     requires { scope < length listing.old.declared.items }
-    ensures { OnOk result (Adds listing.old listing.new (Below scope) (λ path. beside path oneof.now.name Kind.Oneof Kind.Field (picked field_names no_names (trees field_tree oneof.now.members.items))) (λ path. flat_uses path (trees field_tree oneof.now.members.items))) }
+    ensures { OnOk result (Adds listing.old listing.new (Below scope)
+        (λ path. beside path oneof.now.name Kind.Oneof Kind.Field
+        (picked field_names no_names (trees field_tree oneof.now.members.items)))
+        (λ path. flat_uses path (trees field_tree oneof.now.members.items))) }
 {
     listing.name(Above::Below(scope), oneof.name, Kind::Oneof)?;
     list_fields(listing, scope, &oneof.members)
@@ -97,7 +107,10 @@ fn list_fields<'a>(
     fields: &'a [Field],
 ) -> Result<(), NoMemory>
     requires { scope < length listing.old.declared.items }
-    ensures { OnOk result (Adds listing.old listing.new (Below scope) (λ path. map (λ i. place path (Token i) Kind.Field) (picked field_names no_names (trees field_tree fields.now))) (λ path. flat_uses path (trees field_tree fields.now))) }
+    ensures { OnOk result (Adds listing.old listing.new (Below scope)
+        (λ path. map (λ i. place path (Token i) Kind.Field)
+        (picked field_names no_names (trees field_tree fields.now)))
+        (λ path. flat_uses path (trees field_tree fields.now))) }
 {
     for field in fields {
         list_field(listing, scope, field)?;

@@ -22,8 +22,11 @@ use std::alloc::Global;
 /// What a file declares, its package first, and what it refers to.
 pub fn list_file<'a>(alloc: Global, file: &'a File) -> Result<Listing<'a>, NoMemory>
     ensures sound { IfOk result IsSound }
-    ensures declared { IfOk result (λ l. read l.declared.items ≡ package_first (items_in (tree_of_file file.now))) }
-    ensures same { IfOk result (λ l. (low high : ℕ) → ItemsSpan low high (items_in (tree_of_file file.now)) → (p : Placed) → Contains (read l.declared.items) p ↔ Contains (file_placed (items_in (tree_of_file file.now))) p) }
+    ensures declared { IfOk result
+        (λ l. read l.declared.items ≡ package_first (items_in (tree_of_file file.now))) }
+    ensures same { IfOk result (λ l. (low high : ℕ) → ItemsSpan low high
+        (items_in (tree_of_file file.now)) → (p : Placed) → Contains
+        (read l.declared.items) p ↔ Contains (file_placed (items_in (tree_of_file file.now))) p) }
     ensures used { IfOk result (λ l. uses_in l ≡ (file_names (tree_of_file file.now)).used) }
 {
     let words = package(alloc, file)?;
@@ -35,8 +38,10 @@ pub fn list_file<'a>(alloc: Global, file: &'a File) -> Result<Listing<'a>, NoMem
 
 /// A package, word below word; answers what stands right below it.
 fn list_package(listing: &mut Listing, words: &[u32]) -> Result<Above, NoMemory>
-    ensures adds { OnOk result (Adds listing.old listing.new Outermost (λ path. prefixes path words.now) (λ path. [])) }
-    ensures above { IfOk result (λ above. (needs above ≤ length listing.new.declared.items) × (path_at (read listing.new.declared.items) above ≡ map (λ t. Token t) words.now)) }
+    ensures adds { OnOk result (Adds listing.old listing.new Outermost
+        (λ path. prefixes path words.now) (λ path. [])) }
+    ensures above { IfOk result (λ above. (needs above ≤ length listing.new.declared.items)
+        × (path_at (read listing.new.declared.items) above ≡ map (λ t. Token t) words.now)) }
 {
     let mut above = Above::Outermost;
     for word in words {
@@ -52,7 +57,9 @@ fn list_items<'a>(
     items: &'a [Item],
 ) -> Result<(), NoMemory>
     requires { needs above ≤ length listing.old.declared.items }
-    ensures { OnOk result (Adds listing.old listing.new above (λ path. items_below path (items_in (trees item_tree items.now))) (λ path. item_uses path (trees item_tree items.now))) }
+    ensures { OnOk result (Adds listing.old listing.new above
+        (λ path. items_below path (items_in (trees item_tree items.now)))
+        (λ path. item_uses path (trees item_tree items.now))) }
 {
     for item in items {
         list_item(listing, above, item)?;
@@ -62,7 +69,9 @@ fn list_items<'a>(
 
 fn list_item<'a>(listing: &mut Listing<'a>, above: Above, item: &'a Item) -> Result<(), NoMemory>
     requires { needs above ≤ length listing.old.declared.items }
-    ensures { OnOk result (Adds listing.old listing.new above (λ path. items_below path (items_in (item_tree item.now))) (λ path. item_uses path (item_tree item.now))) }
+    ensures { OnOk result (Adds listing.old listing.new above
+        (λ path. items_below path (items_in (item_tree item.now)))
+        (λ path. item_uses path (item_tree item.now))) }
 {
     match item {
         Item::Message(message) => list_message(listing, above, message),

@@ -70,9 +70,12 @@ impl<'a> Listing<'a> {
     /// Adds an entry; answers its index.
     pub fn add(&mut self, entry: Listed) -> Result<usize, NoMemory>
         requires within { needs entry.above ≤ length self.old.declared.items }
-        requires token { last_token (whole (seen (path_at (read self.old.declared.items) entry.above) entry)) ≡ Some entry.token }
-        ensures index { IfOk result (λ k. (k ≡ length self.old.declared.items) × (k < length self.new.declared.items)) }
-        ensures adds { OnOk result (Adds self.old self.new entry.above (λ path. seen path entry ∷ []) (λ path. [])) }
+        requires token { last_token (whole
+            (seen (path_at (read self.old.declared.items) entry.above) entry)) ≡ Some entry.token }
+        ensures index { IfOk result (λ k. (k ≡ length self.old.declared.items)
+            × (k < length self.new.declared.items)) }
+        ensures adds { OnOk result (Adds self.old self.new entry.above
+            (λ path. seen path entry ∷ []) (λ path. [])) }
     {
         let index = self.declared.len();
         self.declared.push(entry)?;
@@ -82,8 +85,10 @@ impl<'a> Listing<'a> {
     /// Adds a declaration whose last word is the text of its token; answers its index.
     pub fn name(&mut self, above: Above, token: u32, kind: Kind) -> Result<usize, NoMemory>
         requires { needs above ≤ length self.old.declared.items }
-        ensures index { IfOk result (λ k. (k ≡ length self.old.declared.items) × (k < length self.new.declared.items)) }
-        ensures adds { OnOk result (Adds self.old self.new above (λ path. place path (Token token) kind ∷ []) (λ path. [])) }
+        ensures index { IfOk result (λ k. (k ≡ length self.old.declared.items)
+            × (k < length self.new.declared.items)) }
+        ensures adds { OnOk result (Adds self.old self.new above
+            (λ path. place path (Token token) kind ∷ []) (λ path. [])) }
     {
         let word = LastWord::Text;
         self.add(Listed {
@@ -102,7 +107,8 @@ impl<'a> Listing<'a> {
         reference: &'a Reference,
     ) -> Result<(), NoMemory>
         requires { scope < length self.old.declared.items }
-        ensures { OnOk result (Adds self.old self.new (Below scope) (λ path. []) (λ path. used_as path is_method reference.now ∷ [])) }
+        ensures { OnOk result (Adds self.old self.new
+            (Below scope) (λ path. []) (λ path. used_as path is_method reference.now ∷ [])) }
     {
         self.used.push(Use {
             scope,

@@ -23,7 +23,11 @@ pub(crate) fn list_message<'a>(
     message: &'a Message,
 ) -> Result<(), NoMemory>
     requires { needs above ≤ length listing.old.declared.items }
-    ensures { OnOk result (Adds listing.old listing.new above (λ path. placed path (message_of message.now.name (members_in (trees member_tree message.now.members.items)))) (λ path. member_uses (path ++ Token message.now.name ∷ []) (trees member_tree message.now.members.items))) }
+    ensures { OnOk result (Adds listing.old listing.new above
+        (λ path. placed path (message_of message.now.name
+        (members_in (trees member_tree message.now.members.items))))
+        (λ path. member_uses (path ++ Token message.now.name ∷ [])
+        (trees member_tree message.now.members.items))) }
 {
     let index = listing.name(above, message.name, Kind::Message)?;
     list_members(listing, index, &message.members)
@@ -36,7 +40,9 @@ fn list_members<'a>(
     members: &'a [Member],
 ) -> Result<(), NoMemory>
     requires { scope < length listing.old.declared.items }
-    ensures { OnOk result (Adds listing.old listing.new (Below scope) (λ path. all_placed path (members_in (trees member_tree members.now))) (λ path. member_uses path (trees member_tree members.now))) }
+    ensures { OnOk result (Adds listing.old listing.new (Below scope)
+        (λ path. all_placed path (members_in (trees member_tree members.now)))
+        (λ path. member_uses path (trees member_tree members.now))) }
 {
     for member in members {
         list_member(listing, scope, member)?;
@@ -51,7 +57,9 @@ fn list_member<'a>(
     member: &'a Member,
 ) -> Result<(), NoMemory>
     requires { scope < length listing.old.declared.items }
-    ensures { OnOk result (Adds listing.old listing.new (Below scope) (λ path. all_placed path (members_in (member_tree member.now))) (λ path. member_uses path (member_tree member.now))) }
+    ensures { OnOk result (Adds listing.old listing.new (Below scope)
+        (λ path. all_placed path (members_in (member_tree member.now)))
+        (λ path. member_uses path (member_tree member.now))) }
 {
     match member {
         Member::Field(field) => list_field(listing, scope, field),

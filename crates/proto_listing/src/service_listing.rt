@@ -20,7 +20,11 @@ pub(crate) fn list_service<'a>(
     service: &'a Service,
 ) -> Result<(), NoMemory>
     requires { needs above ≤ length listing.old.declared.items }
-    ensures { OnOk result (Adds listing.old listing.new above (λ path. placed path (service_of service.now.name (picked method_names block_names (trees service_item_tree service.now.members.items)))) (λ path. flat_uses (path ++ Token service.now.name ∷ []) (trees service_item_tree service.now.members.items))) }
+    ensures { OnOk result (Adds listing.old listing.new above
+        (λ path. placed path (service_of service.now.name
+        (picked method_names block_names (trees service_item_tree service.now.members.items))))
+        (λ path. flat_uses (path ++ Token service.now.name ∷ [])
+        (trees service_item_tree service.now.members.items))) }
 {
     let index = listing.name(above, service.name, Kind::Service)?;
     list_methods(listing, index, &service.members)
@@ -32,7 +36,10 @@ fn list_methods<'a>(
     items: &'a [ServiceItem],
 ) -> Result<(), NoMemory>
     requires { scope < length listing.old.declared.items }
-    ensures { OnOk result (Adds listing.old listing.new (Below scope) (λ path. map (λ i. place path (Token i) Kind.Method) (picked method_names block_names (trees service_item_tree items.now))) (λ path. flat_uses path (trees service_item_tree items.now))) }
+    ensures { OnOk result (Adds listing.old listing.new (Below scope)
+        (λ path. map (λ i. place path (Token i) Kind.Method)
+        (picked method_names block_names (trees service_item_tree items.now)))
+        (λ path. flat_uses path (trees service_item_tree items.now))) }
 {
     for item in items {
         list_service_item(listing, scope, item)?;
@@ -46,7 +53,10 @@ fn list_service_item<'a>(
     item: &'a ServiceItem,
 ) -> Result<(), NoMemory>
     requires { scope < length listing.old.declared.items }
-    ensures { OnOk result (Adds listing.old listing.new (Below scope) (λ path. map (λ i. place path (Token i) Kind.Method) (picked method_names block_names (service_item_tree item.now))) (λ path. flat_uses path (service_item_tree item.now))) }
+    ensures { OnOk result (Adds listing.old listing.new (Below scope)
+        (λ path. map (λ i. place path (Token i) Kind.Method)
+        (picked method_names block_names (service_item_tree item.now)))
+        (λ path. flat_uses path (service_item_tree item.now))) }
 {
     match item {
         ServiceItem::Method(method) => list_method(listing, scope, method),
@@ -60,7 +70,9 @@ fn list_method<'a>(
     method: &'a Method,
 ) -> Result<(), NoMemory>
     requires { scope < length listing.old.declared.items }
-    ensures { OnOk result (Adds listing.old listing.new (Below scope) (λ path. place path (Token method.now.signature.name) Kind.Method ∷ []) (λ path. signature_uses path method.now.signature)) }
+    ensures { OnOk result (Adds listing.old listing.new (Below scope)
+        (λ path. place path (Token method.now.signature.name) Kind.Method ∷ [])
+        (λ path. signature_uses path method.now.signature)) }
 {
     let signature = &method.signature;
     listing.name(Above::Below(scope), signature.name, Kind::Method)?;

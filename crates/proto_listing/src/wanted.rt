@@ -33,7 +33,8 @@ fn import(item: &Item) -> Option<Wanted>
 /// The imports of a file, in order.
 #[tactic(auto, using(crate::proofs::Behind::imports_joined))]
 pub fn imports(alloc: Global, file: &File) -> Result<Vec<Wanted>, NoMemory>
-    ensures { IfOk result (λ found. map wanted_of found.items ≡ imports_in (tree_of_file file.now)) }
+    ensures { IfOk result (λ found. map wanted_of found.items
+        ≡ imports_in (tree_of_file file.now)) }
 {
     let mut found = Vec::new(alloc);
     for item in &file.items {
@@ -45,7 +46,8 @@ pub fn imports(alloc: Global, file: &File) -> Result<Vec<Wanted>, NoMemory>
 }
 
 fn package_name(item: &Item) -> Option<&Dotted>
-    ensures { MatchOption result (package_of (items_in (item_tree item.now)) ≡ []) (λ name. package_of (items_in (item_tree item.now)) ≡ dotted name.now) }
+    ensures { MatchOption result (package_of (items_in (item_tree item.now)) ≡ [])
+        (λ name. package_of (items_in (item_tree item.now)) ≡ dotted name.now) }
 {
     match item {
         Item::Package(package) => Some(&package.name),

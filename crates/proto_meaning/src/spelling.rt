@@ -9,15 +9,30 @@ ghost use Rattle.proto_meaning.specs.Skeleton.{Source, Declared, Used, Means, Sk
 
 /// What the edited words spell is the renamed workspace, and it is linked again.
 pub fn edits_words<X>()
-    ensures spelled { (text text_after : X → List ℕ) (entry : List ℕ → List ℕ) (k : Skeleton X) (token : X) (above : List (Source X)) (aim : Declared X) (is_map : Bool) (to : List ℕ) → IsLinked (workspace_of text entry k) → IsWoven k → IsAim k token above aim → IsAimEntry k token above is_map → IsRespelled text text_after entry k token (renaming_of text entry token above is_map to) → ((w : List ℕ) → entry w ≢ w)
+    ensures spelled { (text text_after : X → List ℕ) (entry : List ℕ → List ℕ) (k : Skeleton X)
+        (token : X) (above : List (Source X)) (aim : Declared X) (is_map : Bool) (to : List ℕ)
+        → IsLinked (workspace_of text entry k) → IsWoven k → IsAim k token above aim
+        → IsAimEntry k token above is_map → IsRespelled text text_after entry k token
+        (renaming_of text entry token above is_map to) → ((w : List ℕ) → entry w ≢ w)
         → workspace_of text_after entry k ≡ renamed (renaming_of text entry token above is_map to) (workspace_of text entry k) }
-    ensures linked { (text text_after : X → List ℕ) (entry : List ℕ → List ℕ) (k : Skeleton X) (token : X) (above : List (Source X)) (aim : Declared X) (is_map : Bool) (to : List ℕ) → IsLinked (workspace_of text entry k) → IsWoven k → IsAim k token above aim → IsAimEntry k token above is_map → IsRespelled text text_after entry k token (renaming_of text entry token above is_map to) → ((w : List ℕ) → entry w ≢ w)
+    ensures linked { (text text_after : X → List ℕ) (entry : List ℕ → List ℕ) (k : Skeleton X)
+        (token : X) (above : List (Source X)) (aim : Declared X) (is_map : Bool) (to : List ℕ)
+        → IsLinked (workspace_of text entry k) → IsWoven k → IsAim k token above aim
+        → IsAimEntry k token above is_map → IsRespelled text text_after entry k token
+        (renaming_of text entry token above is_map to) → ((w : List ℕ) → entry w ≢ w)
         → IsFree (renaming_of text entry token above is_map to) (workspace_of text entry k) → IsLinked (workspace_of text_after entry k) }
-    ensures means { (text text_after : X → List ℕ) (entry : List ℕ → List ℕ) (k : Skeleton X) (token : X) (above : List (Source X)) (aim : Declared X) (is_map : Bool) (to : List ℕ) → IsLinked (workspace_of text entry k) → IsWoven k → IsAim k token above aim → IsAimEntry k token above is_map → IsRespelled text text_after entry k token (renaming_of text entry token above is_map to) → ((w : List ℕ) → entry w ≢ w)
+    ensures means { (text text_after : X → List ℕ) (entry : List ℕ → List ℕ) (k : Skeleton X)
+        (token : X) (above : List (Source X)) (aim : Declared X) (is_map : Bool) (to : List ℕ)
+        → IsLinked (workspace_of text entry k) → IsWoven k → IsAim k token above aim
+        → IsAimEntry k token above is_map → IsRespelled text text_after entry k token
+        (renaming_of text entry token above is_map to) → ((w : List ℕ) → entry w ≢ w)
         → IsFree (renaming_of text entry token above is_map to) (workspace_of text entry k) → (u : Used X) (d : Declared X) → Contains k.used u → Contains k.declared d → Means text entry k u d ↔ Means text_after entry k u d }
 {}
 
 /// An import that comes in or goes changes the imports alone.
 pub fn edits_imports<X, Y>()
-    ensures { (f : X → Y) (text : X → List ℕ) (text_after : Y → List ℕ) (entry : List ℕ → List ℕ) → ((i : X) → text_after (f i) ≡ text i) → (imports : List Import) (k : Skeleton X) → workspace_of text_after entry (shifted f imports k) ≡ with_imports (workspace_of text entry k) imports }
+    ensures { (f : X → Y) (text : X → List ℕ) (text_after : Y → List ℕ) (entry : List ℕ → List ℕ) →
+        ((i : X) → text_after (f i) ≡ text i) → (imports : List Import) (k : Skeleton X)
+        → workspace_of text_after entry (shifted f imports k)
+        ≡ with_imports (workspace_of text entry k) imports }
 {}

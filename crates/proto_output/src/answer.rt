@@ -25,9 +25,11 @@ pub enum Answer {
 
 /// Writes what an answer prints, and tells how the command ends. It takes no memory.
 pub fn write_answer<W: Write>(writer: &mut W, answer: &Answer) -> Result<Status, OutputFault>
-    ensures ok { IfOk result (λ status. Appends (W.contents writer.old) (W.contents writer.new) (text_of answer.now)
+    ensures ok { IfOk result (λ status. Appends
+        (W.contents writer.old) (W.contents writer.new) (text_of answer.now)
         × (status ≡ status_of answer.now)) }
-    ensures err { OnErr result (AppendsBeginning (W.contents writer.old) (W.contents writer.new) (text_of answer.now)) }
+    ensures err { OnErr result (AppendsBeginning
+        (W.contents writer.old) (W.contents writer.new) (text_of answer.now)) }
 {
     match answer {
         Answer::Text(text, status) => {

@@ -18,15 +18,19 @@ use std::io::Write;
 
 /// Writes a line for each file that an entry changed, ended by a line feed: `changed PATH`. It takes no memory.
 pub fn write_changed<W: Write>(writer: &mut W, entry: &Entry) -> Result<(), OutputFault>
-    ensures ok { OnOk result (Appends (W.contents writer.old) (W.contents writer.new) (changed_lines entry.now)) }
-    ensures err { OnErr result (AppendsBeginning (W.contents writer.old) (W.contents writer.new) (changed_lines entry.now)) }
+    ensures ok { OnOk result (Appends (W.contents writer.old)
+        (W.contents writer.new) (changed_lines entry.now)) }
+    ensures err { OnErr result (AppendsBeginning
+        (W.contents writer.old) (W.contents writer.new) (changed_lines entry.now)) }
 {
     write_changes(writer, entry.changes())
 }
 
 fn write_changes<W: Write>(writer: &mut W, changes: &[Change]) -> Result<(), OutputFault>
-    ensures ok { OnOk result (Appends (W.contents writer.old) (W.contents writer.new) (changed_lines (map change_of changes.now))) }
-    ensures err { OnErr result (AppendsBeginning (W.contents writer.old) (W.contents writer.new) (changed_lines (map change_of changes.now))) }
+    ensures ok { OnOk result (Appends (W.contents writer.old)
+        (W.contents writer.new) (changed_lines (map change_of changes.now))) }
+    ensures err { OnErr result (AppendsBeginning (W.contents writer.old)
+        (W.contents writer.new) (changed_lines (map change_of changes.now))) }
 {
     for change in changes {
         write_change(writer, change)?;
@@ -35,8 +39,10 @@ fn write_changes<W: Write>(writer: &mut W, changes: &[Change]) -> Result<(), Out
 }
 
 fn write_change<W: Write>(writer: &mut W, change: &Change) -> Result<(), OutputFault>
-    ensures ok { OnOk result (Appends (W.contents writer.old) (W.contents writer.new) (changed_line (change_of change.now))) }
-    ensures err { OnErr result (AppendsBeginning (W.contents writer.old) (W.contents writer.new) (changed_line (change_of change.now))) }
+    ensures ok { OnOk result (Appends (W.contents writer.old)
+        (W.contents writer.new) (changed_line (change_of change.now))) }
+    ensures err { OnErr result (AppendsBeginning
+        (W.contents writer.old) (W.contents writer.new) (changed_line (change_of change.now))) }
 {
     write_text(writer, b"changed ")?;
     write_text(writer, change.path.as_str().as_bytes())?;

@@ -21,7 +21,8 @@ pub fn lines_of_findings(
     files: &Files,
     found: &[Finding],
 ) -> Result<String, NoMemory>
-    ensures { IfOk result (λ text. string_bytes text ≡ flat_map (found_line files.now) (map finding_of found.now)) }
+    ensures { IfOk result (λ text. string_bytes text
+        ≡ flat_map (found_line files.now) (map finding_of found.now)) }
 {
     let mut text = String::new(alloc);
     let mut spot = Spot {
@@ -41,7 +42,8 @@ fn add_line(
     finding: &Finding,
     place: Place,
 ) -> Result<(), NoMemory>
-    ensures { OnOk result (string_bytes text.new ≡ string_bytes text.old ++ line_of (finding_of finding.now) place.line place.column) }
+    ensures { OnOk result (string_bytes text.new
+        ≡ string_bytes text.old ++ line_of (finding_of finding.now) place.line place.column) }
 {
     let path = finding.path.as_str();
     let rule = finding.rule.name();
@@ -65,7 +67,8 @@ impl Spot {
         requires { IsCursorIn (file_at files.now self.file).bytes self.cursor }
         ensures there { IsCursorIn (file_at files.now result.file).bytes result.cursor }
         ensures line { result.cursor.place.line ≡ line_at (text_at path.now files.now) offset }
-        ensures column { result.cursor.place.column ≡ column_at (text_at path.now files.now) offset }
+        ensures column { result.cursor.place.column
+            ≡ column_at (text_at path.now files.now) offset }
     {
         let file = file_named(files, self.file, path);
         let cursor = if file == self.file {
@@ -116,7 +119,8 @@ fn file_between(files: &Files, start: usize, end: usize, path: &str) -> Option<u
     requires { end ≤ length files.now }
     ensures within { IfSome result (λ file. file < length files.now) }
     ensures path { IfSome result (λ file. (file_at files.now file).path ≡ path.now) }
-    ensures none { IfNone result ((file : ℕ) → start ≤ file → file < end → (file_at files.now file).path ≢ path.now) }
+    ensures none { IfNone result ((file : ℕ)
+        → start ≤ file → file < end → (file_at files.now file).path ≢ path.now) }
 {
     for file in start..end {
         if files.path(file) == path {

@@ -30,7 +30,8 @@ fn add_record(
     index: usize,
     record: &Record,
 ) -> Result<(), NoMemory>
-    ensures { OnOk result (string_bytes text.new ≡ string_bytes text.old ++ record_line index record.now) }
+    ensures { OnOk result (string_bytes text.new
+        ≡ string_bytes text.old ++ record_line index record.now) }
 {
     let state = state_text(record.state);
     let paths = paths_text(alloc, record.entry.changes())?;

@@ -13,8 +13,10 @@ use std::io::Write;
 
 /// Writes whether a store was recovered, ended by a line feed: `recovered` or `nothing to recover`. It takes no memory.
 pub fn write_recovery<W: Write>(writer: &mut W, recovered: bool) -> Result<(), OutputFault>
-    ensures ok { OnOk result (Appends (W.contents writer.old) (W.contents writer.new) (recovery_line recovered)) }
-    ensures err { OnErr result (AppendsBeginning (W.contents writer.old) (W.contents writer.new) (recovery_line recovered)) }
+    ensures ok { OnOk result (Appends (W.contents writer.old)
+        (W.contents writer.new) (recovery_line recovered)) }
+    ensures err { OnErr result (AppendsBeginning
+        (W.contents writer.old) (W.contents writer.new) (recovery_line recovered)) }
 {
     write_text(writer, recovery_text(recovered).as_bytes())
 }

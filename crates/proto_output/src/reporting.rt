@@ -21,8 +21,10 @@ use std::alloc::Global;
 /// memory runs out; the store is as before.
 pub fn reported<S: Store>(alloc: Global, store: &mut S, fault: &Fault) -> Result<Answer, RunFault>
     requires room { S.failure_count store.old < 2 ^ 64 - 1 }
-    requires listed { 0 < fault.now.offset → IsListed (S.holds store.old) (string_bytes fault.now.path) }
-    ensures text { IfOk result (λ answer. IsLineOver (S.holds store.old) (fault_at fault.now) (text_of answer)) }
+    requires listed { 0 < fault.now.offset → IsListed
+        (S.holds store.old) (string_bytes fault.now.path) }
+    ensures text { IfOk result (λ answer. IsLineOver
+        (S.holds store.old) (fault_at fault.now) (text_of answer)) }
     ensures status { IfOk result (λ answer. status_of answer ≡ Status.Problem) }
     ensures unwritten { IsErrOf result RunFault.Output → ⊥ }
     ensures same { S.holds store.new ≡ S.holds store.old }
@@ -36,8 +38,10 @@ pub fn reported<S: Store>(alloc: Global, store: &mut S, fault: &Fault) -> Result
 // The place of a fault. The file is read for it, where the offset alone does not tell it.
 fn place_of<S: Store>(store: &mut S, fault: &Fault) -> Result<Place, StoreFault>
     requires room { S.failure_count store.old < 2 ^ 64 - 1 }
-    requires listed { 0 < fault.now.offset → IsListed (S.holds store.old) (string_bytes fault.now.path) }
-    ensures place { IfOk result (λ place. IsPlaceOver (S.holds store.old) (fault_at fault.now) place.line place.column) }
+    requires listed { 0 < fault.now.offset → IsListed
+        (S.holds store.old) (string_bytes fault.now.path) }
+    ensures place { IfOk result (λ place. IsPlaceOver
+        (S.holds store.old) (fault_at fault.now) place.line place.column) }
     ensures same { S.holds store.new ≡ S.holds store.old }
     ensures count { Counts (S.failure_count store.old) (S.failure_count store.new) result }
 {

@@ -15,7 +15,8 @@ pub struct OutputFault;
 /// Writes the whole text, in as many calls as it takes.
 pub fn write_text<W: Write>(writer: &mut W, text: &[u8]) -> Result<(), OutputFault>
     ensures ok { OnOk result (Appends (W.contents writer.old) (W.contents writer.new) text.now) }
-    ensures err { OnErr result (AppendsBeginning (W.contents writer.old) (W.contents writer.new) text.now) }
+    ensures err { OnErr result (AppendsBeginning
+        (W.contents writer.old) (W.contents writer.new) text.now) }
 {
     let mut rest = text;
     while !rest.is_empty() {

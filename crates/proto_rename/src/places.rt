@@ -21,7 +21,8 @@ use std::alloc::Global;
 
 /// The token, if it is one of this file.
 fn push_own(places: &mut Vec<u32>, aim: Aim, file: u32) -> Result<(), NoMemory>
-    ensures { OnOk result (places.new.items ≡ places.old.items ++ or_own aim.entry.file aim.entry.token file) }
+    ensures { OnOk result (places.new.items ≡ places.old.items
+        ++ or_own aim.entry.file aim.entry.token file) }
 {
     if aim.file == file {
         places.push(aim.token)?;

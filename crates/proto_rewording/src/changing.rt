@@ -111,7 +111,8 @@ fn marked(alloc: Global, tokens: &[Token], marks: &[bool]) -> Result<Vec<Token>,
 }
 
 fn push_if(found: &mut Vec<Token>, is_marked: bool, token: Token) -> Result<(), NoMemory>
-    ensures { OnOk result (found.new.items ≡ found.old.items ++ (if is_marked then token ∷ [] else [])) }
+    ensures { OnOk result (found.new.items ≡ found.old.items
+        ++ (if is_marked then token ∷ [] else [])) }
 {
     if is_marked {
         found.push(token)?;
@@ -180,7 +181,8 @@ fn push_splice(
     to: &str,
 ) -> Result<(), NoMemory>
     requires { IsSpan source.now token.span }
-    ensures { OnOk result (edits list.new.items ≡ edits list.old.items ++ word_put source.now to.now token ∷ []) }
+    ensures { OnOk result (edits list.new.items
+        ≡ edits list.old.items ++ word_put source.now to.now token ∷ []) }
 {
     list.push(Splice {
         at: token.span.start,

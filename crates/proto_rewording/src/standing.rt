@@ -52,7 +52,8 @@ fn standing_words(
     meant: &[Meant],
 ) -> Result<Vec<u32>, NoMemory>
     requires { length meant.now ≡ length uses.now }
-    ensures { IfOk result (λ found. found.items ≡ standing_tokens link.now name.now uses.now meant.now) }
+    ensures { IfOk result (λ found. found.items
+        ≡ standing_tokens link.now name.now uses.now meant.now) }
 {
     let mut found = Vec::new(alloc);
     for (place, used) in uses.iter().enumerate() {

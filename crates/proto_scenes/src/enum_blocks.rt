@@ -11,7 +11,8 @@ use std::alloc::Global;
 #[cycle(enums)]
 #[tactic(auto, using(crate::proofs::EnumTrees::enums_joined))]
 fn push_members<'a>(found: &mut Vec<&'a Enum>, members: &'a [Member]) -> Result<(), NoMemory>
-    ensures { OnOk result (map (λ e. enum_block e.now) found.new.items ≡ map (λ e. enum_block e.now) found.old.items ++ enums_in (trees member_tree members.now)) }
+    ensures { OnOk result (map (λ e. enum_block e.now) found.new.items
+        ≡ map (λ e. enum_block e.now) found.old.items ++ enums_in (trees member_tree members.now)) }
 {
     for member in members {
         push_member(found, member)?;
@@ -22,7 +23,8 @@ fn push_members<'a>(found: &mut Vec<&'a Enum>, members: &'a [Member]) -> Result<
 #[cycle(enums)]
 #[tactic(auto, using(crate::proofs::EnumTrees::enum_alone, crate::proofs::EnumTrees::message_enums, crate::proofs::EnumTrees::oneof_enums))]
 fn push_member<'a>(found: &mut Vec<&'a Enum>, member: &'a Member) -> Result<(), NoMemory>
-    ensures { OnOk result (map (λ e. enum_block e.now) found.new.items ≡ map (λ e. enum_block e.now) found.old.items ++ enums_in (member_tree member.now)) }
+    ensures { OnOk result (map (λ e. enum_block e.now) found.new.items
+        ≡ map (λ e. enum_block e.now) found.old.items ++ enums_in (member_tree member.now)) }
 {
     match member {
         Member::Enum(enumeration) => found.push(enumeration)?,
@@ -35,7 +37,8 @@ fn push_member<'a>(found: &mut Vec<&'a Enum>, member: &'a Member) -> Result<(), 
 
 #[tactic(auto, using(crate::proofs::EnumTrees::enum_alone, crate::proofs::EnumTrees::message_enums, crate::proofs::EnumTrees::oneof_enums, crate::proofs::EnumTrees::service_enums))]
 fn push_item<'a>(found: &mut Vec<&'a Enum>, item: &'a Item) -> Result<(), NoMemory>
-    ensures { OnOk result (map (λ e. enum_block e.now) found.new.items ≡ map (λ e. enum_block e.now) found.old.items ++ enums_in (item_tree item.now)) }
+    ensures { OnOk result (map (λ e. enum_block e.now) found.new.items
+        ≡ map (λ e. enum_block e.now) found.old.items ++ enums_in (item_tree item.now)) }
 {
     match item {
         Item::Enum(enumeration) => found.push(enumeration)?,
@@ -49,7 +52,8 @@ fn push_item<'a>(found: &mut Vec<&'a Enum>, item: &'a Item) -> Result<(), NoMemo
 /// The enums of a file, in order.
 #[tactic(auto, using(crate::proofs::EnumTrees::enums_joined))]
 pub(crate) fn enums_of<'a>(alloc: Global, file: &'a File) -> Result<Vec<&'a Enum>, NoMemory>
-    ensures { IfOk result (λ found. map (λ e. enum_block e.now) found.items ≡ enums_in (tree_of_file file.now)) }
+    ensures { IfOk result (λ found. map (λ e. enum_block e.now) found.items
+        ≡ enums_in (tree_of_file file.now)) }
 {
     let mut found = Vec::new(alloc);
     for item in &file.items {

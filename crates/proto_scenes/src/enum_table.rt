@@ -43,7 +43,8 @@ fn starts_past_zero(words: &Words, values: &[&Value]) -> bool
 }
 
 fn names<'a>(alloc: Global, words: &Words<'a>, values: &[&Value]) -> Result<Vec<&'a str>, NoMemory>
-    ensures { IfOk result (λ names. map (λ n. n.now) names.items ≡ map (λ v. word_at words.now v.name) (map (λ v. v.now) values.now)) }
+    ensures { IfOk result (λ names. map (λ n. n.now) names.items
+        ≡ map (λ v. word_at words.now v.name) (map (λ v. v.now) values.now)) }
 {
     let mut names = Vec::new(alloc);
     for value in values {
@@ -58,7 +59,8 @@ fn row<'a>(
     is_proto3: bool,
     items: &[EnumItem],
 ) -> Result<EnumRow<'a>, NoMemory>
-    ensures { IfOk result (λ r. enum_of_row r ≡ enum_within words.now is_proto3 (trees enum_item_tree items.now)) }
+    ensures { IfOk result (λ r. enum_of_row r
+        ≡ enum_within words.now is_proto3 (trees enum_item_tree items.now)) }
 {
     let values = values(alloc, items)?;
     let starts_past_zero = starts_past_zero(words, &values);
@@ -79,7 +81,8 @@ fn add<'a>(
     is_proto3: bool,
     enumeration: &Enum,
 ) -> Result<(), NoMemory>
-    ensures { OnOk result ((blocks : List BlockOf) → AreEnumsOf words.now is_proto3 blocks rows.old → AreEnumsOf words.now is_proto3 (blocks ++ enum_block enumeration.now ∷ []) rows.new) }
+    ensures { OnOk result ((blocks : List BlockOf) → AreEnumsOf words.now is_proto3 blocks rows.old
+        → AreEnumsOf words.now is_proto3 (blocks ++ enum_block enumeration.now ∷ []) rows.new) }
 {
     if !rows.contains_key(&enumeration.name) {
         let row = row(alloc, words, is_proto3, &enumeration.members)?;
@@ -96,7 +99,8 @@ fn file_enums<'a>(
     is_proto3: bool,
     file: &File,
 ) -> Result<IndexMap<u32, EnumRow<'a>>, NoMemory>
-    ensures { IfOk result (λ rows. AreEnumsOf words.now is_proto3 (blocks_in (tree_of_file file.now)) rows) }
+    ensures { IfOk result (λ rows. AreEnumsOf words.now is_proto3
+        (blocks_in (tree_of_file file.now)) rows) }
 {
     let enums = enums_of(alloc, file)?;
     let mut rows = IndexMap::new(alloc);

@@ -50,7 +50,8 @@ fn means<'a>(
     file: u32,
 ) -> Result<Vec<MeantAt<'a>>, NoMemory>
     ensures rising { IfOk result (λ means. AllPairs (λ m n. m.token < n.token) means.items) }
-    ensures means { IfOk result (λ means. map meant_of means.items ≡ map (meant_in_table link.now (enum_in table.now)) (get_or link.now.meant file [])) }
+    ensures means { IfOk result (λ means. map meant_of means.items
+        ≡ map (meant_in_table link.now (enum_in table.now)) (get_or link.now.meant file [])) }
 {
     let mut means = Vec::new(alloc);
     for reference in link.meant_in(file) {

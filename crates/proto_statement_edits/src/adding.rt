@@ -51,8 +51,10 @@ fn check_captured(
     requires linked { HasNoFault (LinkFaults files.now) }
     requires file { IsPlaceOf files.now paths.file.now file }
     requires to { IsPlaceOf files.now paths.path.now to }
-    ensures free { IfOk result (λ _. (n : ℕ) → n < 11 → IsAdditionCase files.now paths.entry.file.now paths.entry.path.now n → ⊥) }
-    ensures err { IfErr result (IsAdditionRefusal files.now paths.entry.file.now paths.entry.path.now) }
+    ensures free { IfOk result (λ _. (n : ℕ)
+        → n < 11 → IsAdditionCase files.now paths.entry.file.now paths.entry.path.now n → ⊥) }
+    ensures err { IfErr result
+        (IsAdditionRefusal files.now paths.entry.file.now paths.entry.path.now) }
 {
     are_read(files);
     let seen = seen_with(alloc, files, file, to)?;
@@ -67,9 +69,12 @@ fn check_new(alloc: Global, files: &Files, paths: Paths, file: u32, to: u32) -> 
     requires linked { HasNoFault (LinkFaults files.now) }
     requires file { IsPlaceOf files.now paths.file.now file }
     requires to { IsPlaceOf files.now paths.path.now to }
-    requires before { (n : ℕ) → n < 11 → IsAdditionCase files.now paths.file.now paths.path.now n → ⊥ }
-    ensures free { IfOk result (λ _. (n : ℕ) → n < 15 → IsAdditionCase files.now paths.entry.file.now paths.entry.path.now n → ⊥) }
-    ensures err { IfErr result (IsAdditionRefusal files.now paths.entry.file.now paths.entry.path.now) }
+    requires before { (n : ℕ) → n < 11 → IsAdditionCase files.now paths.file.now paths.path.now n
+        → ⊥ }
+    ensures free { IfOk result (λ _. (n : ℕ)
+        → n < 15 → IsAdditionCase files.now paths.entry.file.now paths.entry.path.now n → ⊥) }
+    ensures err { IfErr result
+        (IsAdditionRefusal files.now paths.entry.file.now paths.entry.path.now) }
 {
     are_read(files);
     if import_named(files, file, paths.path).is_some() {
@@ -101,9 +106,12 @@ fn text_of(alloc: Global, end: Option<u32>, path: &str) -> Result<String, NoMemo
 /// What the import changes, and case 16.
 fn changed(alloc: Global, files: &Files, paths: Paths, file: u32) -> Result<Vec<Change>, Refusal>
     requires file { IsPlaceOf files.now paths.file.now file }
-    requires before { (n : ℕ) → n < 15 → IsAdditionCase files.now paths.file.now paths.path.now n → ⊥ }
-    ensures ok { IfOk result (λ cs. IsAdded files.now paths.entry.file.now paths.entry.path.now (map change_of cs.items)) }
-    ensures err { IfErr result (IsAdditionRefusal files.now paths.entry.file.now paths.entry.path.now) }
+    requires before { (n : ℕ) → n < 15 → IsAdditionCase files.now paths.file.now paths.path.now n
+        → ⊥ }
+    ensures ok { IfOk result (λ cs. IsAdded files.now paths.entry.file.now paths.entry.path.now
+        (map change_of cs.items)) }
+    ensures err { IfErr result
+        (IsAdditionRefusal files.now paths.entry.file.now paths.entry.path.now) }
 {
     are_read(files);
     additions_are_read();

@@ -44,7 +44,8 @@ fn is_field(kind: Option<Kind>) -> bool
 fn field_named(files: &Files, link: &Link, name: &str) -> Result<FieldName, Refusal>
     requires link { IsLinkOf files.now link.now }
     requires linked { HasNoFault (LinkFaults files.now) }
-    ensures field { IfOk result (λ field. (reads : List ReadOf) → AreRead files.now reads → IsFieldToken files.now reads name.now field) }
+    ensures field { IfOk result (λ field. (reads : List ReadOf)
+        → AreRead files.now reads → IsFieldToken files.now reads name.now field) }
     ensures free { IfOk result (λ _. (n : ℕ) → n < 10 → IsDeletionCase files.now name.now n → ⊥) }
     ensures err { IfErr result (IsDeletionRefusal files.now name.now) }
 {
@@ -76,7 +77,8 @@ fn reservation(alloc: Global, number: u64, name: &str) -> Result<String, NoMemor
 fn text_between<'a>(files: &'a Files, file: u32, after: u32, last: u32) -> &'a str
     requires file { file < length files.now }
     requires order { after ≤ last }
-    requires within { (tokens : List Token) → AreTokens (file_at files.now file).bytes tokens → last < length tokens }
+    requires within { (tokens : List Token) → AreTokens
+        (file_at files.now file).bytes tokens → last < length tokens }
     ensures { (tokens : List Token) → AreTokens (file_at files.entry.now file).bytes tokens
         → result.now ≡ bytes_between (file_at files.entry.now file).bytes (end_before tokens (suc after)) (end_before tokens (suc last)) }
 {
@@ -98,7 +100,8 @@ fn text_of(
 ) -> Result<String, NoMemory>
     requires file { file < length files.now }
     requires within { StandsInOrder files.now file place }
-    ensures { IfOk result (λ text. (tokens : List Token) → AreTokens (file_at files.now file).bytes tokens
+    ensures { IfOk result (λ text. (tokens : List Token)
+        → AreTokens (file_at files.now file).bytes tokens
         → string_bytes text ≡ text_by (file_at files.now file).bytes tokens place reservation.now) }
 {
     let mut text = String::new(alloc);
@@ -135,8 +138,10 @@ fn changed(
 ) -> Result<Vec<Change>, Refusal>
     requires linked { HasNoFault (LinkFaults files.now) }
     requires small { HaveSmallNumbers files.now }
-    requires field { (reads : List ReadOf) → AreRead files.now reads → IsFieldToken files.now reads name.now field }
-    requires place { (reads : List ReadOf) → AreRead files.now reads → IsPlaceOfField files.now reads field place }
+    requires field { (reads : List ReadOf) → AreRead files.now reads
+        → IsFieldToken files.now reads name.now field }
+    requires place { (reads : List ReadOf) → AreRead files.now reads
+        → IsPlaceOfField files.now reads field place }
     requires before { (n : ℕ) → n < 11 → IsDeletionCase files.now name.now n → ⊥ }
     ensures ok { IfOk result (λ cs. IsDeleted files.now name.now (map change_of cs.items)) }
     ensures err { IfErr result (IsDeletionRefusal files.now name.now) }

@@ -52,7 +52,8 @@ fn check_needed(
     requires file { IsPlaceOf files.now paths.file.now file }
     requires to { IsPlaceOf files.now paths.path.now to }
     requires before { (n : ℕ) → n < 15 → IsDropCase files.now paths.file.now paths.path.now n → ⊥ }
-    ensures free { IfOk result (λ _. (n : ℕ) → IsDropCase files.now paths.entry.file.now paths.entry.path.now n → ⊥) }
+    ensures free { IfOk result (λ _. (n : ℕ)
+        → IsDropCase files.now paths.entry.file.now paths.entry.path.now n → ⊥) }
     ensures err { IfErr result (IsDropRefusal files.now paths.entry.file.now paths.entry.path.now) }
 {
     are_read(files);
@@ -72,9 +73,11 @@ fn changed(
     import: Import,
 ) -> Result<Vec<Change>, Refusal>
     requires file { IsPlaceOf files.now paths.file.now file }
-    requires import { (reads : List ReadOf) → AreRead files.now reads → IsImportOf files.now reads file paths.path.now import }
+    requires import { (reads : List ReadOf) → AreRead files.now reads
+        → IsImportOf files.now reads file paths.path.now import }
     requires free { (n : ℕ) → IsDropCase files.now paths.file.now paths.path.now n → ⊥ }
-    ensures ok { IfOk result (λ cs. IsDropped files.now paths.entry.file.now paths.entry.path.now (map change_of cs.items)) }
+    ensures ok { IfOk result (λ cs. IsDropped files.now paths.entry.file.now paths.entry.path.now
+        (map change_of cs.items)) }
     ensures err { IfErr result (IsDropRefusal files.now paths.entry.file.now paths.entry.path.now) }
 {
     are_read(files);
@@ -102,7 +105,8 @@ pub fn drop_import(
 ) -> Result<Vec<Change>, Refusal>
     requires link { IsLinkOf files.now link.now }
     requires linked { HasNoFault (LinkFaults files.now) }
-    ensures ok { IfOk result (λ cs. IsDropped files.now file.now path.now (map change_of cs.items)) }
+    ensures ok { IfOk result (λ cs. IsDropped files.now file.now path.now
+        (map change_of cs.items)) }
     ensures err { IfErr result (IsDropRefusal files.now file.now path.now) }
 {
     are_read(files);

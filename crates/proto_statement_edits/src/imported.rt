@@ -11,7 +11,8 @@ use proto_files::{Files, Words};
 use proto_tree::{Import, Item};
 
 fn import_of(words: &Words, item: &Item, path: &str) -> Option<Import>
-    ensures { result ≡ import_in (λ i. is_value (string_at words.now i) path.now) (item_tree item.now) }
+    ensures { result ≡ import_in (λ i. is_value (string_at words.now i) path.now)
+        (item_tree item.now) }
 {
     match item {
         Item::Import(import) if words.says(import.path, path.as_bytes()) => Some(*import),
@@ -22,7 +23,8 @@ fn import_of(words: &Words, item: &Item, path: &str) -> Option<Import>
 /// The import of a file whose string has this path as its value, if there is one.
 pub(crate) fn import_named(files: &Files, file: u32, path: &str) -> Option<Import>
     requires { file < length files.now }
-    ensures { (reads : List ReadOf) → AreRead files.now reads → IsImportNamed files.now reads file path.now result }
+    ensures { (reads : List ReadOf) → AreRead files.now reads
+        → IsImportNamed files.now reads file path.now result }
 {
     let words = Words::new(files, file as usize);
     for item in &files.tree(file as usize).items {

@@ -21,7 +21,8 @@ use std::alloc::Global;
 fn all_written(alloc: Global, files: &Files) -> Result<Vec<Vec<WrittenImport>>, NoMemory>
     ensures len { IfOk result (λ ws. length ws.items ≡ length files.now) }
     ensures rising { IfOk result (λ ws. All (λ v. AreRising v.items) ws.items) }
-    ensures asked { IfOk result (λ ws. (reads : List ReadOf) → AreRead files.now reads → all_asked 0 (map (λ v. v.items) ws.items) ≡ all_wanted (text_of files.now reads) 0 reads) }
+    ensures asked { IfOk result (λ ws. (reads : List ReadOf) → AreRead files.now reads → all_asked 0
+        (map (λ v. v.items) ws.items) ≡ all_wanted (text_of files.now reads) 0 reads) }
 {
     let mut all = Vec::new(alloc);
     for file in 0..files.len() {
@@ -59,7 +60,8 @@ pub(crate) fn seen_with(
     requires linked { HasNoFault (LinkFaults files.now) }
     requires file { file < length files.now }
     requires to { to < length files.now }
-    ensures { IfOk result (λ seen. (reads : List ReadOf) → AreRead files.now reads → AreSeenIn files.now (with_added files.now reads file to) seen.items) }
+    ensures { IfOk result (λ seen. (reads : List ReadOf) → AreRead files.now reads
+        → AreSeenIn files.now (with_added files.now reads file to) seen.items) }
 {
     // A workspace has few files.
     files.len();
@@ -91,7 +93,9 @@ pub(crate) fn seen_without(
 ) -> Result<Vec<Vec<bool>>, NoMemory>
     requires linked { HasNoFault (LinkFaults files.now) }
     requires file { file < length files.now }
-    ensures { IfOk result (λ seen. (reads : List ReadOf) → AreRead files.now reads → (path : List ℕ) → IsPlaceOf files.now path to → AreSeenIn files.now (with_dropped files.now reads file path) seen.items) }
+    ensures { IfOk result (λ seen. (reads : List ReadOf) → AreRead files.now reads → (path : List ℕ)
+        → IsPlaceOf files.now path to → AreSeenIn files.now
+        (with_dropped files.now reads file path) seen.items) }
 {
     // A workspace has few files.
     files.len();

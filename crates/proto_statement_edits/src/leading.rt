@@ -24,7 +24,8 @@ fn targets(alloc: Global, imports: &[FileImport]) -> Result<Vec<u32>, NoMemory>
 }
 
 fn all_targets(alloc: Global, imports: &[Vec<FileImport>]) -> Result<Vec<Vec<u32>>, NoMemory>
-    ensures { IfOk result (λ next. map (λ v. v.items) next.items ≡ map (λ v. map (λ i. i.to) v.items) imports.now) }
+    ensures { IfOk result (λ next. map (λ v. v.items) next.items
+        ≡ map (λ v. map (λ i. i.to) v.items) imports.now) }
 {
     let mut next = Vec::new(alloc);
     for own in imports {
@@ -38,7 +39,8 @@ pub(crate) fn leads(alloc: Global, files: &Files, from: u32, to: u32) -> Result<
     requires linked { HasNoFault (LinkFaults files.now) }
     requires from { from < length files.now }
     requires to { to < length files.now }
-    ensures { IfOk result (λ b. (reads : List ReadOf) → AreRead files.now reads → IsTrue b ↔ Leads (link_imports files.now reads) from to) }
+    ensures { IfOk result (λ b. (reads : List ReadOf)
+        → AreRead files.now reads → IsTrue b ↔ Leads (link_imports files.now reads) from to) }
 {
     let imports = linked_imports(alloc, files)?;
     let next = all_targets(alloc, &imports)?;

@@ -40,7 +40,9 @@ pub(crate) fn first_needed(files: &Files, link: &Link, seen: &[Vec<bool>]) -> Op
     requires link { IsLinkOf files.now link.now }
     requires linked { HasNoFault (LinkFaults files.now) }
     requires seen { length seen.now ≡ length files.now }
-    ensures { (reads : List ReadOf) → AreRead files.now reads → (k : ℕ) (path : List ℕ) → AreSeenIn files.now (with_dropped files.now reads k path) seen.now → IsFirstNeeded files.now reads k path result }
+    ensures { (reads : List ReadOf) → AreRead files.now reads → (k : ℕ) (path : List ℕ)
+        → AreSeenIn files.now (with_dropped files.now reads k path) seen.now
+        → IsFirstNeeded files.now reads k path result }
 {
     are_read(files);
     for place in 0..files.len() {

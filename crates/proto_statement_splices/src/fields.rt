@@ -72,7 +72,8 @@ fn map_place(field: &MapField, name: u32) -> Option<FieldPlace>
 }
 
 fn place_in_fields(fields: &[Field], name: u32, close: u32) -> Option<FieldPlace>
-    ensures { result ≡ option_map place_of (field_among name (Some close) (trees field_tree fields.now)) }
+    ensures { result
+        ≡ option_map place_of (field_among name (Some close) (trees field_tree fields.now)) }
 {
     for field in fields {
         if let Some(place) = field_place(field, name, Some(close)) {

@@ -26,7 +26,8 @@ pub fn spliced(
 ) -> Result<Option<Change>, NoMemory>
     requires file { file < length files.now }
     requires span { IsSpan (file_at files.now file).bytes span }
-    ensures { IfOk result (λ found. IsSpliced (file_at files.now file) (splice (file_at files.now file).bytes span.start span.end new.now) found) }
+    ensures { IfOk result (λ found. IsSpliced (file_at files.now file)
+        (splice (file_at files.now file).bytes span.start span.end new.now) found) }
 {
     let place = file as usize;
     let source = files.source(place);

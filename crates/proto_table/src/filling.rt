@@ -60,10 +60,14 @@ pub fn declare_all(
     requires count { length files.now ≤ 2 ^ 32 }
     requires spelled { All (λ v. AreSpelled v.items) files.now }
     ensures table { IfOk result (λ x. IsTable x.0) }
-    ensures index { IfOk result (λ x. IsIndexOf x.0 (map symbol_named (all_named 0 (map (λ v. v.items) files.now)))) }
-    ensures rows { IfOk result (λ x. AreRows x.0 (map (λ v. v.items) files.now) (map (λ v. v.items) x.1.items)) }
-    ensures clean { IfOk result (λ _. (f : Fault) → ClashFault (all_named 0 (map (λ v. v.items) files.now)) f → ⊥) }
-    ensures fault { IfErr result (IsNameError (ClashFault (all_named 0 (map (λ v. v.items) files.now)))) }
+    ensures index { IfOk result (λ x. IsIndexOf x.0
+        (map symbol_named (all_named 0 (map (λ v. v.items) files.now)))) }
+    ensures rows { IfOk result (λ x. AreRows x.0
+        (map (λ v. v.items) files.now) (map (λ v. v.items) x.1.items)) }
+    ensures clean { IfOk result (λ _. (f : Fault)
+        → ClashFault (all_named 0 (map (λ v. v.items) files.now)) f → ⊥) }
+    ensures fault { IfErr result (IsNameError
+        (ClashFault (all_named 0 (map (λ v. v.items) files.now)))) }
 {
     let table = empty_table(alloc)?;
     let packages = declare_packages(alloc, table, files)?;
@@ -95,8 +99,10 @@ fn declare_packages(
     requires table { IsTable table }
     requires empty { Holds table [] }
     ensures table { IfOk result (λ x. IsTable x.0) }
-    ensures held { IfOk result (λ x. Holds x.0 (packages_in (all_named 0 (map (λ v. v.items) files.now)))) }
-    ensures rows { IfOk result (λ x. ArePackageRows x.0 (map (λ v. v.items) files.now) (map (λ v. v.items) x.1.items)) }
+    ensures held { IfOk result (λ x. Holds x.0
+        (packages_in (all_named 0 (map (λ v. v.items) files.now)))) }
+    ensures rows { IfOk result (λ x. ArePackageRows x.0
+        (map (λ v. v.items) files.now) (map (λ v. v.items) x.1.items)) }
     ensures fault { IfErr result (λ e. e ≡ NoMemory) }
 {
     let mut names = table;
@@ -129,11 +135,16 @@ fn declare_others(
     requires spelled { All (λ v. AreSpelled v.items) files.now }
     requires table { IsTable table }
     requires held { Holds table (packages_in (all_named 0 (map (λ v. v.items) files.now))) }
-    requires rows { ArePackageRows table (map (λ v. v.items) files.now) (map (λ v. v.items) packages.items) }
+    requires rows { ArePackageRows table (map (λ v. v.items) files.now)
+        (map (λ v. v.items) packages.items) }
     ensures table { IfOk result (λ x. IsTable x.0) }
-    ensures held { IfOk result (λ x. Holds x.0 (packages_in (all_named 0 (map (λ v. v.items) files.now)) ++ others_in (all_named 0 (map (λ v. v.items) files.now)))) }
-    ensures rows { IfOk result (λ x. AreRows x.0 (map (λ v. v.items) files.now) (map (λ v. v.items) x.1.items)) }
-    ensures fault { IfErr result (IsNameError (ClashFault (all_named 0 (map (λ v. v.items) files.now)))) }
+    ensures held { IfOk result (λ x. Holds x.0
+        (packages_in (all_named 0 (map (λ v. v.items) files.now))
+        ++ others_in (all_named 0 (map (λ v. v.items) files.now)))) }
+    ensures rows { IfOk result (λ x. AreRows x.0
+        (map (λ v. v.items) files.now) (map (λ v. v.items) x.1.items)) }
+    ensures fault { IfErr result (IsNameError
+        (ClashFault (all_named 0 (map (λ v. v.items) files.now)))) }
 {
     let mut names = table;
     let mut rows = packages;
@@ -179,8 +190,10 @@ fn fill(
     ensures kept { IfOk result (λ x. IsKept table x.0) }
     ensures count { IfOk result (λ x. length x.1.items ≡ end) }
     ensures rows { IfOk result (λ x. AreRowsOf x.0 (named_in file spelled.now) x.1.items) }
-    ensures held { IfOk result (λ x. (ds : List Named) → Holds table ds → Holds x.0 (ds ++ drop (length rows.items) (take end (named_in file spelled.now)))) }
-    ensures fault { IfErr result (λ e. (ds : List Named) → Holds table ds → StopsIn ds (named_in file spelled.now) (length rows.items) end e) }
+    ensures held { IfOk result (λ x. (ds : List Named) → Holds table ds
+        → Holds x.0 (ds ++ drop (length rows.items) (take end (named_in file spelled.now)))) }
+    ensures fault { IfErr result (λ e. (ds : List Named)
+        → Holds table ds → StopsIn ds (named_in file spelled.now) (length rows.items) end e) }
 {
     let start = rows.len();
     let mut names = table;
@@ -203,11 +216,18 @@ fn declare_one(
     requires table { IsTable table.old }
     requires ordered { needs spelled.now.above ≤ length rows.now }
     requires plain { IsPlain (string_bytes spelled.now.word) }
-    requires within { (k row : ℕ) → k < length rows.now → get_or rows.now k row < length table.old.rows.items }
+    requires within { (k row : ℕ) → k < length rows.now
+        → get_or rows.now k row < length table.old.rows.items }
     ensures table { OnOk result (IsTable table.new) }
-    ensures row { IfOk result (IsRowOf table.old table.new (under (front (names_of table.old) (number_above rows.now spelled.now.above)) (string_bytes spelled.now.word)) (declaration_of file spelled.now)) }
-    ensures index { OnOk result (IsDeclared table.old table.new (under (front (names_of table.old) (number_above rows.now spelled.now.above)) (string_bytes spelled.now.word)) (declaration_of file spelled.now)) }
-    ensures clash { IfErr result (IsClashAt table.old (under (front (names_of table.old) (number_above rows.now spelled.now.above)) (string_bytes spelled.now.word)) (declaration_of file spelled.now)) }
+    ensures row { IfOk result (IsRowOf table.old table.new
+        (under (front (names_of table.old) (number_above rows.now spelled.now.above))
+        (string_bytes spelled.now.word)) (declaration_of file spelled.now)) }
+    ensures index { OnOk result (IsDeclared table.old table.new
+        (under (front (names_of table.old) (number_above rows.now spelled.now.above))
+        (string_bytes spelled.now.word)) (declaration_of file spelled.now)) }
+    ensures clash { IfErr result (IsClashAt table.old
+        (under (front (names_of table.old) (number_above rows.now spelled.now.above))
+        (string_bytes spelled.now.word)) (declaration_of file spelled.now)) }
 {
     let above = match spelled.above {
         Above::Outermost => 0,

@@ -35,11 +35,15 @@ fn last_word(alloc: Global, words: &Words, entry: &Listed) -> Result<String, NoM
 
 /// The declarations of a file with their last words.
 pub fn spelled(alloc: Global, words: &Words, declared: &[Listed]) -> Result<Vec<Spelled>, NoMemory>
-    requires ordered { (k : ℕ) (d : Listed) → k < length declared.now → needs (get_or declared.now k d).above ≤ k }
-    requires tokens { map (λ e. Some e.token) declared.now ≡ map (λ p. last_token (whole p)) (read declared.now) }
-    ensures names { IfOk result (λ ss. (file : ℕ) → named_in file ss.items ≡ map (named_as file (word_at words.now)) (read declared.now)) }
+    requires ordered { (k : ℕ) (d : Listed) → k
+        < length declared.now → needs (get_or declared.now k d).above ≤ k }
+    requires tokens { map (λ e. Some e.token) declared.now
+        ≡ map (λ p. last_token (whole p)) (read declared.now) }
+    ensures names { IfOk result (λ ss. (file : ℕ)
+        → named_in file ss.items ≡ map (named_as file (word_at words.now)) (read declared.now)) }
     ensures kept { IfOk result (λ ss. IsKept declared.now ss.items) }
-    ensures spelled { IfOk result (λ ss. AreListed (word_at words.now) declared.now → AreSpelled ss.items) }
+    ensures spelled { IfOk result (λ ss. AreListed
+        (word_at words.now) declared.now → AreSpelled ss.items) }
 {
     let mut spelled = Vec::new(alloc);
     for entry in declared {

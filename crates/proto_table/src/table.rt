@@ -105,8 +105,10 @@ impl Table {
     /// The row with this name.
     pub fn named(&self, text: &str) -> Option<usize>
         requires { IsTable self.now }
-        ensures sound { IfSome result (λ k. (k < length self.now.rows.items) × (get_or (names_of self.now) k [] ≡ text.now)) }
-        ensures complete { (k : ℕ) → k < length self.now.rows.items → get_or (names_of self.now) k [] ≡ text.now → result ≡ Some k }
+        ensures sound { IfSome result (λ k. (k < length self.now.rows.items)
+            × (get_or (names_of self.now) k [] ≡ text.now)) }
+        ensures complete { (k : ℕ) → k < length self.now.rows.items
+            → get_or (names_of self.now) k [] ≡ text.now → result ≡ Some k }
     {
         let mut number = 0;
         let mut rest = text;
@@ -123,8 +125,12 @@ impl Table {
         requires within { scope ≤ length self.now.rows.items }
         requires plain { IsPlain word.now }
         ensures row { IfSome result (λ row. row < length self.now.rows.items) }
-        ensures hit { IfSome result (λ row. (path : List (List ℕ)) → ArePlain path → front (names_of self.now) scope ≡ joined path → IsHit self.now seen.now is_last path word.now row) }
-        ensures none { IfNone result ((path : List (List ℕ)) → ArePlain path → front (names_of self.now) scope ≡ joined path → (k row : ℕ) → k ≤ length path → HitsAt self.now seen.now is_last path word.now k row → ⊥) }
+        ensures hit { IfSome result (λ row. (path : List (List ℕ)) → ArePlain path → front
+            (names_of self.now) scope
+            ≡ joined path → IsHit self.now seen.now is_last path word.now row) }
+        ensures none { IfNone result ((path : List (List ℕ)) → ArePlain path → front
+            (names_of self.now) scope ≡ joined path → (k row : ℕ)
+            → k ≤ length path → HitsAt self.now seen.now is_last path word.now k row → ⊥) }
     {
         let mut number = scope;
         loop {
@@ -143,8 +149,12 @@ impl Table {
         requires table { IsTable self.now }
         requires within { number ≤ length self.now.rows.items }
         requires plain { IsPlain word.now }
-        ensures some { IfSome result (λ row. (row < length self.now.rows.items) × (get_or (names_of self.now) row [] ≡ under (front (names_of self.now) number) word.now) × ((d : Row) → passes seen.now is_last (get_or self.now.rows.items row d) ≡ true)) }
-        ensures none { IfNone result ((row : ℕ) → row < length self.now.rows.items → get_or (names_of self.now) row [] ≡ under (front (names_of self.now) number) word.now → (d : Row) → passes seen.now is_last (get_or self.now.rows.items row d) ≡ false) }
+        ensures some { IfSome result (λ row. (row < length self.now.rows.items) ×
+            (get_or (names_of self.now) row [] ≡ under (front (names_of self.now) number) word.now)
+            × ((d : Row) → passes seen.now is_last (get_or self.now.rows.items row d) ≡ true)) }
+        ensures none { IfNone result ((row : ℕ) → row < length self.now.rows.items → get_or
+            (names_of self.now) row [] ≡ under (front (names_of self.now) number) word.now
+            → (d : Row) → passes seen.now is_last (get_or self.now.rows.items row d) ≡ false) }
     {
         let row = self.find(number, word)?;
         if self.rows[row].passes(is_last, seen) {
@@ -160,7 +170,8 @@ impl Table {
         requires within { scope ≤ length self.now.rows.items }
         requires first { IsPlain first.now }
         requires rest { ArePlain (map (λ w. w.now) rest.now) }
-        ensures { (w : Workspace) (r : Reference) → IsAsked self.now seen.now scope w r → r.words ≡ first.now ∷ map (λ w. w.now) rest.now → r.is_absolute ≡ false
+        ensures { (w : Workspace) (r : Reference) → IsAsked self.now seen.now scope w r
+            → r.words ≡ first.now ∷ map (λ w. w.now) rest.now → r.is_absolute ≡ false
             → option_map (λ k. get_or (names_of self.now) k []) result ≡ option_map joined (meaning w r) }
     {
         let start = self.search(scope, first, rest.is_empty(), seen)?;
@@ -172,7 +183,9 @@ impl Table {
         requires table { IsTable self.now }
         requires first { IsPlain first.now }
         requires rest { ArePlain (map (λ w. w.now) rest.now) }
-        ensures { (w : Workspace) (r : Reference) → IsIndexOf self.now w.symbols → MarksSeen w r.file seen.now → r.words ≡ first.now ∷ map (λ w. w.now) rest.now → r.is_absolute ≡ true
+        ensures { (w : Workspace) (r : Reference) → IsIndexOf self.now w.symbols
+            → MarksSeen w r.file seen.now → r.words ≡ first.now
+            ∷ map (λ w. w.now) rest.now → r.is_absolute ≡ true
             → option_map (λ k. get_or (names_of self.now) k []) result ≡ option_map joined (meaning w r) }
     {
         let start = self.find(0, first)?;
@@ -184,7 +197,8 @@ impl Table {
         requires table { IsTable self.now }
         requires within { start < length self.now.rows.items }
         requires plain { ArePlain (map (λ w. w.now) words.now) }
-        ensures { IsTypeAt self.now seen.now (under_all (get_or (names_of self.now) start []) (map (λ w. w.now) words.now)) result }
+        ensures { IsTypeAt self.now seen.now
+            (under_all (get_or (names_of self.now) start []) (map (λ w. w.now) words.now)) result }
     {
         let row = self.follow(start, words)?;
         if self.rows[row].passes(true, seen) {
@@ -199,8 +213,12 @@ impl Table {
         requires table { IsTable self.now }
         requires within { start < length self.now.rows.items }
         requires plain { ArePlain (map (λ w. w.now) words.now) }
-        ensures some { IfSome result (λ k. (k < length self.now.rows.items) × (get_or (names_of self.now) k [] ≡ under_all (get_or (names_of self.now) start []) (map (λ w. w.now) words.now))) }
-        ensures none { IfNone result ((k : ℕ) → k < length self.now.rows.items → get_or (names_of self.now) k [] ≢ under_all (get_or (names_of self.now) start []) (map (λ w. w.now) words.now)) }
+        ensures some { IfSome result (λ k. (k < length self.now.rows.items) ×
+            (get_or (names_of self.now) k [] ≡ under_all
+            (get_or (names_of self.now) start []) (map (λ w. w.now) words.now))) }
+        ensures none { IfNone result ((k : ℕ) → k < length self.now.rows.items → get_or
+            (names_of self.now) k [] ≢ under_all (get_or (names_of self.now) start [])
+            (map (λ w. w.now) words.now)) }
     {
         let mut row = start;
         for word in words {
@@ -222,9 +240,13 @@ impl Table {
         requires within { above ≤ length self.old.rows.items }
         requires plain { IsPlain word.now }
         ensures table { OnOk result (IsTable self.new) }
-        ensures index { IfOk result (λ o. IfSome o (λ _. IsDeclared self.old self.new (under (front (names_of self.old) above) word.now) symbol)) }
-        ensures row { IfOk result (λ o. IfSome o (IsRowOf self.old self.new (under (front (names_of self.old) above) word.now) symbol)) }
-        ensures clash { IfOk result (λ o. IfNone o (IsTaken self.old (under (front (names_of self.old) above) word.now) symbol)) }
+        ensures index { IfOk result (λ o. IfSome o
+            (λ _. IsDeclared self.old self.new
+            (under (front (names_of self.old) above) word.now) symbol)) }
+        ensures row { IfOk result (λ o. IfSome o
+            (IsRowOf self.old self.new (under (front (names_of self.old) above) word.now) symbol)) }
+        ensures clash { IfOk result (λ o. IfNone o
+            (IsTaken self.old (under (front (names_of self.old) above) word.now) symbol)) }
         ensures clash_kept { IfOk result (λ o. IfNone o (IsUnchanged self.old self.new)) }
         ensures kept { OnErr result (IsUnchanged self.old self.new) }
     {
@@ -257,7 +279,10 @@ impl Table {
         requires plain { IsPlain word.now }
         requires new { look self.old above word.now ≡ None }
         ensures table { OnOk result (IsTable self.new) }
-        ensures rows { IfOk result (λ k. (k ≡ length self.old.rows.items) × ((r : Row) × (self.new.rows.items ≡ self.old.rows.items ++ r ∷ []) × (string_bytes r.name ≡ under (front (names_of self.old) above) word.now) × (r.symbol ≡ symbol) × (r.more.items ≡ []))) }
+        ensures rows { IfOk result (λ k. (k ≡ length self.old.rows.items) ×
+            ((r : Row) × (self.new.rows.items ≡ self.old.rows.items ++ r ∷ []) ×
+            (string_bytes r.name ≡ under (front (names_of self.old) above) word.now)
+            × (r.symbol ≡ symbol) × (r.more.items ≡ []))) }
         ensures kept { OnErr result (IsUnchanged self.old self.new) }
     {
         let name = full_name(alloc, self.text(above), word)?;
@@ -294,7 +319,10 @@ fn full_name(alloc: Global, above: &str, word: &str) -> Result<String, NoMemory>
 /// A further file of a package.
 fn add_file(rows: &mut Vec<Row>, row: usize, file: u32) -> Result<(), NoMemory>
     requires { row < length rows.old.items }
-    ensures added { OnOk result ((old new : Row) × (old ≡ get_or rows.old.items row old) × (rows.new.items ≡ slice_set rows.old.items row new) × (new.name ≡ old.name) × (new.symbol ≡ old.symbol) × (new.above ≡ old.above) × (new.more.items ≡ old.more.items ++ file ∷ [])) }
+    ensures added { OnOk result ((old new : Row) × (old ≡ get_or rows.old.items row old) ×
+        (rows.new.items ≡ slice_set rows.old.items row new) × (new.name ≡ old.name) ×
+        (new.symbol ≡ old.symbol) × (new.above ≡ old.above)
+        × (new.more.items ≡ old.more.items ++ file ∷ [])) }
     ensures kept { OnErr result (map row_of rows.new.items ≡ map row_of rows.old.items) }
 {
     let row = &mut rows[row];
@@ -311,9 +339,13 @@ fn put_below(
 ) -> Result<(), NoMemory>
     requires { above < length below.old.items }
     ensures len { OnOk result (length below.new.items ≡ length below.old.items) }
-    ensures here { OnOk result ((v : List ℕ) → found (slice_get below.new.items above) v ≡ (if bytes_eq (string_bytes word) v then Some index else found (slice_get below.old.items above) v)) }
-    ensures other { OnOk result ((q : ℕ) → q ≢ above → slice_get below.new.items q ≡ slice_get below.old.items q) }
-    ensures room { OnOk result ((vec_len below.new ≡ vec_len below.old) × (vec_capacity below.new ≡ vec_capacity below.old)) }
+    ensures here { OnOk result ((v : List ℕ) → found (slice_get below.new.items above) v ≡
+        (if bytes_eq (string_bytes word) v then Some index else found
+        (slice_get below.old.items above) v)) }
+    ensures other { OnOk result ((q : ℕ) → q ≢ above
+        → slice_get below.new.items q ≡ slice_get below.old.items q) }
+    ensures room { OnOk result ((vec_len below.new ≡ vec_len below.old)
+        × (vec_capacity below.new ≡ vec_capacity below.old)) }
     ensures kept { OnErr result (map entries_of below.new.items ≡ map entries_of below.old.items) }
 {
     let names = &mut below[above];
@@ -325,15 +357,18 @@ fn put_below(
 fn push_empty(alloc: Global, below: &mut Vec<IndexMap<String, usize>>)
     requires room { vec_len below.old < vec_capacity below.old }
     ensures len { length below.new.items ≡ length below.old.items + 1 }
-    ensures last { (v : List ℕ) → found (slice_get below.new.items (length below.old.items)) v ≡ None }
-    ensures other { (q : ℕ) → q < length below.old.items → slice_get below.new.items q ≡ slice_get below.old.items q }
+    ensures last { (v : List ℕ) → found (slice_get below.new.items (length below.old.items)) v
+        ≡ None }
+    ensures other { (q : ℕ) → q < length below.old.items
+        → slice_get below.new.items q ≡ slice_get below.old.items q }
 {
     below.push(IndexMap::new(alloc)).unwrap();
 }
 
 /// A text before and after its first point.
 pub fn cut(text: &str) -> Option<(&str, &str)>
-    ensures cases { MatchOption result (list_any (λ b. b == 46) text.now ≡ false) (λ x. (text.now ≡ x.0.now ++ 46 ∷ x.1.now) × (list_any (λ b. b == 46) x.0.now ≡ false)) }
+    ensures cases { MatchOption result (list_any (λ b. b == 46) text.now ≡ false)
+        (λ x. (text.now ≡ x.0.now ++ 46 ∷ x.1.now) × (list_any (λ b. b == 46) x.0.now ≡ false)) }
     ensures utf8 { IfSome result (λ x. IsUtf8 x.0.now × IsUtf8 x.1.now) }
 {
     text.split_once('.')

@@ -122,10 +122,12 @@ fn all_put(alloc: Global, text: &[u8], splices: &[Splice]) -> Result<Option<Vec<
 fn turn(splice: &mut Splice, from: u32, to: u32) -> (u32, u32)
     requires after { from ≤ splice.now.at }
     requires old_fits { splice.now.at + length (string_bytes splice.now.old) ≤ 1048576 }
-    requires new_fits { (to + (splice.now.at - from)) + length (string_bytes splice.now.new) ≤ 1048576 }
+    requires new_fits { (to + (splice.now.at - from)) + length
+        (string_bytes splice.now.new) ≤ 1048576 }
     ensures edit { edit_of splice.exit.now ≡ inverse_of to from (edit_of splice.entry.now) }
     ensures from { result.0 ≡ splice.entry.now.at + length (string_bytes splice.entry.now.old) }
-    ensures to { result.1 ≡ (to + (splice.entry.now.at - from)) + length (string_bytes splice.entry.now.new) }
+    ensures to { result.1 ≡ (to + (splice.entry.now.at - from)) + length
+        (string_bytes splice.entry.now.new) }
 {
     let at = to + (splice.at - from);
     let places = (

@@ -29,7 +29,8 @@ pub enum Found<T: Drop> {
 }
 
 pub fn push<T: Drop>(items: &mut Vec<T>, item: T) -> Result<(), Fault>
-    ensures { MatchResult result (λ _. items.new.items ≡ items.old.items ++ item ∷ []) (λ e. e ≡ Fault.Memory) }
+    ensures { MatchResult result (λ _. items.new.items ≡ items.old.items ++ item ∷ [])
+        (λ e. e ≡ Fault.Memory) }
 {
     match items.push(item) {
         Ok(()) => Ok(()),
@@ -56,7 +57,8 @@ pub fn next_piece(
     tokens: &[Lexeme],
 ) -> Result<(Piece, &[Lexeme]), Fault>
     requires { tokens.now ≡ [] → allows context Kind.Close ≡ true }
-    ensures { MatchResult result (λ x. IsMet context tokens.now x.0 x.1.now) (FaultOf context tokens.now) }
+    ensures { MatchResult result (λ x. IsMet context tokens.now x.0 x.1.now)
+        (FaultOf context tokens.now) }
 {
     match any_piece(alloc, context, tokens) {
         Ok(found) => Ok(found),
@@ -66,7 +68,8 @@ pub fn next_piece(
 }
 
 fn method_item(alloc: Global, tokens: &[Lexeme]) -> Result<(Found<MethodItem>, &[Lexeme]), Fault>
-    ensures { MatchResult result (λ x. FoundIn Context.Method method_item_tree tokens.now x.0 x.1.now) (FaultOf Context.Method tokens.now) }
+    ensures { MatchResult result (λ x. FoundIn Context.Method method_item_tree tokens.now x.0
+        x.1.now) (FaultOf Context.Method tokens.now) }
 {
     let (piece, rest) = next_piece(alloc, Context::Method, tokens)?;
     match piece {
@@ -86,7 +89,8 @@ fn method_items(
     alloc: Global,
     tokens: &[Lexeme],
 ) -> Result<(Vec<MethodItem>, u32, &[Lexeme]), Fault>
-    ensures { MatchResult result (λ x. IsBody Context.Method tokens.now (trees method_item_tree x.0.items) x.1 x.2.now) (FaultOf Context.Method tokens.now) }
+    ensures { MatchResult result (λ x. IsBody Context.Method tokens.now
+        (trees method_item_tree x.0.items) x.1 x.2.now) (FaultOf Context.Method tokens.now) }
 {
     let mut items = Vec::new(alloc);
     let mut rest = tokens;
@@ -101,7 +105,8 @@ fn method_items(
 }
 
 fn service_item(alloc: Global, tokens: &[Lexeme]) -> Result<(Found<ServiceItem>, &[Lexeme]), Fault>
-    ensures { MatchResult result (λ x. FoundIn Context.Service service_item_tree tokens.now x.0 x.1.now) (FaultOf Context.Service tokens.now) }
+    ensures { MatchResult result (λ x. FoundIn Context.Service service_item_tree tokens.now x.0
+        x.1.now) (FaultOf Context.Service tokens.now) }
 {
     let (piece, rest) = next_piece(alloc, Context::Service, tokens)?;
     match piece {
@@ -126,7 +131,8 @@ pub fn service_items(
     alloc: Global,
     tokens: &[Lexeme],
 ) -> Result<(Vec<ServiceItem>, u32, &[Lexeme]), Fault>
-    ensures { MatchResult result (λ x. IsBody Context.Service tokens.now (trees service_item_tree x.0.items) x.1 x.2.now) (FaultOf Context.Service tokens.now) }
+    ensures { MatchResult result (λ x. IsBody Context.Service tokens.now
+        (trees service_item_tree x.0.items) x.1 x.2.now) (FaultOf Context.Service tokens.now) }
 {
     let mut items = Vec::new(alloc);
     let mut rest = tokens;
@@ -141,7 +147,8 @@ pub fn service_items(
 }
 
 fn enum_item(alloc: Global, tokens: &[Lexeme]) -> Result<(Found<EnumItem>, &[Lexeme]), Fault>
-    ensures { MatchResult result (λ x. FoundIn Context.Enum enum_item_tree tokens.now x.0 x.1.now) (FaultOf Context.Enum tokens.now) }
+    ensures { MatchResult result (λ x. FoundIn Context.Enum enum_item_tree tokens.now x.0 x.1.now)
+        (FaultOf Context.Enum tokens.now) }
 {
     let (piece, rest) = next_piece(alloc, Context::Enum, tokens)?;
     match piece {
@@ -161,7 +168,8 @@ pub fn enum_items(
     alloc: Global,
     tokens: &[Lexeme],
 ) -> Result<(Vec<EnumItem>, u32, &[Lexeme]), Fault>
-    ensures { MatchResult result (λ x. IsBody Context.Enum tokens.now (trees enum_item_tree x.0.items) x.1 x.2.now) (FaultOf Context.Enum tokens.now) }
+    ensures { MatchResult result (λ x. IsBody Context.Enum tokens.now
+        (trees enum_item_tree x.0.items) x.1 x.2.now) (FaultOf Context.Enum tokens.now) }
 {
     let mut items = Vec::new(alloc);
     let mut rest = tokens;
@@ -176,7 +184,8 @@ pub fn enum_items(
 }
 
 fn oneof_field(alloc: Global, tokens: &[Lexeme]) -> Result<(Found<Field>, &[Lexeme]), Fault>
-    ensures { MatchResult result (λ x. FoundIn Context.Oneof field_tree tokens.now x.0 x.1.now) (FaultOf Context.Oneof tokens.now) }
+    ensures { MatchResult result (λ x. FoundIn Context.Oneof field_tree tokens.now x.0 x.1.now)
+        (FaultOf Context.Oneof tokens.now) }
 {
     let (piece, rest) = next_piece(alloc, Context::Oneof, tokens)?;
     match piece {
@@ -193,7 +202,8 @@ fn oneof_field(alloc: Global, tokens: &[Lexeme]) -> Result<(Found<Field>, &[Lexe
 }
 
 fn oneof_fields(alloc: Global, tokens: &[Lexeme]) -> Result<(Vec<Field>, u32, &[Lexeme]), Fault>
-    ensures { MatchResult result (λ x. IsBody Context.Oneof tokens.now (trees field_tree x.0.items) x.1 x.2.now) (FaultOf Context.Oneof tokens.now) }
+    ensures { MatchResult result (λ x. IsBody Context.Oneof tokens.now
+        (trees field_tree x.0.items) x.1 x.2.now) (FaultOf Context.Oneof tokens.now) }
 {
     let mut items = Vec::new(alloc);
     let mut rest = tokens;
@@ -209,7 +219,8 @@ fn oneof_fields(alloc: Global, tokens: &[Lexeme]) -> Result<(Vec<Field>, u32, &[
 
 #[cycle(messages)]
 fn member(alloc: Global, tokens: &[Lexeme]) -> Result<(Found<Member>, &[Lexeme]), Fault>
-    ensures { MatchResult result (λ x. FoundIn Context.Message member_tree tokens.now x.0 x.1.now) (FaultOf Context.Message tokens.now) }
+    ensures { MatchResult result (λ x. FoundIn Context.Message member_tree tokens.now x.0 x.1.now)
+        (FaultOf Context.Message tokens.now) }
 {
     let (piece, rest) = next_piece(alloc, Context::Message, tokens)?;
     match piece {
@@ -244,7 +255,8 @@ fn member(alloc: Global, tokens: &[Lexeme]) -> Result<(Found<Member>, &[Lexeme])
 
 #[cycle(messages)]
 pub fn members(alloc: Global, tokens: &[Lexeme]) -> Result<(Vec<Member>, u32, &[Lexeme]), Fault>
-    ensures { MatchResult result (λ x. IsBody Context.Message tokens.now (trees member_tree x.0.items) x.1 x.2.now) (FaultOf Context.Message tokens.now) }
+    ensures { MatchResult result (λ x. IsBody Context.Message tokens.now
+        (trees member_tree x.0.items) x.1 x.2.now) (FaultOf Context.Message tokens.now) }
 {
     let mut items = Vec::new(alloc);
     let mut rest = tokens;

@@ -33,7 +33,8 @@ fn up_to(rest: &[Lexeme]) -> Result<(UpTo<Signed>, &[Lexeme]), Stop>
 }
 
 fn up_to_option(rest: &[Lexeme]) -> Result<(Option<UpTo<Signed>>, &[Lexeme]), Stop>
-    ensures { Gives (λ x. (x.0, x.1.now)) result (maybe (Want.One Class.To) (up_to_at signed_at) rest.now) }
+    ensures { Gives (λ x. (x.0, x.1.now)) result
+        (maybe (Want.One Class.To) (up_to_at signed_at) rest.now) }
 {
     if starts(rest, Want::One(Class::To)) {
         let (found, rest) = up_to(rest)?;
@@ -53,7 +54,8 @@ fn range(rest: &[Lexeme]) -> Result<(Range<Signed>, &[Lexeme]), Stop>
 
 #[tactic(auto, unfolding(crate::specs::Reading::behind_at))]
 fn next_range(rest: &[Lexeme]) -> Result<(Behind<Range<Signed>>, &[Lexeme]), Stop>
-    ensures { Gives (λ x. (x.0, x.1.now)) result (behind_at Class.Comma (range_at signed_at) rest.now) }
+    ensures { Gives (λ x. (x.0, x.1.now)) result
+        (behind_at Class.Comma (range_at signed_at) rest.now) }
 {
     let (separator, rest) = one(rest, Class::Comma)?;
     let (item, rest) = range(rest)?;
@@ -64,7 +66,8 @@ fn more_ranges(
     alloc: Global,
     tokens: &[Lexeme],
 ) -> Result<(Sequence<Behind<Range<Signed>>>, &[Lexeme]), Stop>
-    ensures { Gives (λ x. (x.0, x.1.now)) result (many (Want.One Class.Comma) (behind_at Class.Comma (range_at signed_at)) tokens.now) }
+    ensures { Gives (λ x. (x.0, x.1.now)) result
+        (many (Want.One Class.Comma) (behind_at Class.Comma (range_at signed_at)) tokens.now) }
 {
     let mut items = Sequence::new(alloc);
     let mut rest = tokens;
@@ -102,7 +105,8 @@ fn reserved_list(alloc: Global, rest: &[Lexeme]) -> Result<(ReservedList<Signed>
 
 #[tactic(auto, unfolding(crate::specs::Reading::reserved_at))]
 pub fn reserved(alloc: Global, rest: &[Lexeme]) -> Result<(Piece, &[Lexeme]), Stop>
-    ensures { Gives (λ x. (x.0, x.1.now)) result (stated Statement.EnumReserved (reserved_at signed_at) rest.now) }
+    ensures { Gives (λ x. (x.0, x.1.now)) result
+        (stated Statement.EnumReserved (reserved_at signed_at) rest.now) }
 {
     let (keyword, rest) = one(rest, Class::Reserved)?;
     let (list, rest) = reserved_list(alloc, rest)?;

@@ -22,7 +22,8 @@ fn item(
 ) -> Result<(Item, Context, &[Lexeme]), Fault>
     requires outer { IsOuter context }
     requires some { tokens.now ≢ [] }
-    ensures { MatchResult result (λ x. IsItemBefore context tokens.now (item_tree x.0) x.1 x.2.now) (FaultOf context tokens.now) }
+    ensures { MatchResult result (λ x. IsItemBefore context tokens.now (item_tree x.0) x.1 x.2.now)
+        (FaultOf context tokens.now) }
 {
     let (piece, rest) = next_piece(alloc, context, tokens)?;
     let kind = kind_of(&piece);
@@ -61,7 +62,8 @@ fn item(
 
 /// All items of a file.
 fn items(alloc: Global, tokens: &[Lexeme]) -> Result<Vec<Item>, Fault>
-    ensures { MatchResult result (λ xs. Spells (trees item_tree xs.items) tokens.now) (FaultOf Context.Start tokens.now) }
+    ensures { MatchResult result (λ xs. Spells (trees item_tree xs.items) tokens.now)
+        (FaultOf Context.Start tokens.now) }
 {
     let mut items = Vec::new(alloc);
     let mut context = Context::Start;

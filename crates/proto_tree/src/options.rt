@@ -90,7 +90,8 @@ fn more_settings(
     alloc: Global,
     tokens: &[Lexeme],
 ) -> Result<(Sequence<Behind<Setting>>, &[Lexeme]), Stop>
-    ensures { Gives (λ x. (x.0, x.1.now)) result (many (Want.One Class.Comma) (behind_at Class.Comma setting_at) tokens.now) }
+    ensures { Gives (λ x. (x.0, x.1.now)) result
+        (many (Want.One Class.Comma) (behind_at Class.Comma setting_at) tokens.now) }
 {
     let mut items = Sequence::new(alloc);
     let mut rest = tokens;

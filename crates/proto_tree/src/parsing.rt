@@ -101,11 +101,13 @@ pub fn parse(alloc: Global, source: &Source, tokens: &[Token]) -> Result<File, P
     // The answered tree is well-formed and has these tokens, and no more than 32 braces are open at once.
     ensures found { IfOk result (λ f. Reads source.now tokens.now (tree_of_file f)) }
     // There is no other.
-    ensures only { (t : Tree) → Reads source.now tokens.now t → MatchResult result (λ f. t ≡ tree_of_file f) (λ e. e ≡ NoMemory) }
+    ensures only { (t : Tree) → Reads source.now tokens.now t
+        → MatchResult result (λ f. t ≡ tree_of_file f) (λ e. e ≡ NoMemory) }
     // Where there is none, or too many braces are open, which fault it is, and where.
     ensures fault { IfErr result (is_fault_or_memory source.now tokens.now) }
     // There is no other fault.
-    ensures only_fault { (f : ParseFault) → IsFault source.now tokens.now f → IsErrAnd result (λ e. (e ≡ f) ⊎ (e ≡ NoMemory)) }
+    ensures only_fault { (f : ParseFault) → IsFault source.now tokens.now f
+        → IsErrAnd result (λ e. (e ≡ f) ⊎ (e ≡ NoMemory)) }
 {
     read(alloc, source, tokens)
 }

@@ -32,7 +32,8 @@ fn up_to(rest: &[Lexeme]) -> Result<(UpTo<u32>, &[Lexeme]), Stop>
 }
 
 fn up_to_option(rest: &[Lexeme]) -> Result<(Option<UpTo<u32>>, &[Lexeme]), Stop>
-    ensures { Gives (λ x. (x.0, x.1.now)) result (maybe (Want.One Class.To) (up_to_at (one_token Class.Number)) rest.now) }
+    ensures { Gives (λ x. (x.0, x.1.now)) result
+        (maybe (Want.One Class.To) (up_to_at (one_token Class.Number)) rest.now) }
 {
     if starts(rest, Want::One(Class::To)) {
         let (found, rest) = up_to(rest)?;
@@ -52,7 +53,8 @@ fn range(rest: &[Lexeme]) -> Result<(Range<u32>, &[Lexeme]), Stop>
 
 #[tactic(auto, unfolding(crate::specs::Reading::behind_at))]
 fn next_range(rest: &[Lexeme]) -> Result<(Behind<Range<u32>>, &[Lexeme]), Stop>
-    ensures { Gives (λ x. (x.0, x.1.now)) result (behind_at Class.Comma (range_at (one_token Class.Number)) rest.now) }
+    ensures { Gives (λ x. (x.0, x.1.now)) result
+        (behind_at Class.Comma (range_at (one_token Class.Number)) rest.now) }
 {
     let (separator, rest) = one(rest, Class::Comma)?;
     let (item, rest) = range(rest)?;
@@ -63,7 +65,9 @@ fn more_ranges(
     alloc: Global,
     tokens: &[Lexeme],
 ) -> Result<(Sequence<Behind<Range<u32>>>, &[Lexeme]), Stop>
-    ensures { Gives (λ x. (x.0, x.1.now)) result (many (Want.One Class.Comma) (behind_at Class.Comma (range_at (one_token Class.Number))) tokens.now) }
+    ensures { Gives (λ x. (x.0, x.1.now)) result
+        (many (Want.One Class.Comma)
+        (behind_at Class.Comma (range_at (one_token Class.Number))) tokens.now) }
 {
     let mut items = Sequence::new(alloc);
     let mut rest = tokens;
@@ -89,7 +93,8 @@ fn ranges(alloc: Global, rest: &[Lexeme]) -> Result<(Separated<Range<u32>>, &[Le
 
 #[tactic(auto, unfolding(crate::specs::Reading::reserved_list_at))]
 fn reserved_list(alloc: Global, rest: &[Lexeme]) -> Result<(ReservedList<u32>, &[Lexeme]), Stop>
-    ensures { Gives (λ x. (x.0, x.1.now)) result (reserved_list_at (one_token Class.Number) rest.now) }
+    ensures { Gives (λ x. (x.0, x.1.now)) result
+        (reserved_list_at (one_token Class.Number) rest.now) }
 {
     if starts(rest, Want::Text) {
         let (names, rest) = separated(alloc, rest, Class::Comma, Want::Text, Want::Text)?;
@@ -101,7 +106,8 @@ fn reserved_list(alloc: Global, rest: &[Lexeme]) -> Result<(ReservedList<u32>, &
 
 #[tactic(auto, unfolding(crate::specs::Reading::reserved_at))]
 pub fn reserved(alloc: Global, rest: &[Lexeme]) -> Result<(Piece, &[Lexeme]), Stop>
-    ensures { Gives (λ x. (x.0, x.1.now)) result (stated Statement.Reserved (reserved_at (one_token Class.Number)) rest.now) }
+    ensures { Gives (λ x. (x.0, x.1.now)) result
+        (stated Statement.Reserved (reserved_at (one_token Class.Number)) rest.now) }
 {
     let (keyword, rest) = one(rest, Class::Reserved)?;
     let (list, rest) = reserved_list(alloc, rest)?;
@@ -116,7 +122,8 @@ pub fn reserved(alloc: Global, rest: &[Lexeme]) -> Result<(Piece, &[Lexeme]), St
 
 #[tactic(auto, unfolding(crate::specs::Reading::extensions_at))]
 pub fn extensions(alloc: Global, rest: &[Lexeme]) -> Result<(Piece, &[Lexeme]), Stop>
-    ensures { Gives (λ x. (x.0, x.1.now)) result (stated Statement.Extensions extensions_at rest.now) }
+    ensures { Gives (λ x. (x.0, x.1.now)) result
+        (stated Statement.Extensions extensions_at rest.now) }
 {
     let (keyword, rest) = one(rest, Class::Extensions)?;
     let (ranges, rest) = ranges(alloc, rest)?;

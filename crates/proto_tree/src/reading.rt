@@ -67,7 +67,8 @@ pub fn three(
     second: Want,
     third: Want,
 ) -> Result<((u32, u32, u32), &[Lexeme]), Stop>
-    ensures { Gives (λ x. ((x.0.0, (x.0.1, x.0.2)), x.1.now)) result ((token first then token second then token third) rest.now) }
+    ensures { Gives (λ x. ((x.0.0, (x.0.1, x.0.2)), x.1.now)) result
+        ((token first then token second then token third) rest.now) }
 {
     let (first, rest) = take(rest, first)?;
     let (second, rest) = take(rest, second)?;
@@ -111,7 +112,8 @@ fn more_tokens(
     separator: Class,
     want: Want,
 ) -> Result<(Sequence<Behind<u32>>, &[Lexeme]), Stop>
-    ensures { Gives (λ x. (x.0, x.1.now)) result (many (Want.One separator) (behind_at separator (token want)) tokens.now) }
+    ensures { Gives (λ x. (x.0, x.1.now)) result
+        (many (Want.One separator) (behind_at separator (token want)) tokens.now) }
 {
     let mut items = Sequence::new(alloc);
     let mut rest = tokens;
@@ -135,7 +137,8 @@ pub fn separated(
     first: Want,
     want: Want,
 ) -> Result<(Separated<u32>, &[Lexeme]), Stop>
-    ensures { Gives (λ x. (x.0, x.1.now)) result (from_at separator (token first) (token want) rest.now) }
+    ensures { Gives (λ x. (x.0, x.1.now)) result
+        (from_at separator (token first) (token want) rest.now) }
 {
     let (first, rest) = take(rest, first)?;
     let (more, rest) = more_tokens(alloc, rest, separator, want)?;

@@ -71,7 +71,10 @@ struct NumberAndSettings {
 }
 
 fn numbered(alloc: Global, rest: &[Lexeme]) -> Result<(NumberAndSettings, &[Lexeme]), Stop>
-    ensures { Gives (λ x. ((x.0.name, (x.0.equals, (x.0.number, (x.0.settings, x.0.semicolon)))), x.1.now)) result (numbered_at rest.now) }
+    ensures { Gives (λ x. (
+      (x.0.name, (x.0.equals, (x.0.number, (x.0.settings, x.0.semicolon)))),
+      x.1.now,
+    )) result (numbered_at rest.now) }
 {
     let equals = Want::One(Class::Equals);
     let number = Want::One(Class::Number);

@@ -40,7 +40,8 @@ fn committed<S: Store>(
 ) -> Result<Answer, RunFault>
     requires room { S.failure_count store.old < 2 ^ 64 - 1 }
     requires loaded { HoldsFiles (S.holds store.old) workspace }
-    ensures told { TellsOf (CommitOutcome (asked edit)) workspace (S.holds store.old) (S.holds store.new) result }
+    ensures told { TellsOf (CommitOutcome (asked edit)) workspace
+        (S.holds store.old) (S.holds store.new) result }
     ensures count { CountsStore (S.failure_count store.old) (S.failure_count store.new) result }
 {
     let outcome = commit(alloc, store, &mut workspace, edit);

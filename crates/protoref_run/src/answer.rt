@@ -26,7 +26,8 @@ pub(crate) fn described(alloc: Global, descriptors: &Descriptors) -> Result<Answ
 
 // The lines of what the rules find, in the order of path, offset, rule and name, and whether there is one.
 pub(crate) fn linted(alloc: Global, schema: &Schema, rules: &RuleSet) -> Result<Answer, RunFault>
-    ensures linted { IfOk result (λ answer. IsLintOf schema.now rules.now.chosen (text_of answer) (status_of answer)) }
+    ensures linted { IfOk result (λ answer. IsLintOf schema.now rules.now.chosen
+        (text_of answer) (status_of answer)) }
     ensures err { IfErr result (λ e. e ≡ RunFault.NoMemory) }
 {
     let files = schema.files();

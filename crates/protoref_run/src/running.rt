@@ -25,7 +25,8 @@ pub fn run<S: Store, W: Write>(
     writer: &mut W,
 ) -> Result<Status, RunFault>
     requires { S.failure_count store.old < 2 ^ 64 - 1 }
-    ensures ran { Ran command (S.holds store.old) (S.holds store.new) (W.contents writer.old) (W.contents writer.new) result }
+    ensures ran { Ran command (S.holds store.old)
+        (S.holds store.new) (W.contents writer.old) (W.contents writer.new) result }
     ensures count { CountsStore (S.failure_count store.old) (S.failure_count store.new) result }
 {
     let answer = answer_of(alloc, command, store)?;
