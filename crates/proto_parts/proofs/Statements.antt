@@ -1,7 +1,8 @@
 -- The parts of trees that stand one behind another.
-use Rattle.std.proofs.Common.{◌≡◌, ℕ, suc, ◌+◌, ◌<◌, ◌||◌, List, ◌∷◌, ◌++◌, length, get_or, drop, None, Some, refl, sym, ap, ◌∙◌, append_assoc, drop-cons, add-one, arith}
+use Rattle.std.proofs.Common.{◌≡◌, ℕ, suc, ◌+◌, ◌<◌, ◌||◌, List, [], ◌∷◌, ◌++◌, length, get_or, drop, map, None, Some, refl, sym, ap, ◌∙◌, append_assoc, drop-cons, add-one, arith}
 use Rattle.std.specs.List.{flat_map, list_any}
 use Rattle.std.proofs.lemmas.Grind.{flat_map-append}
+use Rattle.std.proofs.lemmas.List.{map-append}
 use Rattle.std.proofs.lemmas.List.Folds.{list_any-append}
 use Rattle.proto_tree.specs.declared.piece.Statement.{Statement}
 use Rattle.proto_tree.specs.declared.piece.Header.TheVariants as header
@@ -18,6 +19,28 @@ statements_joined (Block h i within j rest) u = statements_joined rest u
 
 pub parts_joined : {A : Type 0} (part : Statement → List A) (t u : Tree) → flat_map part (statements (joined t u)) ≡ flat_map part (statements t) ++ flat_map part (statements u)
 parts_joined part t u = ap (flat_map part) (statements_joined t u) ∙ flat_map-append part (statements t) (statements u)
+
+-- what is listed of elements, with one element more
+pub listed_turn : {X A : Type 0} (listed : List X → List A) (part : X → List A) → ((x : X) (xs : List X) → listed (x ∷ xs) ≡ part x ++ listed xs)
+    → (xs : List X) (i : ℕ) (x d : X) (found next whole : List A) → i < length xs → x ≡ get_or xs i d
+    → next ≡ found ++ part x → found ++ listed (drop i xs) ≡ whole → next ++ listed (drop (i + 1) xs) ≡ whole
+listed_turn listed part by xs i x d found next whole lt is new before =
+    let rest : List _ = drop (i + 1) xs in
+    let parted : drop i xs ≡ x ∷ rest = drop-cons xs i d lt ∙ ap (λ (y : _). y ∷ drop (suc i) xs) (sym is) ∙ ap (λ (j : ℕ). x ∷ drop j xs) (sym (add-one i)) in
+    ap (λ ps. ps ++ listed rest) new ∙ append_assoc found (part x) (listed rest)
+    ∙ ap (λ ps. found ++ ps) (sym (by x rest))
+    ∙ ap (λ (ys : List _). found ++ listed ys) (sym parted) ∙ before
+
+-- the parts of one element more
+pub parts_turn : {X A : Type 0} (part : Statement → List A) (tree : X → Tree) (xs : List X) (i : ℕ) (x : X) (found next whole : List A) → i < length xs → x ≡ get_or xs i x
+    → next ≡ found ++ flat_map part (statements (tree x)) → found ++ flat_map part (statements (trees tree (drop i xs))) ≡ whole
+    → next ++ flat_map part (statements (trees tree (drop (i + 1) xs))) ≡ whole
+parts_turn part tree xs i x found next whole lt is new before =
+    listed_turn (λ ys. flat_map part (statements (trees tree ys))) (λ y. flat_map part (statements (tree y))) (λ y ys. parts_joined part (tree y) (trees tree ys)) xs i x x found next whole lt is new before
+
+-- what is read of a list with one element more
+pub pushed : {X A : Type 0} (read : X → A) (xs ys : List X) (x : X) → ys ≡ xs ++ x ∷ [] → map read ys ≡ map read xs ++ read x ∷ []
+pushed read xs ys x is = ap (map read) is ∙ map-append read xs (x ∷ [])
 
 pub fields_joined : (n : ℕ) (t u : Tree) → fields_from n (joined t u) ≡ fields_from n t ++ fields_from (n + oneof_count t) u
 fields_joined n End u = ap (λ (k : ℕ). fields_from k u) (omega arith)

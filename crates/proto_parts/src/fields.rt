@@ -1,6 +1,6 @@
 //! The fields of messages, with their options.
 
-ghost use Rattle.std.specs.Prelude.{◌≡◌, ◌≤◌, ◌++◌, Some, map, flat_map, option_map, IfOk, OnOk};
+ghost use Rattle.std.specs.Prelude.{◌≡◌, ◌≤◌, ◌++◌, [], ◌∷◌, Some, map, flat_map, option_map, IfOk, OnOk};
 ghost use Rattle.proto_tree.specs.File.{field_tree, member_tree, trees};
 ghost use Rattle.proto_parts.specs.Parts.{fields_from, fields_in, map_field, oneof_count, option_of_setting, plain_field, separated, settings_of, statement_fields, statements};
 ghost use Rattle.proto_parts.specs.Views.{field_of, option_of};
@@ -79,6 +79,17 @@ fn plain_field(oneof: Option<usize>, field: &Field) -> FieldAt<'_>
     }
 }
 
+fn push_field<'a>(
+    found: &mut Vec<FieldAt<'a>>,
+    oneof: Option<usize>,
+    field: &'a Field,
+) -> Result<(), NoMemory>
+    ensures { OnOk result (map field_of found.new.items ≡ map field_of found.old.items ++ (plain_field oneof field.now ∷ [])) }
+{
+    found.push(plain_field(oneof, field))?;
+    Ok(())
+}
+
 fn map_field(field: &MapField) -> FieldAt<'_>
     ensures { field_of result ≡ map_field field.now }
 {
@@ -93,6 +104,13 @@ fn map_field(field: &MapField) -> FieldAt<'_>
     }
 }
 
+fn push_map_field<'a>(found: &mut Vec<FieldAt<'a>>, field: &'a MapField) -> Result<(), NoMemory>
+    ensures { OnOk result (map field_of found.new.items ≡ map field_of found.old.items ++ (map_field field.now ∷ [])) }
+{
+    found.push(map_field(field))?;
+    Ok(())
+}
+
 fn push_oneof<'a>(
     found: &mut Vec<FieldAt<'a>>,
     before: usize,
@@ -101,7 +119,7 @@ fn push_oneof<'a>(
     ensures { OnOk result (map field_of found.new.items ≡ map field_of found.old.items ++ flat_map (statement_fields (Some before)) (statements (trees field_tree fields.now))) }
 {
     for field in fields {
-        found.push(plain_field(Some(before), field))?;
+        push_field(found, Some(before), field)?;
     }
     Ok(())
 }
@@ -114,12 +132,11 @@ fn push_fields<'a>(
     ensures { OnOk result (map field_of found.new.items ≡ map field_of found.old.items ++ fields_from before (member_tree member.now)) }
 {
     match member {
-        Member::Field(field) => found.push(plain_field(None, field))?,
-        Member::MapField(field) => found.push(map_field(field))?,
-        Member::Oneof(oneof) => push_oneof(found, before, &oneof.members)?,
-        _ => {}
+        Member::Field(field) => push_field(found, None, field),
+        Member::MapField(field) => push_map_field(found, field),
+        Member::Oneof(oneof) => push_oneof(found, before, &oneof.members),
+        _ => Ok(()),
     }
-    Ok(())
 }
 
 fn oneof_count(member: &Member) -> usize
@@ -133,7 +150,6 @@ fn oneof_count(member: &Member) -> usize
 }
 
 /// The fields of a message, with those of its oneofs, in order.
-#[tactic(auto, using(crate::proofs::Statements::fields_joined))]
 pub fn fields_of<'a>(alloc: Global, members: &'a [Member]) -> Result<Vec<FieldAt<'a>>, NoMemory>
     ensures { IfOk result (λ fields. map field_of fields.items ≡ fields_in (trees member_tree members.now)) }
 {

@@ -1,6 +1,6 @@
 //! The option statements of files, messages, enums, services and methods.
 
-ghost use Rattle.std.specs.Prelude.{◌≡◌, map, option_map, option_to_list, IfOk};
+ghost use Rattle.std.specs.Prelude.{◌≡◌, ◌++◌, [], ◌∷◌, map, IfOk, OnOk};
 ghost use Rattle.proto_tree.specs.File.{enum_item_tree, item_tree, member_tree, method_item_tree, service_item_tree, tree_of_file, trees};
 ghost use Rattle.proto_parts.specs.Parts.{options_in};
 ghost use Rattle.proto_parts.specs.Views.{option_of};
@@ -10,26 +10,29 @@ use proto_faults::NoMemory;
 use proto_tree::{EnumItem, File, Item, Member, MethodItem, Option_, ServiceItem};
 use std::alloc::Global;
 
-fn option_at(option: &Option_) -> OptionAt<'_>
-    ensures { option_of result ≡ record { name = option.now.name; value = option.now.value } }
+fn push_option<'a>(found: &mut Vec<OptionAt<'a>>, option: &'a Option_) -> Result<(), NoMemory>
+    ensures { OnOk result (map option_of found.new.items ≡ map option_of found.old.items ++ (record { name = option.now.name; value = option.now.value } ∷ [])) }
 {
-    OptionAt {
+    found.push(OptionAt {
         name: option.name,
         value: &option.value,
-    }
+    })?;
+    Ok(())
 }
 
-fn message_option(member: &Member) -> Option<OptionAt<'_>>
-    ensures { option_to_list (option_map option_of result) ≡ options_in (member_tree member.now) }
+fn push_message_option<'a>(
+    found: &mut Vec<OptionAt<'a>>,
+    member: &'a Member,
+) -> Result<(), NoMemory>
+    ensures { OnOk result (map option_of found.new.items ≡ map option_of found.old.items ++ options_in (member_tree member.now)) }
 {
     match member {
-        Member::Option(option) => Some(option_at(option)),
-        _ => None,
+        Member::Option(option) => push_option(found, option),
+        _ => Ok(()),
     }
 }
 
 /// The option statements right in a message, in order.
-#[tactic(auto, using(crate::proofs::Statements::parts_joined))]
 pub fn message_options<'a>(
     alloc: Global,
     members: &'a [Member],
@@ -38,47 +41,44 @@ pub fn message_options<'a>(
 {
     let mut found = Vec::new(alloc);
     for member in members {
-        if let Some(option) = message_option(member) {
-            found.push(option)?;
-        }
+        push_message_option(&mut found, member)?;
     }
     Ok(found)
 }
 
-fn enum_option(item: &EnumItem) -> Option<OptionAt<'_>>
-    ensures { option_to_list (option_map option_of result) ≡ options_in (enum_item_tree item.now) }
+fn push_enum_option<'a>(found: &mut Vec<OptionAt<'a>>, item: &'a EnumItem) -> Result<(), NoMemory>
+    ensures { OnOk result (map option_of found.new.items ≡ map option_of found.old.items ++ options_in (enum_item_tree item.now)) }
 {
     match item {
-        EnumItem::Option(option) => Some(option_at(option)),
-        _ => None,
+        EnumItem::Option(option) => push_option(found, option),
+        _ => Ok(()),
     }
 }
 
 /// The option statements right in an enum, in order.
-#[tactic(auto, using(crate::proofs::Statements::parts_joined))]
 pub fn enum_options<'a>(alloc: Global, items: &'a [EnumItem]) -> Result<Vec<OptionAt<'a>>, NoMemory>
     ensures { IfOk result (λ found. map option_of found.items ≡ options_in (trees enum_item_tree items.now)) }
 {
     let mut found = Vec::new(alloc);
     for item in items {
-        if let Some(option) = enum_option(item) {
-            found.push(option)?;
-        }
+        push_enum_option(&mut found, item)?;
     }
     Ok(found)
 }
 
-fn service_option(item: &ServiceItem) -> Option<OptionAt<'_>>
-    ensures { option_to_list (option_map option_of result) ≡ options_in (service_item_tree item.now) }
+fn push_service_option<'a>(
+    found: &mut Vec<OptionAt<'a>>,
+    item: &'a ServiceItem,
+) -> Result<(), NoMemory>
+    ensures { OnOk result (map option_of found.new.items ≡ map option_of found.old.items ++ options_in (service_item_tree item.now)) }
 {
     match item {
-        ServiceItem::Option(option) => Some(option_at(option)),
-        _ => None,
+        ServiceItem::Option(option) => push_option(found, option),
+        _ => Ok(()),
     }
 }
 
 /// The option statements right in a service, in order.
-#[tactic(auto, using(crate::proofs::Statements::parts_joined))]
 pub fn service_options<'a>(
     alloc: Global,
     items: &'a [ServiceItem],
@@ -87,24 +87,24 @@ pub fn service_options<'a>(
 {
     let mut found = Vec::new(alloc);
     for item in items {
-        if let Some(option) = service_option(item) {
-            found.push(option)?;
-        }
+        push_service_option(&mut found, item)?;
     }
     Ok(found)
 }
 
-fn method_option(item: &MethodItem) -> Option<OptionAt<'_>>
-    ensures { option_to_list (option_map option_of result) ≡ options_in (method_item_tree item.now) }
+fn push_method_option<'a>(
+    found: &mut Vec<OptionAt<'a>>,
+    item: &'a MethodItem,
+) -> Result<(), NoMemory>
+    ensures { OnOk result (map option_of found.new.items ≡ map option_of found.old.items ++ options_in (method_item_tree item.now)) }
 {
     match item {
-        MethodItem::Option(option) => Some(option_at(option)),
-        _ => None,
+        MethodItem::Option(option) => push_option(found, option),
+        _ => Ok(()),
     }
 }
 
 /// The option statements right in a method, in order.
-#[tactic(auto, using(crate::proofs::Statements::parts_joined))]
 pub fn method_options<'a>(
     alloc: Global,
     items: &'a [MethodItem],
@@ -113,32 +113,27 @@ pub fn method_options<'a>(
 {
     let mut found = Vec::new(alloc);
     for item in items {
-        if let Some(option) = method_option(item) {
-            found.push(option)?;
-        }
+        push_method_option(&mut found, item)?;
     }
     Ok(found)
 }
 
-fn file_option(item: &Item) -> Option<OptionAt<'_>>
-    ensures { option_to_list (option_map option_of result) ≡ options_in (item_tree item.now) }
+fn push_file_option<'a>(found: &mut Vec<OptionAt<'a>>, item: &'a Item) -> Result<(), NoMemory>
+    ensures { OnOk result (map option_of found.new.items ≡ map option_of found.old.items ++ options_in (item_tree item.now)) }
 {
     match item {
-        Item::Option(option) => Some(option_at(option)),
-        _ => None,
+        Item::Option(option) => push_option(found, option),
+        _ => Ok(()),
     }
 }
 
 /// The option statements right in a file, in order.
-#[tactic(auto, using(crate::proofs::Statements::parts_joined))]
 pub fn file_options<'a>(alloc: Global, file: &'a File) -> Result<Vec<OptionAt<'a>>, NoMemory>
     ensures { IfOk result (λ found. map option_of found.items ≡ options_in (tree_of_file file.now)) }
 {
     let mut found = Vec::new(alloc);
     for item in &file.items {
-        if let Some(option) = file_option(item) {
-            found.push(option)?;
-        }
+        push_file_option(&mut found, item)?;
     }
     Ok(found)
 }

@@ -1,6 +1,6 @@
 //! The ranges that are reserved, or left to extensions.
 
-ghost use Rattle.std.specs.Prelude.{◌≡◌, ◌++◌, [], ◌∷◌, map, flat_map, IfOk, OnOk, option_to_list};
+ghost use Rattle.std.specs.Prelude.{◌≡◌, ◌++◌, [], ◌∷◌, map, flat_map, IfOk, OnOk};
 ghost use Rattle.proto_tree.specs.File.{enum_item_tree, member_tree, trees};
 ghost use Rattle.proto_parts.specs.Parts.{closed_ranges, enum_ranges, extension_ranges, extension_words, ranges_of, reserved_ranges, statements};
 
@@ -34,7 +34,6 @@ fn push_reserved_ranges<'a>(
 }
 
 /// The ranges that a message reserves, in order.
-#[tactic(auto, using(crate::proofs::Statements::parts_joined))]
 pub fn reserved_ranges<'a>(
     alloc: Global,
     members: &'a [Member],
@@ -61,7 +60,6 @@ fn push_extension_ranges<'a>(
 }
 
 /// The ranges that a message leaves to extensions, in order.
-#[tactic(auto, using(crate::proofs::Statements::parts_joined))]
 pub fn extension_ranges<'a>(
     alloc: Global,
     members: &'a [Member],
@@ -89,7 +87,6 @@ fn push_closed_ranges<'a>(
 }
 
 /// The ranges of a message of both kinds, in order.
-#[tactic(auto, using(crate::proofs::Statements::parts_joined))]
 pub fn closed_ranges<'a>(
     alloc: Global,
     members: &'a [Member],
@@ -103,25 +100,22 @@ pub fn closed_ranges<'a>(
     Ok(found)
 }
 
-fn extension_word(member: &Member) -> Option<u32>
-    ensures { option_to_list result ≡ flat_map extension_words (statements (member_tree member.now)) }
+fn push_extension_word(found: &mut Vec<u32>, member: &Member) -> Result<(), NoMemory>
+    ensures { OnOk result (found.new.items ≡ found.old.items ++ flat_map extension_words (statements (member_tree member.now))) }
 {
     match member {
-        Member::Extensions(extensions) => Some(extensions.keyword),
-        _ => None,
+        Member::Extensions(extensions) => Ok(found.push(extensions.keyword)?),
+        _ => Ok(()),
     }
 }
 
 /// The tokens of the word `extensions` of each such statement of a message, in order.
-#[tactic(auto, using(crate::proofs::Statements::parts_joined))]
 pub fn extension_words(alloc: Global, members: &[Member]) -> Result<Vec<u32>, NoMemory>
     ensures { IfOk result (λ found. found.items ≡ flat_map extension_words (statements (trees member_tree members.now))) }
 {
     let mut found = Vec::new(alloc);
     for member in members {
-        if let Some(word) = extension_word(member) {
-            found.push(word)?;
-        }
+        push_extension_word(&mut found, member)?;
     }
     Ok(found)
 }
@@ -139,7 +133,6 @@ fn push_enum_ranges<'a>(
 }
 
 /// The ranges that an enum reserves, in order.
-#[tactic(auto, using(crate::proofs::Statements::parts_joined))]
 pub fn enum_ranges<'a>(
     alloc: Global,
     items: &'a [EnumItem],

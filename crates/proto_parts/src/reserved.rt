@@ -28,7 +28,6 @@ fn push_reserved_names(found: &mut Vec<u32>, member: &Member) -> Result<(), NoMe
 }
 
 /// The tokens of the names that a message reserves, in order.
-#[tactic(auto, using(crate::proofs::Statements::parts_joined))]
 pub fn reserved_names(alloc: Global, members: &[Member]) -> Result<Vec<u32>, NoMemory>
     ensures { IfOk result (λ found. found.items ≡ reserved_names_in (trees member_tree members.now)) }
 {
@@ -49,7 +48,6 @@ fn push_enum_reserved_names(found: &mut Vec<u32>, item: &EnumItem) -> Result<(),
 }
 
 /// The tokens of the names that an enum reserves, in order.
-#[tactic(auto, using(crate::proofs::Statements::parts_joined))]
 pub fn enum_reserved_names(alloc: Global, items: &[EnumItem]) -> Result<Vec<u32>, NoMemory>
     ensures { IfOk result (λ found. found.items ≡ reserved_names_in (trees enum_item_tree items.now)) }
 {

@@ -1,0 +1,6 @@
+use Rattle.std.proofs.Common.{[], ◌∷◌, map, refl}
+use Rattle.proto_parts.proofs.Statements.{listed_turn}
+use Rattle.proto_parts.proofs.separated.push_tokens.Goals as goal
+
+pub loop-behind-preserved : goal.loop-behind-preserved
+loop-behind-preserved c = listed_turn (map (λ b. b.item)) (λ b. b.item ∷ []) (λ x xs. refl) c.as_slice-behind-items.result.now c.loop-behind.behind-index _ _ _ _ _ c.loop-behind-test.true refl c.in_ok-push-2.ensures.items c.loop-behind.invariant
