@@ -9,7 +9,8 @@ use proto_tree::{EnumItem, Value};
 use std::alloc::Global;
 
 fn push_value<'a>(found: &mut Vec<&'a Value>, item: &'a EnumItem) -> Result<(), NoMemory>
-    ensures { OnOk result (map (λ v. v.now) found.new.items ≡ map (λ v. v.now) found.old.items ++ values_in (enum_item_tree item.now)) }
+    ensures { OnOk result (map (λ v. v.now) found.new.items
+        ≡ map (λ v. v.now) found.old.items ++ values_in (enum_item_tree item.now)) }
 {
     match item {
         EnumItem::Value(value) => Ok(found.push(value)?),
@@ -19,7 +20,8 @@ fn push_value<'a>(found: &mut Vec<&'a Value>, item: &'a EnumItem) -> Result<(), 
 
 /// The values of an enum, in order.
 pub fn values<'a>(alloc: Global, items: &'a [EnumItem]) -> Result<Vec<&'a Value>, NoMemory>
-    ensures { IfOk result (λ found. map (λ v. v.now) found.items ≡ values_in (trees enum_item_tree items.now)) }
+    ensures { IfOk result (λ found. map (λ v. v.now) found.items
+        ≡ values_in (trees enum_item_tree items.now)) }
 {
     let mut found = Vec::new(alloc);
     for item in items {

@@ -42,7 +42,8 @@ fn options_listed<'a>(
     alloc: Global,
     list: &'a Separated<Setting>,
 ) -> Result<Vec<OptionAt<'a>>, NoMemory>
-    ensures { IfOk result (λ options. map option_of options.items ≡ map option_of_setting (separated list.now)) }
+    ensures { IfOk result (λ options. map option_of options.items
+        ≡ map option_of_setting (separated list.now)) }
 {
     let mut options = Vec::new(alloc);
     options.push(option_at(&list.first))?;
@@ -57,7 +58,8 @@ pub fn options_between<'a>(
     alloc: Global,
     settings: Option<&'a Settings>,
 ) -> Result<Vec<OptionAt<'a>>, NoMemory>
-    ensures { IfOk result (λ options. map option_of options.items ≡ settings_of (option_map (λ s. s.now) settings.entry)) }
+    ensures { IfOk result (λ options. map option_of options.items
+        ≡ settings_of (option_map (λ s. s.now) settings.entry)) }
 {
     match settings {
         Some(settings) => options_listed(alloc, &settings.list),
@@ -84,7 +86,8 @@ fn push_field<'a>(
     oneof: Option<usize>,
     field: &'a Field,
 ) -> Result<(), NoMemory>
-    ensures { OnOk result (map field_of found.new.items ≡ map field_of found.old.items ++ (plain_field oneof field.now ∷ [])) }
+    ensures { OnOk result (map field_of found.new.items
+        ≡ map field_of found.old.items ++ (plain_field oneof field.now ∷ [])) }
 {
     found.push(plain_field(oneof, field))?;
     Ok(())
@@ -105,7 +108,8 @@ fn map_field(field: &MapField) -> FieldAt<'_>
 }
 
 fn push_map_field<'a>(found: &mut Vec<FieldAt<'a>>, field: &'a MapField) -> Result<(), NoMemory>
-    ensures { OnOk result (map field_of found.new.items ≡ map field_of found.old.items ++ (map_field field.now ∷ [])) }
+    ensures { OnOk result (map field_of found.new.items
+        ≡ map field_of found.old.items ++ (map_field field.now ∷ [])) }
 {
     found.push(map_field(field))?;
     Ok(())
@@ -116,7 +120,8 @@ fn push_oneof<'a>(
     before: usize,
     fields: &'a [Field],
 ) -> Result<(), NoMemory>
-    ensures { OnOk result (map field_of found.new.items ≡ map field_of found.old.items ++ flat_map (statement_fields (Some before)) (statements (trees field_tree fields.now))) }
+    ensures { OnOk result (map field_of found.new.items ≡ map field_of found.old.items
+        ++ flat_map (statement_fields (Some before)) (statements (trees field_tree fields.now))) }
 {
     for field in fields {
         push_field(found, Some(before), field)?;
@@ -129,7 +134,8 @@ fn push_fields<'a>(
     before: usize,
     member: &'a Member,
 ) -> Result<(), NoMemory>
-    ensures { OnOk result (map field_of found.new.items ≡ map field_of found.old.items ++ fields_from before (member_tree member.now)) }
+    ensures { OnOk result (map field_of found.new.items
+        ≡ map field_of found.old.items ++ fields_from before (member_tree member.now)) }
 {
     match member {
         Member::Field(field) => push_field(found, None, field),
@@ -151,7 +157,8 @@ fn oneof_count(member: &Member) -> usize
 
 /// The fields of a message, with those of its oneofs, in order.
 pub fn fields_of<'a>(alloc: Global, members: &'a [Member]) -> Result<Vec<FieldAt<'a>>, NoMemory>
-    ensures { IfOk result (λ fields. map field_of fields.items ≡ fields_in (trees member_tree members.now)) }
+    ensures { IfOk result (λ fields. map field_of fields.items
+        ≡ fields_in (trees member_tree members.now)) }
 {
     let mut fields = Vec::new(alloc);
     let mut oneofs = 0;

@@ -13,7 +13,8 @@ use proto_faults::NoMemory;
 use std::alloc::Global;
 
 fn written_or(alloc: Global, written: Option<String>, word: &str) -> Result<String, NoMemory>
-    ensures { IfOk result (λ name. string_bytes name ≡ written_or (option_map string_bytes written) word.now) }
+    ensures { IfOk result (λ name. string_bytes name
+        ≡ written_or (option_map string_bytes written) word.now) }
 {
     match written {
         Some(name) => Ok(name),
@@ -24,7 +25,8 @@ fn written_or(alloc: Global, written: Option<String>, word: &str) -> Result<Stri
 /// The name of a field in JSON: the text of its option `json_name`, where it has one; else its word without each `_`,
 /// the character after one in upper case.
 pub fn json_name(alloc: Global, scene: &Scene, field: FieldAt) -> Result<String, NoMemory>
-    ensures { IfOk result (λ name. string_bytes name ≡ json_name_of scene.now (field_of field.entry)) }
+    ensures { IfOk result (λ name. string_bytes name
+        ≡ json_name_of scene.now (field_of field.entry)) }
 {
     let options = options_between(alloc, field.settings)?;
     let written = text_option(alloc, scene, &options, "json_name")?;

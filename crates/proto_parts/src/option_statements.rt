@@ -11,7 +11,8 @@ use proto_tree::{EnumItem, File, Item, Member, MethodItem, Option_, ServiceItem}
 use std::alloc::Global;
 
 fn push_option<'a>(found: &mut Vec<OptionAt<'a>>, option: &'a Option_) -> Result<(), NoMemory>
-    ensures { OnOk result (map option_of found.new.items ≡ map option_of found.old.items ++ (record { name = option.now.name; value = option.now.value } ∷ [])) }
+    ensures { OnOk result (map option_of found.new.items ≡ map option_of found.old.items
+        ++ (record { name = option.now.name; value = option.now.value } ∷ [])) }
 {
     found.push(OptionAt {
         name: option.name,
@@ -24,7 +25,8 @@ fn push_message_option<'a>(
     found: &mut Vec<OptionAt<'a>>,
     member: &'a Member,
 ) -> Result<(), NoMemory>
-    ensures { OnOk result (map option_of found.new.items ≡ map option_of found.old.items ++ options_in (member_tree member.now)) }
+    ensures { OnOk result (map option_of found.new.items
+        ≡ map option_of found.old.items ++ options_in (member_tree member.now)) }
 {
     match member {
         Member::Option(option) => push_option(found, option),
@@ -37,7 +39,8 @@ pub fn message_options<'a>(
     alloc: Global,
     members: &'a [Member],
 ) -> Result<Vec<OptionAt<'a>>, NoMemory>
-    ensures { IfOk result (λ found. map option_of found.items ≡ options_in (trees member_tree members.now)) }
+    ensures { IfOk result (λ found. map option_of found.items
+        ≡ options_in (trees member_tree members.now)) }
 {
     let mut found = Vec::new(alloc);
     for member in members {
@@ -47,7 +50,8 @@ pub fn message_options<'a>(
 }
 
 fn push_enum_option<'a>(found: &mut Vec<OptionAt<'a>>, item: &'a EnumItem) -> Result<(), NoMemory>
-    ensures { OnOk result (map option_of found.new.items ≡ map option_of found.old.items ++ options_in (enum_item_tree item.now)) }
+    ensures { OnOk result (map option_of found.new.items
+        ≡ map option_of found.old.items ++ options_in (enum_item_tree item.now)) }
 {
     match item {
         EnumItem::Option(option) => push_option(found, option),
@@ -57,7 +61,8 @@ fn push_enum_option<'a>(found: &mut Vec<OptionAt<'a>>, item: &'a EnumItem) -> Re
 
 /// The option statements right in an enum, in order.
 pub fn enum_options<'a>(alloc: Global, items: &'a [EnumItem]) -> Result<Vec<OptionAt<'a>>, NoMemory>
-    ensures { IfOk result (λ found. map option_of found.items ≡ options_in (trees enum_item_tree items.now)) }
+    ensures { IfOk result (λ found. map option_of found.items
+        ≡ options_in (trees enum_item_tree items.now)) }
 {
     let mut found = Vec::new(alloc);
     for item in items {
@@ -70,7 +75,8 @@ fn push_service_option<'a>(
     found: &mut Vec<OptionAt<'a>>,
     item: &'a ServiceItem,
 ) -> Result<(), NoMemory>
-    ensures { OnOk result (map option_of found.new.items ≡ map option_of found.old.items ++ options_in (service_item_tree item.now)) }
+    ensures { OnOk result (map option_of found.new.items
+        ≡ map option_of found.old.items ++ options_in (service_item_tree item.now)) }
 {
     match item {
         ServiceItem::Option(option) => push_option(found, option),
@@ -83,7 +89,8 @@ pub fn service_options<'a>(
     alloc: Global,
     items: &'a [ServiceItem],
 ) -> Result<Vec<OptionAt<'a>>, NoMemory>
-    ensures { IfOk result (λ found. map option_of found.items ≡ options_in (trees service_item_tree items.now)) }
+    ensures { IfOk result (λ found. map option_of found.items
+        ≡ options_in (trees service_item_tree items.now)) }
 {
     let mut found = Vec::new(alloc);
     for item in items {
@@ -96,7 +103,8 @@ fn push_method_option<'a>(
     found: &mut Vec<OptionAt<'a>>,
     item: &'a MethodItem,
 ) -> Result<(), NoMemory>
-    ensures { OnOk result (map option_of found.new.items ≡ map option_of found.old.items ++ options_in (method_item_tree item.now)) }
+    ensures { OnOk result (map option_of found.new.items
+        ≡ map option_of found.old.items ++ options_in (method_item_tree item.now)) }
 {
     match item {
         MethodItem::Option(option) => push_option(found, option),
@@ -109,7 +117,8 @@ pub fn method_options<'a>(
     alloc: Global,
     items: &'a [MethodItem],
 ) -> Result<Vec<OptionAt<'a>>, NoMemory>
-    ensures { IfOk result (λ found. map option_of found.items ≡ options_in (trees method_item_tree items.now)) }
+    ensures { IfOk result (λ found. map option_of found.items
+        ≡ options_in (trees method_item_tree items.now)) }
 {
     let mut found = Vec::new(alloc);
     for item in items {
@@ -119,7 +128,8 @@ pub fn method_options<'a>(
 }
 
 fn push_file_option<'a>(found: &mut Vec<OptionAt<'a>>, item: &'a Item) -> Result<(), NoMemory>
-    ensures { OnOk result (map option_of found.new.items ≡ map option_of found.old.items ++ options_in (item_tree item.now)) }
+    ensures { OnOk result (map option_of found.new.items
+        ≡ map option_of found.old.items ++ options_in (item_tree item.now)) }
 {
     match item {
         Item::Option(option) => push_option(found, option),
@@ -129,7 +139,8 @@ fn push_file_option<'a>(found: &mut Vec<OptionAt<'a>>, item: &'a Item) -> Result
 
 /// The option statements right in a file, in order.
 pub fn file_options<'a>(alloc: Global, file: &'a File) -> Result<Vec<OptionAt<'a>>, NoMemory>
-    ensures { IfOk result (λ found. map option_of found.items ≡ options_in (tree_of_file file.now)) }
+    ensures { IfOk result (λ found. map option_of found.items
+        ≡ options_in (tree_of_file file.now)) }
 {
     let mut found = Vec::new(alloc);
     for item in &file.items {

@@ -43,7 +43,8 @@ pub fn truth(scene: &Scene, value: &Constant) -> Option<bool>
 
 /// The first option of a name; none where there is none.
 pub fn option_named<'a>(scene: &Scene, options: &[OptionAt<'a>], name: &str) -> Option<OptionAt<'a>>
-    ensures { option_map option_of result ≡ find (is_named (text scene.now) name.now) (map option_of options.now) }
+    ensures { option_map option_of result ≡ find
+        (is_named (text scene.now) name.now) (map option_of options.now) }
 {
     for option in options {
         if scene.text(option.name) == name {
@@ -93,7 +94,8 @@ pub fn is_allowed(scene: &Scene, element: Element, option: OptionAt) -> bool
 // ---- texts
 
 fn joined_text(alloc: Global, scene: &Scene, joined: &Joined) -> Result<String, NoMemory>
-    ensures { IfOk result (λ text. string_bytes text ≡ flat_map (value scene.now) (joined.now.first ∷ joined.now.rest)) }
+    ensures { IfOk result (λ text. string_bytes text
+        ≡ flat_map (value scene.now) (joined.now.first ∷ joined.now.rest)) }
 {
     let mut text = scene.string(alloc, joined.first)?;
     for token in joined.rest.as_slice() {
@@ -108,7 +110,8 @@ pub fn text_value(
     scene: &Scene,
     constant: &Constant,
 ) -> Result<Option<String>, NoMemory>
-    ensures { IfOk result (λ text. option_map string_bytes text ≡ text_of (value scene.now) constant.now) }
+    ensures { IfOk result (λ text. option_map string_bytes text
+        ≡ text_of (value scene.now) constant.now) }
 {
     match constant {
         Constant::Text(joined) => Ok(Some(joined_text(alloc, scene, joined)?)),
@@ -127,7 +130,8 @@ pub fn truth_option(scene: &Scene, options: &[OptionAt], name: &str) -> Option<b
 
 /// The word of the first option of the name.
 pub fn word_option<'a>(scene: &Scene<'a>, options: &[OptionAt], name: &str) -> Option<&'a str>
-    ensures { option_map (λ w. w.now) result ≡ word_option (text scene.now) name.now (map option_of options.now) }
+    ensures { option_map (λ w. w.now) result
+        ≡ word_option (text scene.now) name.now (map option_of options.now) }
 {
     word(scene, option_named(scene, options, name)?.value)
 }
@@ -139,7 +143,8 @@ pub fn text_option(
     options: &[OptionAt],
     name: &str,
 ) -> Result<Option<String>, NoMemory>
-    ensures { IfOk result (λ o. option_map string_bytes o ≡ text_option (text scene.now) (value scene.now) name.now (map option_of options.now)) }
+    ensures { IfOk result (λ o. option_map string_bytes o
+        ≡ text_option (text scene.now) (value scene.now) name.now (map option_of options.now)) }
 {
     match option_named(scene, options, name) {
         Some(option) => text_value(alloc, scene, option.value),

@@ -13,7 +13,8 @@ fn push_reserved<'a, N: Drop>(
     found: &mut Vec<&'a Range<N>>,
     list: &'a ReservedList<N>,
 ) -> Result<(), NoMemory>
-    ensures { OnOk result (map (λ r. r.now) found.new.items ≡ map (λ r. r.now) found.old.items ++ ranges_of list.now) }
+    ensures { OnOk result (map (λ r. r.now) found.new.items
+        ≡ map (λ r. r.now) found.old.items ++ ranges_of list.now) }
 {
     match list {
         ReservedList::Ranges(ranges) => push_separated(found, ranges),
@@ -25,7 +26,8 @@ fn push_reserved_ranges<'a>(
     found: &mut Vec<&'a Range<u32>>,
     member: &'a Member,
 ) -> Result<(), NoMemory>
-    ensures { OnOk result (map (λ r. r.now) found.new.items ≡ map (λ r. r.now) found.old.items ++ flat_map reserved_ranges (statements (member_tree member.now))) }
+    ensures { OnOk result (map (λ r. r.now) found.new.items ≡ map (λ r. r.now) found.old.items
+        ++ flat_map reserved_ranges (statements (member_tree member.now))) }
 {
     match member {
         Member::Reserved(reserved) => push_reserved(found, &reserved.list),
@@ -38,7 +40,8 @@ pub fn reserved_ranges<'a>(
     alloc: Global,
     members: &'a [Member],
 ) -> Result<Vec<&'a Range<u32>>, NoMemory>
-    ensures { IfOk result (λ found. map (λ r. r.now) found.items ≡ flat_map reserved_ranges (statements (trees member_tree members.now))) }
+    ensures { IfOk result (λ found. map (λ r. r.now) found.items
+        ≡ flat_map reserved_ranges (statements (trees member_tree members.now))) }
 {
     let mut found = Vec::new(alloc);
     for member in members {
@@ -51,7 +54,8 @@ fn push_extension_ranges<'a>(
     found: &mut Vec<&'a Range<u32>>,
     member: &'a Member,
 ) -> Result<(), NoMemory>
-    ensures { OnOk result (map (λ r. r.now) found.new.items ≡ map (λ r. r.now) found.old.items ++ flat_map extension_ranges (statements (member_tree member.now))) }
+    ensures { OnOk result (map (λ r. r.now) found.new.items ≡ map (λ r. r.now) found.old.items
+        ++ flat_map extension_ranges (statements (member_tree member.now))) }
 {
     match member {
         Member::Extensions(extensions) => push_separated(found, &extensions.ranges),
@@ -64,7 +68,8 @@ pub fn extension_ranges<'a>(
     alloc: Global,
     members: &'a [Member],
 ) -> Result<Vec<&'a Range<u32>>, NoMemory>
-    ensures { IfOk result (λ found. map (λ r. r.now) found.items ≡ flat_map extension_ranges (statements (trees member_tree members.now))) }
+    ensures { IfOk result (λ found. map (λ r. r.now) found.items
+        ≡ flat_map extension_ranges (statements (trees member_tree members.now))) }
 {
     let mut found = Vec::new(alloc);
     for member in members {
@@ -77,7 +82,8 @@ fn push_closed_ranges<'a>(
     found: &mut Vec<&'a Range<u32>>,
     member: &'a Member,
 ) -> Result<(), NoMemory>
-    ensures { OnOk result (map (λ r. r.now) found.new.items ≡ map (λ r. r.now) found.old.items ++ flat_map closed_ranges (statements (member_tree member.now))) }
+    ensures { OnOk result (map (λ r. r.now) found.new.items ≡ map (λ r. r.now) found.old.items
+        ++ flat_map closed_ranges (statements (member_tree member.now))) }
 {
     match member {
         Member::Reserved(reserved) => push_reserved(found, &reserved.list),
@@ -91,7 +97,8 @@ pub fn closed_ranges<'a>(
     alloc: Global,
     members: &'a [Member],
 ) -> Result<Vec<&'a Range<u32>>, NoMemory>
-    ensures { IfOk result (λ found. map (λ r. r.now) found.items ≡ flat_map closed_ranges (statements (trees member_tree members.now))) }
+    ensures { IfOk result (λ found. map (λ r. r.now) found.items
+        ≡ flat_map closed_ranges (statements (trees member_tree members.now))) }
 {
     let mut found = Vec::new(alloc);
     for member in members {
@@ -101,7 +108,8 @@ pub fn closed_ranges<'a>(
 }
 
 fn push_extension_word(found: &mut Vec<u32>, member: &Member) -> Result<(), NoMemory>
-    ensures { OnOk result (found.new.items ≡ found.old.items ++ flat_map extension_words (statements (member_tree member.now))) }
+    ensures { OnOk result (found.new.items ≡ found.old.items
+        ++ flat_map extension_words (statements (member_tree member.now))) }
 {
     match member {
         Member::Extensions(extensions) => Ok(found.push(extensions.keyword)?),
@@ -111,7 +119,8 @@ fn push_extension_word(found: &mut Vec<u32>, member: &Member) -> Result<(), NoMe
 
 /// The tokens of the word `extensions` of each such statement of a message, in order.
 pub fn extension_words(alloc: Global, members: &[Member]) -> Result<Vec<u32>, NoMemory>
-    ensures { IfOk result (λ found. found.items ≡ flat_map extension_words (statements (trees member_tree members.now))) }
+    ensures { IfOk result (λ found. found.items
+        ≡ flat_map extension_words (statements (trees member_tree members.now))) }
 {
     let mut found = Vec::new(alloc);
     for member in members {
@@ -124,7 +133,8 @@ fn push_enum_ranges<'a>(
     found: &mut Vec<&'a Range<Signed>>,
     item: &'a EnumItem,
 ) -> Result<(), NoMemory>
-    ensures { OnOk result (map (λ r. r.now) found.new.items ≡ map (λ r. r.now) found.old.items ++ flat_map enum_ranges (statements (enum_item_tree item.now))) }
+    ensures { OnOk result (map (λ r. r.now) found.new.items ≡ map (λ r. r.now) found.old.items
+        ++ flat_map enum_ranges (statements (enum_item_tree item.now))) }
 {
     match item {
         EnumItem::Reserved(reserved) => push_reserved(found, &reserved.list),
@@ -137,7 +147,8 @@ pub fn enum_ranges<'a>(
     alloc: Global,
     items: &'a [EnumItem],
 ) -> Result<Vec<&'a Range<Signed>>, NoMemory>
-    ensures { IfOk result (λ found. map (λ r. r.now) found.items ≡ flat_map enum_ranges (statements (trees enum_item_tree items.now))) }
+    ensures { IfOk result (λ found. map (λ r. r.now) found.items
+        ≡ flat_map enum_ranges (statements (trees enum_item_tree items.now))) }
 {
     let mut found = Vec::new(alloc);
     for item in items {

@@ -19,7 +19,8 @@ fn push_names<N: Drop>(found: &mut Vec<u32>, list: &ReservedList<N>) -> Result<(
 }
 
 fn push_reserved_names(found: &mut Vec<u32>, member: &Member) -> Result<(), NoMemory>
-    ensures { OnOk result (found.new.items ≡ found.old.items ++ reserved_names_in (member_tree member.now)) }
+    ensures { OnOk result (found.new.items ≡ found.old.items
+        ++ reserved_names_in (member_tree member.now)) }
 {
     match member {
         Member::Reserved(reserved) => push_names(found, &reserved.list),
@@ -29,7 +30,8 @@ fn push_reserved_names(found: &mut Vec<u32>, member: &Member) -> Result<(), NoMe
 
 /// The tokens of the names that a message reserves, in order.
 pub fn reserved_names(alloc: Global, members: &[Member]) -> Result<Vec<u32>, NoMemory>
-    ensures { IfOk result (λ found. found.items ≡ reserved_names_in (trees member_tree members.now)) }
+    ensures { IfOk result (λ found. found.items
+        ≡ reserved_names_in (trees member_tree members.now)) }
 {
     let mut found = Vec::new(alloc);
     for member in members {
@@ -39,7 +41,8 @@ pub fn reserved_names(alloc: Global, members: &[Member]) -> Result<Vec<u32>, NoM
 }
 
 fn push_enum_reserved_names(found: &mut Vec<u32>, item: &EnumItem) -> Result<(), NoMemory>
-    ensures { OnOk result (found.new.items ≡ found.old.items ++ reserved_names_in (enum_item_tree item.now)) }
+    ensures { OnOk result (found.new.items ≡ found.old.items
+        ++ reserved_names_in (enum_item_tree item.now)) }
 {
     match item {
         EnumItem::Reserved(reserved) => push_names(found, &reserved.list),
@@ -49,7 +52,8 @@ fn push_enum_reserved_names(found: &mut Vec<u32>, item: &EnumItem) -> Result<(),
 
 /// The tokens of the names that an enum reserves, in order.
 pub fn enum_reserved_names(alloc: Global, items: &[EnumItem]) -> Result<Vec<u32>, NoMemory>
-    ensures { IfOk result (λ found. found.items ≡ reserved_names_in (trees enum_item_tree items.now)) }
+    ensures { IfOk result (λ found. found.items
+        ≡ reserved_names_in (trees enum_item_tree items.now)) }
 {
     let mut found = Vec::new(alloc);
     for item in items {

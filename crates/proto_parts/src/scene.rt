@@ -65,7 +65,12 @@ impl<'a> Scene<'a> {
     /// A file by the texts of its tokens, its version, and what its references mean, in the order of their first tokens.
     pub fn new(words: Words<'a>, is_proto3: bool, means: Vec<MeantAt<'a>>) -> Scene<'a>
         requires rising { AllPairs (λ m n. m.token < n.token) means.items }
-        ensures { result ≡ record { lexemes = words.entry; cap = Some past; is_proto3 = is_proto3; means = map meant_of means.entry.items } }
+        ensures { result ≡ record {
+          lexemes = words.entry;
+          cap = Some past;
+          is_proto3 = is_proto3;
+          means = map meant_of means.entry.items;
+        } }
     {
         Scene {
             words,

@@ -10,7 +10,8 @@ pub(crate) fn push_separated<'a, T: Drop>(
     found: &mut Vec<&'a T>,
     items: &'a Separated<T>,
 ) -> Result<(), NoMemory>
-    ensures { OnOk result (map (λ r. r.now) found.new.items ≡ map (λ r. r.now) found.old.items ++ separated items.now) }
+    ensures { OnOk result (map (λ r. r.now) found.new.items
+        ≡ map (λ r. r.now) found.old.items ++ separated items.now) }
 {
     found.push(&items.first)?;
     for behind in items.rest.as_slice() {
