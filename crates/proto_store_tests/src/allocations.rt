@@ -45,6 +45,15 @@ fn noted<R: Abort>(rt: &R, store: &mut MemoryStore) -> Result<(), StoreFault> {
     }
 }
 
+// The file changes, and then the journal.
+fn both_changed<R: Abort>(rt: &R, store: &mut MemoryStore) -> Result<(), StoreFault> {
+    held(rt, store, FILES, "J")?;
+    changed(rt, store)?;
+    held(rt, store, CHANGED, "J")?;
+    noted(rt, store)?;
+    held(rt, store, CHANGED, "K")
+}
+
 #[test]
 fn one_is_refused(rt: HostRuntime) -> Result<(), Fail> {
     let alloc = rt.alloc();
@@ -52,11 +61,7 @@ fn one_is_refused(rt: HostRuntime) -> Result<(), Fail> {
         Ok(store) => store,
         Err(_) => store_of(alloc, FILES, "J")?,
     };
-    held(&rt, &mut store, FILES, "J")?;
-    changed(&rt, &mut store)?;
-    held(&rt, &mut store, CHANGED, "J")?;
-    noted(&rt, &mut store)?;
-    held(&rt, &mut store, CHANGED, "K")?;
+    both_changed(&rt, &mut store)?;
     assert!(rt; store.failures() <= 1);
     Ok(())
 }

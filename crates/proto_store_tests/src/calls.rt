@@ -13,18 +13,20 @@ pub(crate) fn store_of(
 ) -> Result<MemoryStore, NoMemory> {
     let mut given = Vec::new(alloc);
     for (path, text) in files {
-        let bytes = text.as_bytes().to_vec(alloc)?;
-        given.push((String::from_str(alloc, path)?, bytes))?;
+        given.push(file_of(alloc, path, text)?)?;
     }
     MemoryStore::new(alloc, given, journal.as_bytes().to_vec(alloc)?)
 }
 
-/// The paths that the store lists, in their order.
+fn file_of(alloc: Global, path: &str, text: &str) -> Result<(String, Vec<u8>), NoMemory> {
+    let path = String::from_str(alloc, path)?;
+    Ok((path, text.as_bytes().to_vec(alloc)?))
+}
+
+/// The paths that the store lists.
 pub(crate) fn list<S: Store, R: Abort>(rt: &R, store: &mut S) -> Result<Vec<String>, StoreFault> {
     assert!(rt; store.failures() < u64::MAX);
-    let mut paths = store.list()?;
-    paths.sort_unstable();
-    Ok(paths)
+    store.list()
 }
 
 /// The bytes at a path. This is two calls of the store: its list has to have the path.
@@ -80,8 +82,8 @@ pub(crate) fn expect_held<S: Store, R: Abort>(
     files: &[(&str, &str)],
     journal: &str,
 ) -> Result<(), StoreFault> {
-    let paths = list(rt, store)?;
-    assert_eq!(rt; paths.len(), files.len());
+    let count = list(rt, store)?.len();
+    assert_eq!(rt; count, files.len());
     for (path, text) in files {
         let bytes = read(rt, store, path)?;
         assert_eq!(rt; bytes.as_slice(), text.as_bytes(), "in {path}");

@@ -11,3 +11,5 @@ mod folders;
 mod listings;
 #[cfg(test)]
 mod memory;
+#[cfg(test)]
+mod steps;

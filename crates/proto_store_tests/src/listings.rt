@@ -6,10 +6,9 @@ use std::fs::{File, Metadata, OpenOptions};
 use std::io;
 use std::process::Abort;
 use std::rt::Files;
-use std::test::Fail;
 
 // Folders with what their names are, as a system tells them.
-#[derive(Drop)]
+#[derive(Clone, Copy)]
 struct Tree<'a> {
     alloc: Global,
     // Each folder, and its names, each ended by a zero byte.
@@ -91,91 +90,98 @@ impl<'a> Files for Tree<'a> {
 }
 
 // The paths that a store of a folder lists, in order, or none where it fails.
-fn listed(rt: &impl Abort, tree: &Tree<'_>, root: &str) -> Result<Option<Vec<String>>, Fail> {
+fn listed(rt: &impl Abort, tree: &Tree<'_>, root: &str) -> Option<Vec<String>> {
     let mut store = FolderStore::new(tree, root);
     assert!(rt; store.failures() == 0);
     match store.list() {
         Ok(mut paths) => {
             paths.sort_unstable();
-            Ok(Some(paths))
+            Some(paths)
         }
         Err(StoreFault::Failed) => {
             assert_eq!(rt; store.failures(), 1);
-            Ok(None)
+            None
         }
     }
 }
 
-#[test]
-fn lists_schema_files(rt: HostRuntime) -> Result<(), Fail> {
-    let tree = Tree {
-        alloc: rt.alloc(),
-        folders: &[
-            (
-                "r",
-                b"b.proto\0p\0.git\0.x.proto\0.\xff\0notes.txt\0link.proto\0linked\0d.proto\0.proto\0proto\0".as_slice(),
-            ),
-            ("r/p", b"\0v1\0a.proto\0".as_slice()),
-            ("r/p/v1", b"c.proto\0".as_slice()),
-            ("r/d.proto", b"e.proto\0".as_slice()),
-            ("r/.git", b"g.proto\0".as_slice()),
-        ],
-        files: &[
-            "r/b.proto",
-            "r/notes.txt",
-            "r/proto",
-            "r/p/a.proto",
-            "r/p/v1/c.proto",
-            "r/d.proto/e.proto",
-        ],
-        links: &["r/link.proto", "r/linked"],
-    };
-    let Some(paths) = listed(&rt, &tree, "r")? else {
-        panic!(rt; "the store failed");
-    };
-    let wanted = ["b.proto", "d.proto/e.proto", "p/a.proto", "p/v1/c.proto"];
+fn expect_listed(rt: &impl Abort, tree: &Tree<'_>, root: &str, wanted: &[&str]) {
+    let paths = listed(rt, tree, root).expect(rt, "the paths");
     assert_eq!(rt; paths.len(), wanted.len());
     for (path, wanted) in paths.iter().zip(wanted) {
-        assert_eq!(rt; path.as_str(), wanted);
+        assert_eq!(rt; path.as_str(), *wanted);
     }
-    Ok(())
 }
 
+// Each folder, and its names, each ended by a zero byte.
+type Folders = &'static [(&'static str, &'static [u8])];
+
+const SCHEMAS: Folders = &[
+    (
+        "r",
+        b"b.proto\0p\0.git\0.x.proto\0.\xff\0notes.txt\0link.proto\0linked\0d.proto\0.proto\0proto\0",
+    ),
+    ("r/p", b"\0v1\0a.proto\0"),
+    ("r/p/v1", b"c.proto\0"),
+    ("r/d.proto", b"e.proto\0"),
+    ("r/.git", b"g.proto\0"),
+];
+
+const SCHEMA_FILES: &[&str] = &[
+    "r/b.proto",
+    "r/notes.txt",
+    "r/proto",
+    "r/p/a.proto",
+    "r/p/v1/c.proto",
+    "r/d.proto/e.proto",
+];
+
 #[test]
-fn fails_at_what_it_cannot_read(rt: HostRuntime) -> Result<(), Fail> {
-    for folders in [
-        // No folder is there.
-        [].as_slice(),
-        // A name that is no text.
-        &[("r", b"a.proto\0b\xff\0".as_slice())],
-        // A name that nothing has, and a folder that does not open.
-        &[("r", b"a.proto\0gone\0".as_slice())],
-        &[("r", b"p\0".as_slice()), ("r/p", b"q\0".as_slice())],
-    ] {
+fn lists_schema_files(rt: HostRuntime) {
+    let tree = Tree {
+        alloc: rt.alloc(),
+        folders: SCHEMAS,
+        files: SCHEMA_FILES,
+        links: &["r/link.proto", "r/linked"],
+    };
+    let wanted = ["b.proto", "d.proto/e.proto", "p/a.proto", "p/v1/c.proto"];
+    expect_listed(&rt, &tree, "r", &wanted);
+}
+
+const UNREADABLE: &[Folders] = &[
+    // No folder is there.
+    &[],
+    // A name that is no text.
+    &[("r", b"a.proto\0b\xff\0")],
+    // A name that nothing has, and a folder that does not open.
+    &[("r", b"a.proto\0gone\0")],
+    &[("r", b"p\0"), ("r/p", b"q\0")],
+];
+
+#[test]
+fn fails_at_what_it_cannot_read(rt: HostRuntime) {
+    for folders in UNREADABLE {
         let tree = Tree {
             alloc: rt.alloc(),
             folders,
             files: &["r/a.proto"],
             links: &[],
         };
-        assert!(rt; listed(&rt, &tree, "r")?.is_none());
+        assert!(rt; listed(&rt, &tree, "r").is_none());
     }
-    Ok(())
 }
 
+// The root of the file system, and the folder where the program runs, each with a file.
+const ROOTS: Folders = &[("", b"a.proto\0"), (".", b"a.proto\0")];
+
 #[test]
-fn takes_an_empty_root_for_missing(rt: HostRuntime) -> Result<(), Fail> {
-    // The root of the file system, and the folder where the program runs, each with a file.
+fn takes_an_empty_root_for_missing(rt: HostRuntime) {
     let tree = Tree {
         alloc: rt.alloc(),
-        folders: &[
-            ("", b"a.proto\0".as_slice()),
-            (".", b"a.proto\0".as_slice()),
-        ],
+        folders: ROOTS,
         files: &["a.proto", "./a.proto"],
         links: &[],
     };
-    assert!(rt; listed(&rt, &tree, ".")?.is_some());
-    assert!(rt; listed(&rt, &tree, "")?.is_none());
-    Ok(())
+    assert!(rt; listed(&rt, &tree, ".").is_some());
+    assert!(rt; listed(&rt, &tree, "").is_none());
 }
