@@ -69,7 +69,9 @@ fn is_shown_from(
     scope: &[String],
     word: &str,
 ) -> Result<bool, NoMemory>
-    ensures { IfOk result (λ b. b ≡ shown_from (λ front. shown_below link.now looking.file looking.is_long (texts_of names.now) front word.now) least [] (map string_bytes scope.now)) }
+    ensures { IfOk result (λ b. b ≡ shown_from
+        (λ front. shown_below link.now looking.file looking.is_long
+        (texts_of names.now) front word.now) least [] (map string_bytes scope.now)) }
 {
     let mut front = String::new(alloc);
     for part in scope {
@@ -94,9 +96,11 @@ pub(crate) fn is_captured<'a>(
     used: &Use,
     meaning: &str,
 ) -> Result<bool, NoMemory>
-    requires ordered { (k : ℕ) (d : ListedOf) → k < length declared.now → needs (get_or declared.now k d).above ≤ k }
+    requires ordered { (k : ℕ) (d : ListedOf)
+        → k < length declared.now → needs (get_or declared.now k d).above ≤ k }
     requires within { used.now.scope < length declared.now }
-    ensures { IfOk result (λ b. b ≡ captures_use link.now file (texts_of names.now) (word_at words.now) declared.now used.now meaning.now) }
+    ensures { IfOk result (λ b. b ≡ captures_use link.now file
+        (texts_of names.now) (word_at words.now) declared.now used.now meaning.now) }
 {
     if used.reference.dot.is_some() {
         return Ok(false);

@@ -36,7 +36,9 @@ fn first_of<'a>(
     meant: &[Meant],
 ) -> Result<Option<u32>, NoMemory>
     requires { IsSound listing.now }
-    ensures { IfOk result (λ first. first ≡ first_of (captures_by link.now file (texts_of names.now) (word_at words.now) listing.now.declared.items) listing.now.used.items meant.now) }
+    ensures { IfOk result (λ first. first ≡ first_of
+        (captures_by link.now file (texts_of names.now)
+        (word_at words.now) listing.now.declared.items) listing.now.used.items meant.now) }
 {
     for (used, meant) in listing.used.iter().zip(meant) {
         let meaning = link.name_of(meant.symbol()).unwrap_or("");
@@ -66,7 +68,8 @@ fn first_in<'a>(
 ) -> Result<Option<u32>, NoMemory>
     requires file { file < length files.now }
     requires link { IsLinkOf files.now link.now }
-    ensures { IfOk result (λ first. (reads : List ReadOf) (t : Target) (to : List ℕ) → IsRenameOf files.now reads t to → AreNewNames files.now reads t to (texts_of names.now)
+    ensures { IfOk result (λ first. (reads : List ReadOf) (t : Target) (to : List ℕ)
+        → IsRenameOf files.now reads t to → AreNewNames files.now reads t to (texts_of names.now)
         → IsFirstIn files.now reads t to file first) }
 {
     visible_is_seen();
@@ -95,8 +98,11 @@ pub fn first_captured<'a>(
     requires linked { HasNoFault (LinkFaults files.now) }
     requires aim { IsAimOf files.now aim.now }
     requires word { is_run to.now ≡ true }
-    requires free { (reads : List ReadOf) → AreRead files.now reads → (t : Target) → IsAimedAt files.now reads aim.now t → Collides (name_map files.now reads t to.now) (names_of_files files.now reads) → ⊥ }
-    ensures { IfOk result (λ first. (reads : List ReadOf) → AreRead files.now reads → (t : Target) → IsAimedAt files.now reads aim.now t → IsFirstCaptured files.now reads t to.now first) }
+    requires free { (reads : List ReadOf) → AreRead files.now reads → (t : Target)
+        → IsAimedAt files.now reads aim.now t → Collides
+        (name_map files.now reads t to.now) (names_of_files files.now reads) → ⊥ }
+    ensures { IfOk result (λ first. (reads : List ReadOf) → AreRead files.now reads → (t : Target)
+        → IsAimedAt files.now reads aim.now t → IsFirstCaptured files.now reads t to.now first) }
 {
     are_read(files);
     let own = Words::new(files, aim.file as usize);

@@ -53,7 +53,8 @@ impl<'a> NewNames<'a> {
         aim: &Aim<'a>,
         to: &'a str,
     ) -> Result<NewNames<'a>, NoMemory>
-        ensures { IfOk result (λ n. texts_of n ≡ texts_by aim.now.name.now (word_at words.now aim.now.token) aim.now.is_map to.now) }
+        ensures { IfOk result (λ n. texts_of n ≡ texts_by aim.now.name.now
+            (word_at words.now aim.now.token) aim.now.is_map to.now) }
     {
         let old = words.get(aim.token);
         let entry = entry_names(alloc, aim.is_map, old, to)?;

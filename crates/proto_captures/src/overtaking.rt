@@ -52,7 +52,9 @@ fn add_fronts(
     words: &Words,
     tokens: &[u32],
 ) -> Result<(), NoMemory>
-    ensures { OnOk result ((text : List ℕ) → contains_text packages.new text ≡ (contains_text packages.old text || list_any (λ t. bytes_eq t text) (fronts_from [] (map (word_at words.now) tokens.now)))) }
+    ensures { OnOk result ((text : List ℕ) → contains_text packages.new text ≡
+        (contains_text packages.old text || list_any
+        (λ t. bytes_eq t text) (fronts_from [] (map (word_at words.now) tokens.now)))) }
 {
     let mut front = String::new(alloc);
     for token in tokens {
@@ -79,7 +81,8 @@ fn packages(alloc: Global, files: &Files, marks: &[bool]) -> Result<HashSet<Stri
 
 /// Whether a name with this text fits and is seen.
 fn is_seen(link: &Link, seen: &Seen, is_long: bool, name: &str) -> bool
-    ensures { result ≡ sees_text link.now seen.now.marks.now (contains_text seen.now.packages) is_long name.now }
+    ensures { result ≡ sees_text link.now seen.now.marks.now
+        (contains_text seen.now.packages) is_long name.now }
 {
     let Some(id) = link.symbol(name) else {
         return false;
@@ -104,7 +107,10 @@ fn is_seen_from(
     around: Around,
     word: &str,
 ) -> Result<bool, NoMemory>
-    ensures { IfOk result (λ b. b ≡ shown_from (λ front. sees_text link.now seen.now.marks.now (contains_text seen.now.packages) around.entry.is_long (below front word.now)) around.entry.least [] (map string_bytes around.entry.scope.now)) }
+    ensures { IfOk result (λ b. b ≡ shown_from
+        (λ front. sees_text link.now seen.now.marks.now
+        (contains_text seen.now.packages) around.entry.is_long (below front word.now))
+        around.entry.least [] (map string_bytes around.entry.scope.now)) }
 {
     let mut front = String::new(alloc);
     for part in around.scope {
@@ -129,9 +135,11 @@ fn is_overtaken(
     used: &Use,
     meaning: &str,
 ) -> Result<bool, NoMemory>
-    requires ordered { (k : ℕ) (d : ListedOf) → k < length declared.now → needs (get_or declared.now k d).above ≤ k }
+    requires ordered { (k : ℕ) (d : ListedOf)
+        → k < length declared.now → needs (get_or declared.now k d).above ≤ k }
     requires within { used.now.scope < length declared.now }
-    ensures { IfOk result (λ b. b ≡ overtakes_use link.now seen.now.marks.now (contains_text seen.now.packages) (word_at words.now) declared.now used.now meaning.now) }
+    ensures { IfOk result (λ b. b ≡ overtakes_use link.now seen.now.marks.now
+        (contains_text seen.now.packages) (word_at words.now) declared.now used.now meaning.now) }
 {
     if used.reference.dot.is_some() {
         return Ok(false);
@@ -158,7 +166,9 @@ fn first_in_list(
     meant: &[Meant],
 ) -> Result<Option<u32>, NoMemory>
     requires { IsSound listing.now }
-    ensures { IfOk result (λ first. first ≡ first_of (overtakes_by link.now seen.now.marks.now (contains_text seen.now.packages) (word_at words.now) listing.now.declared.items) listing.now.used.items meant.now) }
+    ensures { IfOk result (λ first. first ≡ first_of
+        (overtakes_by link.now seen.now.marks.now (contains_text seen.now.packages)
+        (word_at words.now) listing.now.declared.items) listing.now.used.items meant.now) }
 {
     for (used, meant) in listing.used.iter().zip(meant) {
         let meaning = link.name_of(meant.symbol()).unwrap_or("");
@@ -181,7 +191,9 @@ pub fn first_overtaken(
     requires file { file < length files.now }
     requires link { IsLinkOf files.now link.now }
     requires linked { HasNoFault (LinkFaults files.now) }
-    ensures { IfOk result (λ first. (reads : List ReadOf) → AreRead files.now reads → (v : Workspace) → SeesMarked files.now reads v file marks.now → IsFirstOvertaken files.now reads v file first) }
+    ensures { IfOk result (λ first. (reads : List ReadOf) → AreRead files.now reads →
+        (v : Workspace) → SeesMarked files.now reads v file marks.now
+        → IsFirstOvertaken files.now reads v file first) }
 {
     let packages = packages(alloc, files, marks)?;
     let seen = Seen { marks, packages };

@@ -16,7 +16,8 @@ use std::alloc::Global;
 
 /// The last word of a declaration's name.
 fn last_word(alloc: Global, words: &Words, entry: &Listed) -> Result<String, NoMemory>
-    ensures { IfOk result (λ word. string_bytes word ≡ spell (word_at words.now) entry_name (source_of entry.now.word entry.now.token)) }
+    ensures { IfOk result (λ word. string_bytes word
+        ≡ spell (word_at words.now) entry_name (source_of entry.now.word entry.now.token)) }
 {
     match entry.word {
         LastWord::Text => Ok(String::from_str(alloc, words.get(entry.token))?),
@@ -33,9 +34,11 @@ pub(crate) fn scope_words(
     declared: &[Listed],
     index: usize,
 ) -> Result<Vec<String>, NoMemory>
-    requires ordered { (k : ℕ) (d : ListedOf) → k < length declared.now → needs (get_or declared.now k d).above ≤ k }
+    requires ordered { (k : ℕ) (d : ListedOf)
+        → k < length declared.now → needs (get_or declared.now k d).above ≤ k }
     requires within { index < length declared.now }
-    ensures { IfOk result (λ ws. map string_bytes ws.items ≡ name_of (word_at words.now) entry_name (path_of (read declared.now) index)) }
+    ensures { IfOk result (λ ws. map string_bytes ws.items
+        ≡ name_of (word_at words.now) entry_name (path_of (read declared.now) index)) }
 {
     let mut outward = Vec::new(alloc);
     let mut above = Above::Below(index);

@@ -65,7 +65,8 @@ pub(crate) fn is_shown_below(
     scope: &str,
     word: &str,
 ) -> Result<bool, NoMemory>
-    ensures { IfOk result (λ b. b ≡ shown_below link.now looking.file looking.is_long (texts_of names.now) scope.now word.now) }
+    ensures { IfOk result (λ b. b ≡ shown_below link.now looking.file looking.is_long
+        (texts_of names.now) scope.now word.now) }
 {
     let own = below(alloc, scope, names.old)?;
     if own.as_str() == names.target {
@@ -84,7 +85,8 @@ fn is_shown_beside(
     scope: &str,
     word: &str,
 ) -> Result<bool, NoMemory>
-    ensures { IfOk result (λ b. b ≡ shown_beside link.now looking.file looking.is_long (texts_of names.now) scope.now word.now) }
+    ensures { IfOk result (λ b. b ≡ shown_beside link.now looking.file looking.is_long
+        (texts_of names.now) scope.now word.now) }
 {
     if word == names.new && is_shown(link, looking, names.target) {
         return Ok(true);
@@ -103,7 +105,8 @@ fn is_entry_shown(
     scope: &str,
     word: &str,
 ) -> Result<bool, NoMemory>
-    ensures { IfOk result (λ b. b ≡ entry_shown link.now looking.file looking.is_long (entry_pair entry.now) scope.now word.now) }
+    ensures { IfOk result (λ b. b ≡ entry_shown link.now looking.file looking.is_long
+        (entry_pair entry.now) scope.now word.now) }
 {
     if word != entry.new.as_str() {
         return Ok(false);

@@ -39,7 +39,8 @@ fn has_value(enumeration: EnumAt, word: &str) -> bool
 }
 
 fn is_value_of(enumeration: Option<EnumAt>, word: Option<&str>) -> bool
-    ensures { result ≡ is_value_of (option_map enum_of enumeration.entry) (option_map (λ w. w.now) word.entry) }
+    ensures { result ≡ is_value_of (option_map enum_of enumeration.entry)
+        (option_map (λ w. w.now) word.entry) }
 {
     match (enumeration, word) {
         (Some(enumeration), Some(word)) => has_value(enumeration, word),
@@ -72,7 +73,8 @@ fn add_wrong_default(
     field: FieldAt,
     default: Option<OptionAt>,
 ) -> Result<(), NoMemory>
-    ensures { OnOk result (found.new.items ≡ found.old.items ++ wrong_default scene.now (field_of field.entry) (option_map option_of default.entry)) }
+    ensures { OnOk result (found.new.items ≡ found.old.items
+        ++ wrong_default scene.now (field_of field.entry) (option_map option_of default.entry)) }
 {
     match default {
         Some(option) => {
@@ -91,7 +93,8 @@ pub(crate) fn add_default_flaws(
     options: &[OptionAt],
 ) -> Result<(), NoMemory>
     requires { map option_of options.now ≡ (field_of field).options }
-    ensures { OnOk result (found.new.items ≡ found.old.items ++ default_flaws scene.now (field_of field.entry)) }
+    ensures { OnOk result (found.new.items ≡ found.old.items
+        ++ default_flaws scene.now (field_of field.entry)) }
 {
     if scene.is_proto3() {
         return Ok(());
@@ -107,7 +110,8 @@ pub(crate) fn add_proto3_defaults(
     options: &[OptionAt],
 ) -> Result<(), NoMemory>
     requires { map option_of options.now ≡ (field_of field).options }
-    ensures { OnOk result (found.new.items ≡ found.old.items ++ proto3_defaults scene.now (field_of field.entry)) }
+    ensures { OnOk result (found.new.items ≡ found.old.items
+        ++ proto3_defaults scene.now (field_of field.entry)) }
 {
     for option in options {
         let is_wrong = scene.is_proto3() && scene.text(option.name) == "default";

@@ -34,7 +34,8 @@ fn add_first_value(
     scene: &Scene,
     numbers: &[NumberAt],
 ) -> Result<(), NoMemory>
-    ensures { OnOk result (found.new.items ≡ found.old.items ++ first_value_flaws scene.now numbers.now) }
+    ensures { OnOk result (found.new.items ≡ found.old.items
+        ++ first_value_flaws scene.now numbers.now) }
 {
     match numbers {
         [first, ..] => {
@@ -64,7 +65,9 @@ fn add_aliases(
     options: &[OptionAt],
     numbers: &[NumberAt],
 ) -> Result<(), NoMemory>
-    ensures { OnOk result (found.new.items ≡ found.old.items ++ (if allows_alias scene.now (map option_of options.now) then [] else marked kind.AliasNotAllowed (map (λ n. n.token) numbers.now) (repeated_numbers numbers.now))) }
+    ensures { OnOk result (found.new.items ≡ found.old.items ++
+        (if allows_alias scene.now (map option_of options.now) then [] else marked
+        kind.AliasNotAllowed (map (λ n. n.token) numbers.now) (repeated_numbers numbers.now))) }
 {
     if allows_alias(scene, options) {
         return Ok(());
@@ -82,7 +85,8 @@ fn add_numbers(
     ranges: &[RangeAt],
     numbers: &[NumberAt],
 ) -> Result<(), NoMemory>
-    ensures { OnOk result (found.new.items ≡ found.old.items ++ value_number_flaws scene.now (trees enum_item_tree items.now) ranges.now numbers.now) }
+    ensures { OnOk result (found.new.items ≡ found.old.items
+        ++ value_number_flaws scene.now (trees enum_item_tree items.now) ranges.now numbers.now) }
 {
     let options = enum_options(alloc, items)?;
     add_outside_values(found, numbers)?;
@@ -98,7 +102,11 @@ fn add_number_flaws(
     items: &[EnumItem],
     values: &[&Value],
 ) -> Result<(), NoMemory>
-    ensures { OnOk result (found.new.items ≡ found.old.items ++ value_number_flaws scene.now (trees enum_item_tree items.now) (map (enum_range_of scene.now) (flat_map enum_ranges (statements (trees enum_item_tree items.now)))) (map (number_of_value scene.now) (map (λ v. v.now) values.now))) }
+    ensures { OnOk result (found.new.items ≡ found.old.items ++ value_number_flaws scene.now
+        (trees enum_item_tree items.now)
+        (map (enum_range_of scene.now)
+        (flat_map enum_ranges (statements (trees enum_item_tree items.now))))
+        (map (number_of_value scene.now) (map (λ v. v.now) values.now))) }
 {
     let closed = enum_ranges(alloc, items)?;
     let ranges = value_ranges(alloc, scene, &closed)?;
@@ -125,7 +133,9 @@ fn add_names(
     items: &[EnumItem],
     values: &[&Value],
 ) -> Result<(), NoMemory>
-    ensures { OnOk result (found.new.items ≡ found.old.items ++ name_flaws scene.now (reserved_names_in (trees enum_item_tree items.now)) (map (λ v. v.name) (map (λ v. v.now) values.now))) }
+    ensures { OnOk result (found.new.items ≡ found.old.items ++ name_flaws scene.now
+        (reserved_names_in (trees enum_item_tree items.now))
+        (map (λ v. v.name) (map (λ v. v.now) values.now))) }
 {
     let reserved = enum_reserved_names(alloc, items)?;
     let names = value_names(alloc, values)?;
@@ -140,7 +150,8 @@ fn add_value_options(
     scene: &Scene,
     value: &Value,
 ) -> Result<(), NoMemory>
-    ensures { OnOk result (found.new.items ≡ found.old.items ++ value_option_flaws scene.now value.now) }
+    ensures { OnOk result (found.new.items ≡ found.old.items
+        ++ value_option_flaws scene.now value.now) }
 {
     let options = options_between(alloc, value.settings.as_ref())?;
     add_option_flaws(alloc, found, scene, Element::EnumValue, &options)
@@ -152,7 +163,8 @@ fn add_each_value(
     scene: &Scene,
     values: &[&Value],
 ) -> Result<(), NoMemory>
-    ensures { OnOk result (found.new.items ≡ found.old.items ++ flat_map (value_option_flaws scene.now) (map (λ v. v.now) values.now)) }
+    ensures { OnOk result (found.new.items ≡ found.old.items
+        ++ flat_map (value_option_flaws scene.now) (map (λ v. v.now) values.now)) }
 {
     for value in values {
         add_value_options(alloc, found, scene, value)?;
@@ -166,7 +178,8 @@ fn add_enum_options(
     scene: &Scene,
     items: &[EnumItem],
 ) -> Result<(), NoMemory>
-    ensures { OnOk result (found.new.items ≡ found.old.items ++ option_flaws scene.now element.Enum (options_in (trees enum_item_tree items.now))) }
+    ensures { OnOk result (found.new.items ≡ found.old.items
+        ++ option_flaws scene.now element.Enum (options_in (trees enum_item_tree items.now))) }
 {
     let options = enum_options(alloc, items)?;
     add_option_flaws(alloc, found, scene, Element::Enum, &options)
@@ -181,7 +194,9 @@ pub(crate) fn add_enum_flaws(
     scene: &Scene,
     enumeration: &Enum,
 ) -> Result<(), NoMemory>
-    ensures { OnOk result (found.new.items ≡ found.old.items ++ enum_flaws scene.now enumeration.now.name (trees enum_item_tree enumeration.now.members.items)) }
+    ensures { OnOk result (found.new.items ≡ found.old.items
+        ++ enum_flaws scene.now enumeration.now.name
+        (trees enum_item_tree enumeration.now.members.items)) }
 {
     let items = enumeration.members.as_slice();
     let values = values(alloc, items)?;

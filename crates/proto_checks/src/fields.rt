@@ -95,7 +95,8 @@ fn has_closed_enum(scene: &Scene, field: FieldAt) -> bool
 }
 
 fn add_type_flaws(found: &mut Vec<Flaw>, scene: &Scene, field: FieldAt) -> Result<(), NoMemory>
-    ensures { OnOk result (found.new.items ≡ found.old.items ++ type_flaws scene.now (field_of field.entry)) }
+    ensures { OnOk result (found.new.items ≡ found.old.items
+        ++ type_flaws scene.now (field_of field.entry)) }
 {
     let token = type_token(field.kind);
     add_if(found, lacks_label(scene, field), FaultKind::Label, token)?;
@@ -145,7 +146,8 @@ fn add_packed_flaws(
     options: &[OptionAt],
 ) -> Result<(), NoMemory>
     requires { map option_of options.now ≡ (field_of field).options }
-    ensures { OnOk result (found.new.items ≡ found.old.items ++ packed_flaws scene.now (field_of field.entry)) }
+    ensures { OnOk result (found.new.items ≡ found.old.items
+        ++ packed_flaws scene.now (field_of field.entry)) }
 {
     for option in options {
         let is_wrong = scene.text(option.name) == "packed" && !may_be_packed(scene, field);
@@ -163,7 +165,8 @@ pub(crate) fn add_field_flaws(
     scene: &Scene,
     field: FieldAt,
 ) -> Result<(), NoMemory>
-    ensures { OnOk result (found.new.items ≡ found.old.items ++ field_flaws scene.now (field_of field.entry)) }
+    ensures { OnOk result (found.new.items ≡ found.old.items
+        ++ field_flaws scene.now (field_of field.entry)) }
 {
     let options = options_between(alloc, field.settings)?;
     add_type_flaws(found, scene, field)?;

@@ -26,13 +26,15 @@ fn add_enum(
     scene: &Scene,
     enumeration: &Enum,
 ) -> Result<(), NoMemory>
-    ensures { OnOk result (found.new.items ≡ found.old.items ++ flaws_in_blocks scene.now (enum_tree enumeration.now)) }
+    ensures { OnOk result (found.new.items ≡ found.old.items
+        ++ flaws_in_blocks scene.now (enum_tree enumeration.now)) }
 {
     add_enum_flaws(alloc, found, scene, enumeration)
 }
 
 fn add_oneof(found: &mut Vec<Flaw>, scene: &Scene, oneof: &Oneof) -> Result<(), NoMemory>
-    ensures { OnOk result (found.new.items ≡ found.old.items ++ flaws_in_blocks scene.now (oneof_tree oneof.now)) }
+    ensures { OnOk result (found.new.items ≡ found.old.items
+        ++ flaws_in_blocks scene.now (oneof_tree oneof.now)) }
 {
     let is_empty = oneof.members.is_empty();
     add_if(found, is_empty, FaultKind::EmptyOneof, oneof.name)
@@ -46,7 +48,8 @@ fn add_method(
     scene: &Scene,
     method: &Method,
 ) -> Result<(), NoMemory>
-    ensures { OnOk result (found.new.items ≡ found.old.items ++ flaws_in_blocks scene.now (method_tree method.now)) }
+    ensures { OnOk result (found.new.items ≡ found.old.items
+        ++ flaws_in_blocks scene.now (method_tree method.now)) }
 {
     match &method.end {
         MethodEnd::Semicolon(_) => Ok(()),
@@ -63,7 +66,8 @@ fn add_service_item(
     scene: &Scene,
     item: &ServiceItem,
 ) -> Result<(), NoMemory>
-    ensures { OnOk result (found.new.items ≡ found.old.items ++ flaws_in_blocks scene.now (service_item_tree item.now)) }
+    ensures { OnOk result (found.new.items ≡ found.old.items
+        ++ flaws_in_blocks scene.now (service_item_tree item.now)) }
 {
     match item {
         ServiceItem::Method(method) => add_method(alloc, found, scene, method),
@@ -77,7 +81,8 @@ fn add_service_items(
     scene: &Scene,
     items: &[ServiceItem],
 ) -> Result<(), NoMemory>
-    ensures { OnOk result (found.new.items ≡ found.old.items ++ flaws_in_blocks scene.now (trees service_item_tree items.now)) }
+    ensures { OnOk result (found.new.items ≡ found.old.items
+        ++ flaws_in_blocks scene.now (trees service_item_tree items.now)) }
 {
     for item in items {
         add_service_item(alloc, found, scene, item)?;
@@ -91,7 +96,8 @@ fn add_service(
     scene: &Scene,
     service: &Service,
 ) -> Result<(), NoMemory>
-    ensures { OnOk result (found.new.items ≡ found.old.items ++ flaws_in_blocks scene.now (service_tree service.now)) }
+    ensures { OnOk result (found.new.items ≡ found.old.items
+        ++ flaws_in_blocks scene.now (service_tree service.now)) }
 {
     let options = service_options(alloc, &service.members)?;
     add_option_flaws(alloc, found, scene, Element::Service, &options)?;
@@ -107,7 +113,8 @@ fn add_message(
     scene: &Scene,
     message: &Message,
 ) -> Result<(), NoMemory>
-    ensures { OnOk result (found.new.items ≡ found.old.items ++ flaws_in_blocks scene.now (message_tree message.now)) }
+    ensures { OnOk result (found.new.items ≡ found.old.items
+        ++ flaws_in_blocks scene.now (message_tree message.now)) }
 {
     add_message_flaws(alloc, found, scene, &message.members)?;
     add_members(alloc, found, scene, &message.members)
@@ -120,7 +127,8 @@ fn add_members(
     scene: &Scene,
     members: &[Member],
 ) -> Result<(), NoMemory>
-    ensures { OnOk result (found.new.items ≡ found.old.items ++ flaws_in_blocks scene.now (trees member_tree members.now)) }
+    ensures { OnOk result (found.new.items ≡ found.old.items
+        ++ flaws_in_blocks scene.now (trees member_tree members.now)) }
 {
     for member in members {
         add_member(alloc, found, scene, member)?;
@@ -135,7 +143,8 @@ fn add_member(
     scene: &Scene,
     member: &Member,
 ) -> Result<(), NoMemory>
-    ensures { OnOk result (found.new.items ≡ found.old.items ++ flaws_in_blocks scene.now (member_tree member.now)) }
+    ensures { OnOk result (found.new.items ≡ found.old.items
+        ++ flaws_in_blocks scene.now (member_tree member.now)) }
 {
     match member {
         Member::Message(message) => add_message(alloc, found, scene, message),
@@ -153,7 +162,8 @@ fn add_item(
     scene: &Scene,
     item: &Item,
 ) -> Result<(), NoMemory>
-    ensures { OnOk result (found.new.items ≡ found.old.items ++ flaws_in_blocks scene.now (item_tree item.now)) }
+    ensures { OnOk result (found.new.items ≡ found.old.items
+        ++ flaws_in_blocks scene.now (item_tree item.now)) }
 {
     match item {
         Item::Message(message) => add_message(alloc, found, scene, message),
@@ -169,7 +179,8 @@ fn add_items(
     scene: &Scene,
     items: &[Item],
 ) -> Result<(), NoMemory>
-    ensures { OnOk result (found.new.items ≡ found.old.items ++ flaws_in_blocks scene.now (trees item_tree items.now)) }
+    ensures { OnOk result (found.new.items ≡ found.old.items
+        ++ flaws_in_blocks scene.now (trees item_tree items.now)) }
 {
     for item in items {
         add_item(alloc, found, scene, item)?;

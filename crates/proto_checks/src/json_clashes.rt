@@ -15,7 +15,8 @@ use proto_parts::{FieldAt, Scene, json_name};
 use std::alloc::Global;
 
 fn json_names(alloc: Global, scene: &Scene, fields: &[FieldAt]) -> Result<Vec<String>, NoMemory>
-    ensures { IfOk result (λ names. map string_bytes names.items ≡ map (json_name_of scene.now) (map field_of fields.now)) }
+    ensures { IfOk result (λ names. map string_bytes names.items
+        ≡ map (json_name_of scene.now) (map field_of fields.now)) }
 {
     let mut names = Vec::new(alloc);
     for field in fields {
@@ -41,7 +42,9 @@ fn add_repeated_names(
     scene: &Scene,
     fields: &[FieldAt],
 ) -> Result<(), NoMemory>
-    ensures { OnOk result (found.new.items ≡ found.old.items ++ marked kind.JsonClash (map (λ f. f.name) (map field_of fields.now)) (after_earlier bytes_eq (map (json_name_of scene.now) (map field_of fields.now)))) }
+    ensures { OnOk result (found.new.items ≡ found.old.items ++ marked kind.JsonClash
+        (map (λ f. f.name) (map field_of fields.now))
+        (after_earlier bytes_eq (map (json_name_of scene.now) (map field_of fields.now)))) }
 {
     let tokens = name_tokens(alloc, fields)?;
     let names = json_names(alloc, scene, fields)?;
@@ -56,7 +59,8 @@ pub(crate) fn add_json_clashes(
     scene: &Scene,
     fields: &[FieldAt],
 ) -> Result<(), NoMemory>
-    ensures { OnOk result (found.new.items ≡ found.old.items ++ json_clashes scene.now (map field_of fields.now)) }
+    ensures { OnOk result (found.new.items ≡ found.old.items
+        ++ json_clashes scene.now (map field_of fields.now)) }
 {
     if scene.is_proto3() {
         add_repeated_names(alloc, found, scene, fields)?;

@@ -30,7 +30,8 @@ fn add_each_field(
     scene: &Scene,
     fields: &[FieldAt],
 ) -> Result<(), NoMemory>
-    ensures { OnOk result (found.new.items ≡ found.old.items ++ flat_map (field_flaws scene.now) (map field_of fields.now)) }
+    ensures { OnOk result (found.new.items ≡ found.old.items
+        ++ flat_map (field_flaws scene.now) (map field_of fields.now)) }
 {
     for field in fields {
         add_field_flaws(alloc, found, scene, *field)?;
@@ -45,7 +46,10 @@ fn add_numbers(
     members: &[Member],
     fields: &[FieldAt],
 ) -> Result<(), NoMemory>
-    ensures { OnOk result (found.new.items ≡ found.old.items ++ field_number_flaws (map (range_of scene.now) (flat_map closed_ranges (statements (trees member_tree members.now)))) (map (number_of_field scene.now) (map field_of fields.now))) }
+    ensures { OnOk result (found.new.items ≡ found.old.items ++ field_number_flaws
+        (map (range_of scene.now) (flat_map closed_ranges
+        (statements (trees member_tree members.now))))
+        (map (number_of_field scene.now) (map field_of fields.now))) }
 {
     let closed = closed_ranges(alloc, members)?;
     let ranges = field_ranges(alloc, scene, &closed)?;
@@ -60,7 +64,9 @@ fn add_names(
     members: &[Member],
     fields: &[FieldAt],
 ) -> Result<(), NoMemory>
-    ensures { OnOk result (found.new.items ≡ found.old.items ++ name_flaws scene.now (reserved_names_in (trees member_tree members.now)) (map (λ f. f.name) (map field_of fields.now))) }
+    ensures { OnOk result (found.new.items ≡ found.old.items ++ name_flaws scene.now
+        (reserved_names_in (trees member_tree members.now))
+        (map (λ f. f.name) (map field_of fields.now))) }
 {
     let reserved = reserved_names(alloc, members)?;
     let names = name_tokens(alloc, fields)?;
@@ -68,7 +74,8 @@ fn add_names(
 }
 
 fn add_extensions(found: &mut Vec<Flaw>, scene: &Scene, words: &[u32]) -> Result<(), NoMemory>
-    ensures { OnOk result (found.new.items ≡ found.old.items ++ flat_map (λ t. flaw_if scene.now.is_proto3 kind.NotInProto3 t) words.now) }
+    ensures { OnOk result (found.new.items ≡ found.old.items
+        ++ flat_map (λ t. flaw_if scene.now.is_proto3 kind.NotInProto3 t) words.now) }
 {
     for word in words {
         add_if(found, scene.is_proto3(), FaultKind::NotInProto3, *word)?;
@@ -82,7 +89,8 @@ fn add_extension_flaws(
     scene: &Scene,
     members: &[Member],
 ) -> Result<(), NoMemory>
-    ensures { OnOk result (found.new.items ≡ found.old.items ++ extension_flaws scene.now (trees member_tree members.now)) }
+    ensures { OnOk result (found.new.items ≡ found.old.items
+        ++ extension_flaws scene.now (trees member_tree members.now)) }
 {
     let words = extension_words(alloc, members)?;
     add_extensions(found, scene, &words)
@@ -94,7 +102,8 @@ fn add_message_options(
     scene: &Scene,
     members: &[Member],
 ) -> Result<(), NoMemory>
-    ensures { OnOk result (found.new.items ≡ found.old.items ++ option_flaws scene.now element.Message (options_in (trees member_tree members.now))) }
+    ensures { OnOk result (found.new.items ≡ found.old.items
+        ++ option_flaws scene.now element.Message (options_in (trees member_tree members.now))) }
 {
     let options = message_options(alloc, members)?;
     add_option_flaws(alloc, found, scene, Element::Message, &options)
@@ -107,7 +116,8 @@ pub(crate) fn add_message_flaws(
     scene: &Scene,
     members: &[Member],
 ) -> Result<(), NoMemory>
-    ensures { OnOk result (found.new.items ≡ found.old.items ++ message_flaws scene.now (trees member_tree members.now)) }
+    ensures { OnOk result (found.new.items ≡ found.old.items
+        ++ message_flaws scene.now (trees member_tree members.now)) }
 {
     let fields = fields_of(alloc, members)?;
     add_each_field(alloc, found, scene, &fields)?;

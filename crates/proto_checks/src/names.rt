@@ -16,7 +16,8 @@ use proto_parts::Scene;
 use std::alloc::Global;
 
 fn values(alloc: Global, scene: &Scene, tokens: &[u32]) -> Result<Vec<String>, NoMemory>
-    ensures { IfOk result (λ values. map string_bytes values.items ≡ map (value scene.now) tokens.now) }
+    ensures { IfOk result (λ values. map string_bytes values.items
+        ≡ map (value scene.now) tokens.now) }
 {
     let mut values = Vec::new(alloc);
     for token in tokens {
@@ -26,7 +27,8 @@ fn values(alloc: Global, scene: &Scene, tokens: &[u32]) -> Result<Vec<String>, N
 }
 
 fn known_names<'a>(alloc: Global, names: &'a [String]) -> Result<IndexSet<&'a str>, NoMemory>
-    ensures { IfOk result (λ known. (w : List ℕ) → list_any (bytes_eq w) (map (λ k. k.now) known.keys) ≡ list_any (bytes_eq w) (map string_bytes names.entry.now)) }
+    ensures { IfOk result (λ known. (w : List ℕ) → list_any (bytes_eq w)
+        (map (λ k. k.now) known.keys) ≡ list_any (bytes_eq w) (map string_bytes names.entry.now)) }
 {
     let mut known = IndexSet::new(alloc);
     for name in names {
@@ -47,7 +49,9 @@ fn add_known(
     known: &IndexSet<&str>,
     names: &[u32],
 ) -> Result<(), NoMemory>
-    ensures { OnOk result (found.new.items ≡ found.old.items ++ flat_map (λ t. flaw_if (list_any (bytes_eq (text scene.now t)) (map (λ k. k.now) known.now.keys)) kind.ReservedName t) names.now) }
+    ensures { OnOk result (found.new.items ≡ found.old.items ++ flat_map
+        (λ t. flaw_if (list_any (bytes_eq (text scene.now t)) (map (λ k. k.now) known.now.keys))
+        kind.ReservedName t) names.now) }
 {
     for name in names {
         let is_known = is_known(scene, known, *name);
@@ -63,7 +67,9 @@ fn add_reserved(
     reserved: &[String],
     names: &[u32],
 ) -> Result<(), NoMemory>
-    ensures { OnOk result (found.new.items ≡ found.old.items ++ flat_map (λ t. flaw_if (list_any (bytes_eq (text scene.now t)) (map string_bytes reserved.now)) kind.ReservedName t) names.now) }
+    ensures { OnOk result (found.new.items ≡ found.old.items ++ flat_map
+        (λ t. flaw_if (list_any (bytes_eq (text scene.now t)) (map string_bytes reserved.now))
+        kind.ReservedName t) names.now) }
 {
     let known = known_names(alloc, reserved)?;
     add_known(found, scene, &known, names)
@@ -76,7 +82,8 @@ fn add_repeated_names(
     names: Vec<String>,
 ) -> Result<(), NoMemory>
     requires { length tokens.now ≡ length names.items }
-    ensures { OnOk result (found.new.items ≡ found.old.items ++ marked kind.ReservedName tokens.now (after_earlier bytes_eq (map string_bytes names.items))) }
+    ensures { OnOk result (found.new.items ≡ found.old.items ++ marked kind.ReservedName tokens.now
+        (after_earlier bytes_eq (map string_bytes names.items))) }
 {
     let flags = repeats(alloc, names)?;
     add_marked(found, FaultKind::ReservedName, tokens, &flags)
@@ -90,7 +97,8 @@ pub(crate) fn add_name_flaws(
     reserved: &[u32],
     names: &[u32],
 ) -> Result<(), NoMemory>
-    ensures { OnOk result (found.new.items ≡ found.old.items ++ name_flaws scene.now reserved.now names.now) }
+    ensures { OnOk result (found.new.items ≡ found.old.items
+        ++ name_flaws scene.now reserved.now names.now) }
 {
     let values = values(alloc, scene, reserved)?;
     add_reserved(alloc, found, scene, &values, names)?;

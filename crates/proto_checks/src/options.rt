@@ -15,7 +15,8 @@ fn add_misplaced(
     element: Element,
     options: &[OptionAt],
 ) -> Result<(), NoMemory>
-    ensures { OnOk result (found.new.items ≡ found.old.items ++ misplaced_options scene.now element (map option_of options.now)) }
+    ensures { OnOk result (found.new.items ≡ found.old.items
+        ++ misplaced_options scene.now element (map option_of options.now)) }
 {
     for option in options {
         let is_misplaced = !is_allowed(scene, element, *option);
@@ -30,7 +31,8 @@ fn add_repeated(
     scene: &Scene,
     options: &[OptionAt],
 ) -> Result<(), NoMemory>
-    ensures { OnOk result (found.new.items ≡ found.old.items ++ repeated_options scene.now (map option_of options.now)) }
+    ensures { OnOk result (found.new.items ≡ found.old.items
+        ++ repeated_options scene.now (map option_of options.now)) }
 {
     let mut tokens = Vec::new(alloc);
     let mut names = Vec::new(alloc);
@@ -50,7 +52,8 @@ pub(crate) fn add_option_flaws(
     element: Element,
     options: &[OptionAt],
 ) -> Result<(), NoMemory>
-    ensures { OnOk result (found.new.items ≡ found.old.items ++ option_flaws scene.now element (map option_of options.now)) }
+    ensures { OnOk result (found.new.items ≡ found.old.items
+        ++ option_flaws scene.now element (map option_of options.now)) }
 {
     add_misplaced(found, scene, element, options)?;
     add_repeated(alloc, found, scene, options)

@@ -19,7 +19,8 @@ pub(crate) enum BlockAt<'a> {
 #[cycle(blocks)]
 #[tactic(auto, using(crate::proofs::BlockTrees::message_holders))]
 fn push_message<'a>(found: &mut Vec<BlockAt<'a>>, message: &'a Message) -> Result<(), NoMemory>
-    ensures { OnOk result (map block_of found.new.items ≡ map block_of found.old.items ++ holders_in (message_tree message.now)) }
+    ensures { OnOk result (map block_of found.new.items
+        ≡ map block_of found.old.items ++ holders_in (message_tree message.now)) }
 {
     found.push(BlockAt::Message(message))?;
     push_members(found, &message.members)
@@ -28,7 +29,8 @@ fn push_message<'a>(found: &mut Vec<BlockAt<'a>>, message: &'a Message) -> Resul
 #[cycle(blocks)]
 #[tactic(auto, using(crate::proofs::BlockTrees::holders_joined))]
 fn push_members<'a>(found: &mut Vec<BlockAt<'a>>, members: &'a [Member]) -> Result<(), NoMemory>
-    ensures { OnOk result (map block_of found.new.items ≡ map block_of found.old.items ++ holders_in (trees member_tree members.now)) }
+    ensures { OnOk result (map block_of found.new.items
+        ≡ map block_of found.old.items ++ holders_in (trees member_tree members.now)) }
 {
     for member in members {
         push_member(found, member)?;
@@ -39,7 +41,8 @@ fn push_members<'a>(found: &mut Vec<BlockAt<'a>>, members: &'a [Member]) -> Resu
 #[cycle(blocks)]
 #[tactic(auto, using(crate::proofs::BlockTrees::enum_alone, crate::proofs::BlockTrees::oneof_alone))]
 fn push_member<'a>(found: &mut Vec<BlockAt<'a>>, member: &'a Member) -> Result<(), NoMemory>
-    ensures { OnOk result (map block_of found.new.items ≡ map block_of found.old.items ++ holders_in (member_tree member.now)) }
+    ensures { OnOk result (map block_of found.new.items
+        ≡ map block_of found.old.items ++ holders_in (member_tree member.now)) }
 {
     match member {
         Member::Message(message) => push_message(found, message)?,
@@ -52,7 +55,8 @@ fn push_member<'a>(found: &mut Vec<BlockAt<'a>>, member: &'a Member) -> Result<(
 
 #[tactic(auto, using(crate::proofs::BlockTrees::enum_alone, crate::proofs::BlockTrees::no_holders))]
 fn push_item<'a>(found: &mut Vec<BlockAt<'a>>, item: &'a Item) -> Result<(), NoMemory>
-    ensures { OnOk result (map block_of found.new.items ≡ map block_of found.old.items ++ holders_in (item_tree item.now)) }
+    ensures { OnOk result (map block_of found.new.items
+        ≡ map block_of found.old.items ++ holders_in (item_tree item.now)) }
 {
     match item {
         Item::Message(message) => push_message(found, message)?,

@@ -93,7 +93,8 @@ fn default_word(scene: &Scene, option: OptionAt) -> Option<u32>
 
 /// The words that are a field's defaults.
 fn default_words(alloc: Global, scene: &Scene, field: FieldAt) -> Result<Vec<u32>, NoMemory>
-    ensures { IfOk result (λ words. words.items ≡ default_words (text scene.now) (field_of field.entry)) }
+    ensures { IfOk result (λ words. words.items
+        ≡ default_words (text scene.now) (field_of field.entry)) }
 {
     let options = options_between(alloc, field.settings)?;
     let mut words = Vec::new(alloc);
@@ -112,7 +113,8 @@ fn push_spelled(
     words: &[u32],
     old: &str,
 ) -> Result<(), NoMemory>
-    ensures { OnOk result (found.new.items ≡ found.old.items ++ spelled (text scene.now) old.now words.now) }
+    ensures { OnOk result (found.new.items ≡ found.old.items
+        ++ spelled (text scene.now) old.now words.now) }
 {
     for word in words {
         if scene.text(*word) == old {
@@ -131,7 +133,8 @@ fn push_field(
     asked: &Asked,
     field: FieldAt,
 ) -> Result<(), NoMemory>
-    ensures { OnOk result (found.new.items ≡ found.old.items ++ asked_defaults (text scene.now) asked.now (field_of field.entry)) }
+    ensures { OnOk result (found.new.items ≡ found.old.items
+        ++ asked_defaults (text scene.now) asked.now (field_of field.entry)) }
 {
     if !is_asked(asked, field.kind) {
         return Ok(());
@@ -147,7 +150,8 @@ fn push_fields(
     asked: &Asked,
     fields: &[FieldAt],
 ) -> Result<(), NoMemory>
-    ensures { OnOk result (found.new.items ≡ found.old.items ++ flat_map (asked_defaults (text scene.now) asked.now) (map field_of fields.now)) }
+    ensures { OnOk result (found.new.items ≡ found.old.items
+        ++ flat_map (asked_defaults (text scene.now) asked.now) (map field_of fields.now)) }
 {
     for field in fields {
         push_field(alloc, found, scene, asked, *field)?;
@@ -163,7 +167,8 @@ fn push_block(
     asked: &Asked,
     block: BlockAt,
 ) -> Result<(), NoMemory>
-    ensures { OnOk result (found.new.items ≡ found.old.items ++ defaults_in (text scene.now) (asked_type asked.now) asked.now.old.now (block_of block.entry)) }
+    ensures { OnOk result (found.new.items ≡ found.old.items ++ defaults_in
+        (text scene.now) (asked_type asked.now) asked.now.old.now (block_of block.entry)) }
 {
     match block {
         BlockAt::Message(message) => {
@@ -180,7 +185,9 @@ fn defaults(
     asked: &Asked,
     blocks: &[BlockAt],
 ) -> Result<Vec<u32>, NoMemory>
-    ensures { IfOk result (λ found. found.items ≡ flat_map (defaults_in (text scene.now) (asked_type asked.now) asked.now.old.now) (map block_of blocks.now)) }
+    ensures { IfOk result (λ found. found.items ≡ flat_map
+        (defaults_in (text scene.now) (asked_type asked.now) asked.now.old.now)
+        (map block_of blocks.now)) }
 {
     let mut found = Vec::new(alloc);
     for block in blocks {
@@ -201,7 +208,8 @@ pub fn renamed_defaults_in<'a>(
 ) -> Result<Vec<u32>, NoMemory>
     requires link { IsLinkOf files.now link.now }
     requires file { file < length files.now }
-    ensures { IfOk result (λ found. (reads : List ReadOf) → AreRead files.now reads → (enum : List (List ℕ)) → ArePlain enum → joined enum ≡ enum_name.now
+    ensures { IfOk result (λ found. (reads : List ReadOf) → AreRead files.now reads
+        → (enum : List (List ℕ)) → ArePlain enum → joined enum ≡ enum_name.now
         → found.items ≡ flat_map (renamed_default files.now reads (Some enum) old.now file) (fields_of_file (read_at reads file).tree)) }
 {
     let scene = scene(alloc, files, file);

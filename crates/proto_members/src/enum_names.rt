@@ -27,7 +27,8 @@ fn is_value(kind: Kind) -> bool
 }
 
 fn holds_value(alloc: Global, block: BlockAt, token: u32) -> Result<bool, NoMemory>
-    ensures { IfOk result (λ b. b ≡ holds_value token (block_of block.entry).header (block_of block.entry).within) }
+    ensures { IfOk result (λ b. b ≡ holds_value token
+        (block_of block.entry).header (block_of block.entry).within) }
 {
     match block {
         BlockAt::Enum(enumeration) => Ok(has_value(&values(alloc, &enumeration.members)?, token)),
@@ -48,7 +49,8 @@ fn name_token(block: BlockAt) -> u32
 
 /// The name token of the enum that has the value; none where there is none.
 fn enum_of_value(alloc: Global, blocks: &[BlockAt], token: u32) -> Result<Option<u32>, NoMemory>
-    ensures { IfOk result (λ o. o ≡ option_map (λ b. name_token b.header) (find (λ b. holds_value token b.header b.within) (map block_of blocks.now))) }
+    ensures { IfOk result (λ o. o ≡ option_map (λ b. name_token b.header)
+        (find (λ b. holds_value token b.header b.within) (map block_of blocks.now))) }
 {
     for block in blocks {
         if holds_value(alloc, *block, token)? {
@@ -70,7 +72,8 @@ fn before_word<'a>(name: &'a str, word: &str) -> &'a str
 
 /// The name with another word in place of its last one.
 fn beside(alloc: Global, name: &str, word: &str, other: &str) -> Result<String, NoMemory>
-    ensures { IfOk result (λ s. (front : List ℕ) → name.now ≡ front ++ word.now → string_bytes s ≡ front ++ other.now) }
+    ensures { IfOk result (λ s. (front : List ℕ)
+        → name.now ≡ front ++ word.now → string_bytes s ≡ front ++ other.now) }
 {
     let mut beside = String::from_str(alloc, before_word(name, word))?;
     beside.push_str(other)?;
@@ -80,7 +83,8 @@ fn beside(alloc: Global, name: &str, word: &str, other: &str) -> Result<String, 
 /// The full name of the enum that has the value, which stands beside it; none for what is no value.
 pub fn enum_name(alloc: Global, files: &Files, aim: Aim) -> Result<Option<String>, NoMemory>
     requires { IsAimOf files.now aim }
-    ensures { IfOk result (λ name. (reads : List ReadOf) → AreRead files.now reads → (t : Target) → IsAimedAt files.now reads aim.entry t
+    ensures { IfOk result (λ name. (reads : List ReadOf)
+        → AreRead files.now reads → (t : Target) → IsAimedAt files.now reads aim.entry t
         → option_map string_bytes name ≡ option_map joined t.enum) }
 {
     are_read(files);

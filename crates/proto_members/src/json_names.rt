@@ -74,7 +74,8 @@ fn has_other(
     token: u32,
     name: &str,
 ) -> Result<bool, NoMemory>
-    ensures { IfOk result (λ b. b ≡ list_any (is_other scene.now token name.now) (map field_of fields.now)) }
+    ensures { IfOk result (λ b. b ≡ list_any
+        (is_other scene.now token name.now) (map field_of fields.now)) }
 {
     for field in fields {
         if is_other(alloc, scene, *field, token, name)? {
@@ -91,7 +92,8 @@ fn fields_clash(
     token: u32,
     name: &str,
 ) -> Result<bool, NoMemory>
-    ensures { IfOk result (λ b. b ≡ fields_clash scene.now token name.now (map field_of fields.now)) }
+    ensures { IfOk result (λ b. b ≡ fields_clash scene.now token name.now
+        (map field_of fields.now)) }
 {
     if !has_made(alloc, scene, fields, token)? {
         return Ok(false);
@@ -123,7 +125,8 @@ fn one_clashes(
     token: u32,
     name: &str,
 ) -> Result<bool, NoMemory>
-    ensures { IfOk result (λ b. b ≡ list_any (clash_in scene.now token name.now) (map block_of blocks.now)) }
+    ensures { IfOk result (λ b. b ≡ list_any
+        (clash_in scene.now token name.now) (map block_of blocks.now)) }
 {
     for block in blocks {
         if clash_in(alloc, scene, *block, token, name)? {
@@ -137,7 +140,8 @@ fn one_clashes(
 /// message by the new word.
 pub fn clashes(alloc: Global, files: &Files, aim: Aim, word: &str) -> Result<bool, NoMemory>
     requires { IsAimOf files.now aim }
-    ensures { IfOk result (λ b. (reads : List ReadOf) → AreRead files.now reads → (t : Target) → IsAimedAt files.now reads aim.entry t
+    ensures { IfOk result (λ b. (reads : List ReadOf)
+        → AreRead files.now reads → (t : Target) → IsAimedAt files.now reads aim.entry t
         → IsTrue b ↔ Clashes files.now reads t.token word.now) }
 {
     are_read(files);

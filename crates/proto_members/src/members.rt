@@ -55,7 +55,8 @@ pub(crate) fn oneof_fields<'a>(
     alloc: Global,
     members: &'a [Field],
 ) -> Result<Vec<FieldAt<'a>>, NoMemory>
-    ensures { IfOk result (λ fields. map field_of fields.items ≡ fields_in (trees field_tree members.now)) }
+    ensures { IfOk result (λ fields. map field_of fields.items
+        ≡ fields_in (trees field_tree members.now)) }
 {
     let mut fields = Vec::new(alloc);
     for field in members {

@@ -42,7 +42,9 @@ fn message_reserves(
     token: u32,
     word: &str,
 ) -> Result<bool, NoMemory>
-    ensures { IfOk result (λ b. b ≡ (has_field token (fields_in (trees member_tree members.now)) && says scene.now word.now (reserved_names_in (trees member_tree members.now)))) }
+    ensures { IfOk result (λ b. b ≡
+        (has_field token (fields_in (trees member_tree members.now)) && says scene.now word.now
+        (reserved_names_in (trees member_tree members.now)))) }
 {
     let fields = fields_of(alloc, members)?;
     if !has_field(&fields, token) {
@@ -60,7 +62,9 @@ fn enum_reserves(
     token: u32,
     word: &str,
 ) -> Result<bool, NoMemory>
-    ensures { IfOk result (λ b. b ≡ (has_value token (values_in (trees enum_item_tree items.now)) && says scene.now word.now (reserved_names_in (trees enum_item_tree items.now)))) }
+    ensures { IfOk result (λ b. b ≡
+        (has_value token (values_in (trees enum_item_tree items.now)) && says scene.now word.now
+        (reserved_names_in (trees enum_item_tree items.now)))) }
 {
     let values = values(alloc, items)?;
     if !has_value(&values, token) {
@@ -94,7 +98,8 @@ fn one_reserves(
     token: u32,
     word: &str,
 ) -> Result<bool, NoMemory>
-    ensures { IfOk result (λ b. b ≡ list_any (reserves scene.now token word.now) (map block_of blocks.now)) }
+    ensures { IfOk result (λ b. b ≡ list_any
+        (reserves scene.now token word.now) (map block_of blocks.now)) }
 {
     for block in blocks {
         if reserves(alloc, scene, *block, token, word)? {
@@ -108,7 +113,8 @@ fn one_reserves(
 /// and below.
 pub fn is_reserved(alloc: Global, files: &Files, aim: Aim, word: &str) -> Result<bool, NoMemory>
     requires { IsAimOf files.now aim }
-    ensures { IfOk result (λ b. (reads : List ReadOf) → AreRead files.now reads → (t : Target) → IsAimedAt files.now reads aim.entry t
+    ensures { IfOk result (λ b. (reads : List ReadOf)
+        → AreRead files.now reads → (t : Target) → IsAimedAt files.now reads aim.entry t
         → IsTrue b ↔ Reserves files.now reads t.token word.now) }
 {
     are_read(files);

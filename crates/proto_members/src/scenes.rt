@@ -11,7 +11,8 @@ use std::alloc::Global;
 /// The texts, strings and version of a file; nothing of what its references mean.
 pub(crate) fn scene<'a>(alloc: Global, files: &'a Files, file: u32) -> Scene<'a>
     requires { file < length files.now }
-    ensures { (reads : List ReadOf) → AreRead files.entry.now reads → IsReadAs files.entry.now reads file result }
+    ensures { (reads : List ReadOf) → AreRead files.entry.now reads
+        → IsReadAs files.entry.now reads file result }
 {
     let place = file as usize;
     let words = Words::new(files, place);

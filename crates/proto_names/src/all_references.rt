@@ -31,16 +31,22 @@ pub(crate) fn all_meanings(
     requires listings { AreListings files.now listings.now }
     requires seen { length seen.now ≡ length files.now }
     requires paired { length rows.now ≡ length files.now }
-    requires rows { Each (λ k v. (d : Listing) → length v.items ≡ length (get_or listings.now k d).declared.items) rows.now }
+    requires rows { Each (λ k v. (d : Listing)
+        → length v.items ≡ length (get_or listings.now k d).declared.items) rows.now }
     requires within { All (λ v. All (λ r. r < length table.now.rows.items) v.items) rows.now }
     ensures len { IfOk result (λ ms. length ms.items ≡ length files.now) }
-    ensures within { IfOk result (λ ms. ((reads : List ReadOf) → AreRead files.now reads → AreLinked table.now seen.now rows.now files.now reads)
+    ensures within { IfOk result (λ ms.
+        ((reads : List ReadOf) → AreRead files.now reads
+        → AreLinked table.now seen.now rows.now files.now reads)
         → All (λ v. All (λ m. m.row < length table.now.rows.items) v.items) ms.items) }
-    ensures meant { IfOk result (λ ms. (reads : List ReadOf) → AreRead files.now reads → AreLinked table.now seen.now rows.now files.now reads
+    ensures meant { IfOk result (λ ms. (reads : List ReadOf)
+        → AreRead files.now reads → AreLinked table.now seen.now rows.now files.now reads
         → (k : ℕ) → k < length files.now → AreFileMeant table.now files.now reads k (get_or (map (λ v. v.items) ms.items) k [])) }
-    ensures clean { IfOk result (λ _. (reads : List ReadOf) → AreRead files.now reads → AreLinked table.now seen.now rows.now files.now reads
+    ensures clean { IfOk result (λ _. (reads : List ReadOf)
+        → AreRead files.now reads → AreLinked table.now seen.now rows.now files.now reads
         → (f : Fault) → ReferenceFault (text_of files.now reads) (link_skeleton files.now reads) f → ⊥) }
-    ensures fault { IfErr result (λ e. (reads : List ReadOf) → AreRead files.now reads → AreLinked table.now seen.now rows.now files.now reads
+    ensures fault { IfErr result (λ e. (reads : List ReadOf)
+        → AreRead files.now reads → AreLinked table.now seen.now rows.now files.now reads
         → IsLeastBad files.now reads e) }
 {
     are_read(files);
@@ -72,12 +78,15 @@ fn file_meanings(
 ) -> Result<Vec<Meant>, ReferenceError>
     requires file { file < length files.now }
     requires table { IsTable table.now }
-    requires listing { (r : ReadOf) × Reads (file_at files.now file).bytes r.tokens r.tree × IsListing r listing.now }
+    requires listing { (r : ReadOf) × Reads (file_at files.now file).bytes r.tokens r.tree
+        × IsListing r listing.now }
     requires rows { length rows.now ≡ length listing.now.declared.items }
     requires within { All (λ r. r < length table.now.rows.items) rows.now }
-    ensures meant { IfOk result (λ ms. (reads : List ReadOf) → AreRead files.now reads → IsFileLinked table.now seen.now rows.now files.now reads file
+    ensures meant { IfOk result (λ ms. (reads : List ReadOf)
+        → AreRead files.now reads → IsFileLinked table.now seen.now rows.now files.now reads file
         → AreFileMeant table.now files.now reads file ms.items) }
-    ensures fault { IfErr result (λ e. (reads : List ReadOf) → AreRead files.now reads → IsFileLinked table.now seen.now rows.now files.now reads file
+    ensures fault { IfErr result (λ e. (reads : List ReadOf)
+        → AreRead files.now reads → IsFileLinked table.now seen.now rows.now files.now reads file
         → IsFileError files.now reads file e) }
 {
     let words = Words::new(files, file as usize);

@@ -18,7 +18,8 @@ pub(crate) fn references_by_name(
     requires count { length meant.now ≤ 2 ^ 32 }
     requires within { All (λ v. All (λ m. m.row < count) v.items) meant.now }
     ensures len { IfOk result (λ refs. length refs.items ≡ count) }
-    ensures each { IfOk result (λ refs. (row : ℕ) → get_or (map (λ v. v.items) refs.items) row [] ≡ references_to row (all_meant 0 (map (λ v. v.items) meant.now))) }
+    ensures each { IfOk result (λ refs. (row : ℕ) → get_or (map (λ v. v.items) refs.items) row []
+        ≡ references_to row (all_meant 0 (map (λ v. v.items) meant.now))) }
 {
     let mut references = empty_lists(alloc, count)?;
     for file in 0..meant.len() {
@@ -42,7 +43,9 @@ fn empty_lists(alloc: Global, count: usize) -> Result<Vec<Vec<RefId>>, NoMemory>
 fn put_all(references: &mut Vec<Vec<RefId>>, file: u32, meant: &[Meant]) -> Result<(), NoMemory>
     requires { All (λ m. m.row < length references.old.items) meant.now }
     ensures len { OnOk result (length references.new.items ≡ length references.old.items) }
-    ensures each { OnOk result ((row : ℕ) → get_or (map (λ v. v.items) references.new.items) row [] ≡ get_or (map (λ v. v.items) references.old.items) row [] ++ references_to row (map (meant_by file) meant.now)) }
+    ensures each { OnOk result ((row : ℕ) → get_or (map (λ v. v.items) references.new.items) row []
+        ≡ get_or (map (λ v. v.items) references.old.items) row []
+        ++ references_to row (map (meant_by file) meant.now)) }
 {
     for one in meant {
         let reference = RefId {
@@ -57,7 +60,9 @@ fn put_all(references: &mut Vec<Vec<RefId>>, file: u32, meant: &[Meant]) -> Resu
 /// Puts a reference behind those of a name.
 fn put(references: &mut Vec<Vec<RefId>>, row: usize, reference: RefId) -> Result<(), NoMemory>
     requires { row < length references.old.items }
-    ensures { OnOk result (map (λ v. v.items) references.new.items ≡ slice_set (map (λ v. v.items) references.old.items) row (get_or (map (λ v. v.items) references.old.items) row [] ++ reference ∷ [])) }
+    ensures { OnOk result (map (λ v. v.items) references.new.items ≡ slice_set
+        (map (λ v. v.items) references.old.items) row
+        (get_or (map (λ v. v.items) references.old.items) row [] ++ reference ∷ [])) }
 {
     let list = &mut references[row];
     list.push(reference)?;

@@ -81,7 +81,8 @@ impl Model for Link {
 
 /// The row with this index, but for a package's.
 fn declared(rows: &[Row], index: usize) -> Option<&Row>
-    ensures { option_map (λ r. r.now) result ≡ option_and_then (λ r. if is_package r.symbol.kind then None else Some r) (slice_get rows.now index) }
+    ensures { option_map (λ r. r.now) result ≡ option_and_then
+        (λ r. if is_package r.symbol.kind then None else Some r) (slice_get rows.now index) }
 {
     let row = rows.get(index)?;
     if row.symbol.kind.is_package() {
@@ -125,7 +126,14 @@ impl Link {
         requires table { IsTable table }
         requires rising { All (λ v. AllPairs (λ m n. m.token < n.token) v.items) meant.items }
         requires paired { length references.items ≡ length table.rows.items }
-        ensures { result ≡ record { names = map name_of_row table.rows.items; seen = map (λ v. v.items) seen.items; meant = map (λ v. v.items) meant.items; references = map (λ v. v.items) references.items } }
+        ensures { result ≡ record {
+          names = map name_of_row table.rows.items;
+          seen = map
+              (λ v. v.items) seen.items;
+          meant = map (λ v. v.items) meant.items;
+          references = map
+              (λ v. v.items) references.items;
+        } }
     {
         Link {
             table,
@@ -139,7 +147,8 @@ impl Link {
     pub fn symbol(&self, name: &str) -> Option<SymbolId>
         ensures some { IfSome result (λ id. text_at self.now id.row ≡ Some name.now) }
         ensures none { IfNone result ((row : ℕ) → text_at self.now row ≢ Some name.now) }
-        ensures once { (i j : ℕ) (text : List ℕ) → text_at self.now i ≡ Some text → text_at self.now j ≡ Some text → i ≡ j }
+        ensures once { (i j : ℕ) (text : List ℕ)
+            → text_at self.now i ≡ Some text → text_at self.now j ≡ Some text → i ≡ j }
     {
         let row = self.table.named(name)?;
         Some(SymbolId { row })
@@ -232,11 +241,15 @@ impl Link {
         requires link { IsLinkOf files.now self.now }
         requires file { file < length files.now }
         requires scope { (path : List (List ℕ)) × ArePlain path × (scope.now ≡ joined path) }
-        requires words { (tokens : List Token) → AreTokens (file_at_place files.now file).bytes tokens → ArePlain (map (words (file_at_place files.now file).bytes tokens) (dotted reference.now.words)) }
+        requires words { (tokens : List Token) → AreTokens
+            (file_at_place files.now file).bytes tokens → ArePlain
+            (map (words (file_at_place files.now file).bytes tokens) (dotted reference.now.words)) }
         ensures within { IfSome result (λ id. id.row < length self.now.names) }
-        ensures meant { (reads : List ReadOf) → AreRead files.now reads → (path : List (List ℕ)) → ArePlain path → scope.now ≡ joined path
+        ensures meant { (reads : List ReadOf) → AreRead files.now reads
+            → (path : List (List ℕ)) → ArePlain path → scope.now ≡ joined path
             → option_and_then (λ id. text_at self.now id.row) result ≡ option_map joined (meaning (names_of_files files.now reads) (reference_in files.now reads file path reference.now)) }
-        ensures none { (reads : List ReadOf) → AreRead files.now reads → (path : List (List ℕ)) → ArePlain path → scope.now ≡ joined path
+        ensures none { (reads : List ReadOf) → AreRead files.now reads
+            → (path : List (List ℕ)) → ArePlain path → scope.now ≡ joined path
             → (result ≡ None) ↔ (meaning (names_of_files files.now reads) (reference_in files.now reads file path reference.now) ≡ None) }
     {
         let seen = self.seen.get(file as usize)?;

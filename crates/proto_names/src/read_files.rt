@@ -46,7 +46,9 @@ pub(crate) fn all_spelled(
     ensures spelled { IfOk result (λ ss. All (λ v. AreSpelled v.items) ss.items) }
     ensures each { IfOk result (λ ss. (reads : List ReadOf) → AreRead files.now reads
         → Each (λ k v. named_in k v.items ≡ map (named_as k (λ i. text_of files.now reads (at k i))) (package_first (items_in (read_at reads k).tree))) ss.items) }
-    ensures names { IfOk result (λ ss. (reads : List ReadOf) → AreRead files.now reads → all_named 0 (map (λ v. v.items) ss.items) ≡ tree_named (text_of files.now reads) 0 (map names_in reads)) }
+    ensures names { IfOk result (λ ss. (reads : List ReadOf) → AreRead files.now reads → all_named 0
+        (map (λ v. v.items) ss.items) ≡ tree_named
+        (text_of files.now reads) 0 (map names_in reads)) }
 {
     are_read(files);
     let mut all = Vec::new(alloc);
@@ -61,7 +63,8 @@ pub(crate) fn all_spelled(
 pub(crate) fn all_written(alloc: Global, files: &Files) -> Result<Vec<Vec<WrittenImport>>, NoMemory>
     ensures len { IfOk result (λ ws. length ws.items ≡ length files.now) }
     ensures rising { IfOk result (λ ws. All (λ v. AreRising v.items) ws.items) }
-    ensures asked { IfOk result (λ ws. (reads : List ReadOf) → AreRead files.now reads → all_asked 0 (map (λ v. v.items) ws.items) ≡ all_wanted (text_of files.now reads) 0 reads) }
+    ensures asked { IfOk result (λ ws. (reads : List ReadOf) → AreRead files.now reads → all_asked 0
+        (map (λ v. v.items) ws.items) ≡ all_wanted (text_of files.now reads) 0 reads) }
 {
     let mut all = Vec::new(alloc);
     for file in 0..files.len() {

@@ -85,10 +85,13 @@ pub(crate) fn meanings(
     requires table { IsTable table.now }
     requires rows { All (λ r. r < length table.now.rows.items) rows.now }
     requires scopes { All (λ u. u.scope < length rows.now) uses.now }
-    requires plain { All (λ u. ArePlain (map (word_at words.now) (dotted u.reference.now.words))) uses.now }
-    ensures meant { IfOk result (λ ms. (w : Workspace) (names : List (List (List ℕ))) → IsReadBy table.now seen.now rows.now names file w
+    requires plain { All
+        (λ u. ArePlain (map (word_at words.now) (dotted u.reference.now.words))) uses.now }
+    ensures meant { IfOk result (λ ms. (w : Workspace)
+        (names : List (List (List ℕ))) → IsReadBy table.now seen.now rows.now names file w
         → AreMeant table.now w (map (reference_by file names (word_at words.now)) uses.now) (map first_token uses.now) ms.items) }
-    ensures fault { IfErr result (λ e. (w : Workspace) (names : List (List (List ℕ))) → IsReadBy table.now seen.now rows.now names file w
+    ensures fault { IfErr result (λ e. (w : Workspace)
+        (names : List (List (List ℕ))) → IsReadBy table.now seen.now rows.now names file w
         → IsReferenceError w (reference_by file names (word_at words.now)) file uses.now e) }
 {
     let mut meant = Vec::new(alloc);
@@ -116,7 +119,9 @@ fn row_meant(
     requires table { IsTable table.now }
     requires within { scope ≤ length table.now.rows.items }
     requires plain { ArePlain (map (word_at words.now) (dotted reference.now.words)) }
-    ensures { IfOk result (λ o. (w : Workspace) (r : NameReference) → IsAsked table.now seen.now scope w r → r.words ≡ map (word_at words.now) (dotted reference.now.words) → r.is_absolute ≡ is_some reference.now.dot
+    ensures { IfOk result (λ o. (w : Workspace) (r : NameReference)
+        → IsAsked table.now seen.now scope w r → r.words ≡ map
+        (word_at words.now) (dotted reference.now.words) → r.is_absolute ≡ is_some reference.now.dot
         → option_map (λ k. get_or (names_of table.now) k []) o ≡ option_map joined (meaning w r)) }
 {
     let first = words.get(reference.words.first);
@@ -133,7 +138,8 @@ fn words_behind<'a>(
     words: &Words<'a>,
     tokens: &Dotted,
 ) -> Result<Vec<&'a str>, NoMemory>
-    ensures { IfOk result (λ texts. map (λ t. t.now) texts.items ≡ map (λ b. word_at words.now b.item) tokens.now.rest) }
+    ensures { IfOk result (λ texts. map (λ t. t.now) texts.items
+        ≡ map (λ b. word_at words.now b.item) tokens.now.rest) }
 {
     let mut texts = Vec::new(alloc);
     for behind in tokens.rest.as_slice() {

@@ -25,7 +25,8 @@ pub(crate) fn row_in_scope(
     requires table { IsTable table.now }
     requires plain { ArePlain (map (word_at words.now) (dotted reference.now.words)) }
     ensures within { IfSome result (λ k. k < length table.now.rows.items) }
-    ensures meant { (w : Workspace) (r : NameReference) → IsIndexOf table.now w.symbols → MarksSeen w r.file seen.now → ArePlain r.scope → scope.now ≡ joined r.scope
+    ensures meant { (w : Workspace) (r : NameReference) → IsIndexOf table.now w.symbols
+        → MarksSeen w r.file seen.now → ArePlain r.scope → scope.now ≡ joined r.scope
         → r.words ≡ map (word_at words.now) (dotted reference.now.words) → r.is_absolute ≡ is_some reference.now.dot
         → option_map (λ k. get_or (names_of table.now) k []) result ≡ option_map joined (meaning w r) }
 {
@@ -55,7 +56,9 @@ fn visible_type(
     requires table { IsTable table.now }
     requires within { start < length table.now.rows.items }
     requires plain { ArePlain (map (λ b. word_at words.now b.item) rest.now) }
-    ensures { IsTypeAt table.now seen.now (under_all (get_or (names_of table.now) start []) (map (λ b. word_at words.now b.item) rest.now)) result }
+    ensures { IsTypeAt table.now seen.now
+        (under_all (get_or (names_of table.now) start [])
+        (map (λ b. word_at words.now b.item) rest.now)) result }
 {
     let row = follow(table, start, words, rest)?;
     let found = &table.rows[row];
@@ -71,8 +74,12 @@ fn follow(table: &Table, start: usize, words: &Words, rest: &[Behind<u32>]) -> O
     requires table { IsTable table.now }
     requires within { start < length table.now.rows.items }
     requires plain { ArePlain (map (λ b. word_at words.now b.item) rest.now) }
-    ensures some { IfSome result (λ k. (k < length table.now.rows.items) × (get_or (names_of table.now) k [] ≡ under_all (get_or (names_of table.now) start []) (map (λ b. word_at words.now b.item) rest.now))) }
-    ensures none { IfNone result ((k : ℕ) → k < length table.now.rows.items → get_or (names_of table.now) k [] ≢ under_all (get_or (names_of table.now) start []) (map (λ b. word_at words.now b.item) rest.now)) }
+    ensures some { IfSome result (λ k. (k < length table.now.rows.items) ×
+        (get_or (names_of table.now) k [] ≡ under_all
+        (get_or (names_of table.now) start []) (map (λ b. word_at words.now b.item) rest.now))) }
+    ensures none { IfNone result ((k : ℕ) → k < length table.now.rows.items → get_or
+        (names_of table.now) k [] ≢ under_all (get_or (names_of table.now) start [])
+        (map (λ b. word_at words.now b.item) rest.now)) }
 {
     let mut row = start;
     for behind in rest {

@@ -12,7 +12,8 @@ use proto_table::table::{Table, cut};
 pub(crate) fn scope_number(table: &Table, scope: &str) -> usize
     requires { IsTable table.now }
     ensures within { result ≤ length table.now.rows.items }
-    ensures front { (path : List (List ℕ)) → ArePlain path → scope.now ≡ joined path → IsScopeFront table.now path result }
+    ensures front { (path : List (List ℕ)) → ArePlain path
+        → scope.now ≡ joined path → IsScopeFront table.now path result }
 {
     let mut number = 0;
     let mut rest = scope;

@@ -45,8 +45,10 @@ fn import_kind(flaw: ImportFlaw) -> FaultKind
 /// The imports of each file, by the numbers of the files that they name; else the least fault.
 fn linked_imports(alloc: Global, files: &Files) -> Result<Vec<Vec<FileImport>>, SchemaFault>
     ensures len { IfOk result (λ imports. length imports.items ≡ length files.now) }
-    ensures within { IfOk result (λ imports. All (λ v. All (λ i. i.to < length files.now) v.items) imports.items) }
-    ensures imports { IfOk result (λ imports. (reads : List ReadOf) → AreRead files.now reads → all_imports 0 (map (λ v. v.items) imports.items) ≡ link_imports files.now reads) }
+    ensures within { IfOk result (λ imports. All
+        (λ v. All (λ i. i.to < length files.now) v.items) imports.items) }
+    ensures imports { IfOk result (λ imports. (reads : List ReadOf) → AreRead files.now reads
+        → all_imports 0 (map (λ v. v.items) imports.items) ≡ link_imports files.now reads) }
     ensures clean { IfOk result (λ _. HasNoImportFault files.now) }
     ensures fault { IfErr result (IsLinkError files.now) }
 {
@@ -74,10 +76,14 @@ fn linked_names(
     requires listings { AreListings files.now listings.now }
     requires imports { HasNoImportFault files.now }
     ensures table { IfOk result (λ x. IsTable x.0) }
-    ensures names { IfOk result (λ x. (reads : List ReadOf) → AreRead files.now reads → AreNamesOf files.now reads x.0 x.1.items) }
+    ensures names { IfOk result (λ x. (reads : List ReadOf)
+        → AreRead files.now reads → AreNamesOf files.now reads x.0 x.1.items) }
     ensures paired { IfOk result (λ x. length x.1.items ≡ length files.now) }
-    ensures rows { IfOk result (λ x. Each (λ k v. (d : Listing) → length v.items ≡ length (get_or listings.now k d).declared.items) x.1.items) }
-    ensures within { IfOk result (λ x. All (λ v. All (λ r. r < length x.0.rows.items) v.items) x.1.items) }
+    ensures rows { IfOk result (λ x. Each
+        (λ k v. (d : Listing) → length v.items ≡ length (get_or listings.now k d).declared.items)
+        x.1.items) }
+    ensures within { IfOk result
+        (λ x. All (λ v. All (λ r. r < length x.0.rows.items) v.items) x.1.items) }
     ensures clean { IfOk result (λ _. HasNoNameFault files.now) }
     ensures fault { IfErr result (IsLinkError files.now) }
 {
@@ -117,17 +123,26 @@ fn linked_references(
     requires table { IsTable table.now }
     requires listings { AreListings files.now listings.now }
     requires seen { length seen.now ≡ length files.now }
-    requires marks { (reads : List ReadOf) → AreRead files.now reads → (k : ℕ) → k < length files.now → MarksSeen (names_of_files files.now reads) k (get_or (map (λ v. v.items) seen.now) k []) }
+    requires marks { (reads : List ReadOf) → AreRead files.now reads → (k : ℕ) → k
+        < length files.now → MarksSeen (names_of_files files.now reads) k
+        (get_or (map (λ v. v.items) seen.now) k []) }
     requires paired { length rows.now ≡ length files.now }
-    requires rows { Each (λ k v. (d : Listing) → length v.items ≡ length (get_or listings.now k d).declared.items) rows.now }
+    requires rows { Each (λ k v. (d : Listing)
+        → length v.items ≡ length (get_or listings.now k d).declared.items) rows.now }
     requires within { All (λ v. All (λ r. r < length table.now.rows.items) v.items) rows.now }
-    requires names { (reads : List ReadOf) → AreRead files.now reads → AreNamesOf files.now reads table.now rows.now }
+    requires names { (reads : List ReadOf) → AreRead files.now reads
+        → AreNamesOf files.now reads table.now rows.now }
     requires no_import_fault { HasNoImportFault files.now }
     requires no_name_fault { HasNoNameFault files.now }
     ensures len { IfOk result (λ ms. length ms.items ≡ length files.now) }
-    ensures within { IfOk result (λ ms. All (λ v. All (λ m. m.row < length table.now.rows.items) v.items) ms.items) }
-    ensures meant { IfOk result (λ ms. (reads : List ReadOf) → AreRead files.now reads → (k : ℕ) → k < length files.now → AreFileMeant table.now files.now reads k (get_or (map (λ v. v.items) ms.items) k [])) }
-    ensures clean { IfOk result (λ _. (reads : List ReadOf) → AreRead files.now reads → (f : FaultAtToken) → ReferenceFault (text_of files.now reads) (link_skeleton files.now reads) f → ⊥) }
+    ensures within { IfOk result
+        (λ ms. All (λ v. All (λ m. m.row < length table.now.rows.items) v.items) ms.items) }
+    ensures meant { IfOk result (λ ms. (reads : List ReadOf) → AreRead files.now reads → (k : ℕ) → k
+        < length files.now → AreFileMeant table.now files.now reads k
+        (get_or (map (λ v. v.items) ms.items) k [])) }
+    ensures clean { IfOk result (λ _. (reads : List ReadOf) → AreRead files.now reads →
+        (f : FaultAtToken) → ReferenceFault (text_of files.now reads)
+        (link_skeleton files.now reads) f → ⊥) }
     ensures fault { IfErr result (IsLinkError files.now) }
 {
     // The contracts of these say that each file is read, and that the files are those of a workspace.

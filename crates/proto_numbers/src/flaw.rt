@@ -69,7 +69,8 @@ fn comes_before(a: Flaw, b: Flaw) -> bool
 
 /// The least of one more flaw and those of which a flaw is the least.
 fn lower(least: Option<Flaw>, flaw: Flaw) -> Option<Flaw>
-    ensures { (others : List FlawOf) → IsLeast (Contains others) least → IsLeast (Contains (others ++ flaw ∷ [])) result }
+    ensures { (others : List FlawOf) → IsLeast
+        (Contains others) least → IsLeast (Contains (others ++ flaw ∷ [])) result }
 {
     match least {
         Some(other) => Some(if comes_before(flaw, other) {

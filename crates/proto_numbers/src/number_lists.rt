@@ -28,7 +28,8 @@ pub fn field_numbers(
     scene: &Scene,
     fields: &[FieldAt],
 ) -> Result<Vec<NumberAt>, NoMemory>
-    ensures { IfOk result (λ numbers. numbers.items ≡ map (number_of_field scene.now) (map field_of fields.now)) }
+    ensures { IfOk result (λ numbers. numbers.items
+        ≡ map (number_of_field scene.now) (map field_of fields.now)) }
 {
     let mut numbers = Vec::new(alloc);
     for field in fields {
@@ -67,7 +68,8 @@ pub fn field_ranges(
     scene: &Scene,
     ranges: &[&Range<u32>],
 ) -> Result<Vec<RangeAt>, NoMemory>
-    ensures { IfOk result (λ found. found.items ≡ map (range_of scene.now) (map (λ r. r.now) ranges.now)) }
+    ensures { IfOk result (λ found. found.items
+        ≡ map (range_of scene.now) (map (λ r. r.now) ranges.now)) }
 {
     let mut found = Vec::new(alloc);
     for range in ranges {
@@ -102,7 +104,8 @@ pub fn value_numbers(
     scene: &Scene,
     values: &[&Value],
 ) -> Result<Vec<NumberAt>, NoMemory>
-    ensures { IfOk result (λ numbers. numbers.items ≡ map (number_of_value scene.now) (map (λ v. v.now) values.now)) }
+    ensures { IfOk result (λ numbers. numbers.items
+        ≡ map (number_of_value scene.now) (map (λ v. v.now) values.now)) }
 {
     let mut numbers = Vec::new(alloc);
     for value in values {
@@ -141,7 +144,8 @@ pub fn value_ranges(
     scene: &Scene,
     ranges: &[&Range<Signed>],
 ) -> Result<Vec<RangeAt>, NoMemory>
-    ensures { IfOk result (λ found. found.items ≡ map (enum_range_of scene.now) (map (λ r. r.now) ranges.now)) }
+    ensures { IfOk result (λ found. found.items
+        ≡ map (enum_range_of scene.now) (map (λ r. r.now) ranges.now)) }
 {
     let mut found = Vec::new(alloc);
     for range in ranges {

@@ -59,7 +59,8 @@ pub(crate) fn add_outside_fields(
     found: &mut Vec<Flaw>,
     numbers: &[NumberAt],
 ) -> Result<(), NoMemory>
-    ensures { OnOk result (found.new.items ≡ found.old.items ++ outside is_field_number numbers.now) }
+    ensures { OnOk result (found.new.items ≡ found.old.items
+        ++ outside is_field_number numbers.now) }
 {
     for at in numbers {
         let is_outside = !is_field_number(at.number);
@@ -70,7 +71,8 @@ pub(crate) fn add_outside_fields(
 
 /// Adds a flaw at each number that no value of an enum may have.
 pub fn add_outside_values(found: &mut Vec<Flaw>, numbers: &[NumberAt]) -> Result<(), NoMemory>
-    ensures { OnOk result (found.new.items ≡ found.old.items ++ outside is_value_number numbers.now) }
+    ensures { OnOk result (found.new.items ≡ found.old.items
+        ++ outside is_value_number numbers.now) }
 {
     for at in numbers {
         let is_outside = !is_within(LEAST_VALUE, MOST_VALUE, at.number);
@@ -94,7 +96,8 @@ pub(crate) fn add_broken_ranges(
     most: i128,
     ranges: &[RangeAt],
 ) -> Result<(), NoMemory>
-    ensures { OnOk result (found.new.items ≡ found.old.items ++ broken_ranges least most ranges.now) }
+    ensures { OnOk result (found.new.items ≡ found.old.items
+        ++ broken_ranges least most ranges.now) }
 {
     for range in ranges {
         let is_broken = !is_sound(least, most, *range);
@@ -118,7 +121,8 @@ fn alone(at: NumberAt) -> RangeAt
 }
 
 fn is_reserved(index: &[RangeAt], at: NumberAt) -> bool
-    ensures { (rs : List RangeOf) → IsIndexOf rs index.now → result ≡ list_any (is_inside at.number) rs }
+    ensures { (rs : List RangeOf) → IsIndexOf rs index.now
+        → result ≡ list_any (is_inside at.number) rs }
 {
     shares(index, alone(at))
 }
@@ -128,7 +132,8 @@ fn add_inside(
     index: &[RangeAt],
     numbers: &[NumberAt],
 ) -> Result<(), NoMemory>
-    ensures { OnOk result ((rs : List RangeOf) → IsIndexOf rs index.now → found.new.items ≡ found.old.items ++ reserved_numbers rs numbers.now) }
+    ensures { OnOk result ((rs : List RangeOf) → IsIndexOf rs index.now
+        → found.new.items ≡ found.old.items ++ reserved_numbers rs numbers.now) }
 {
     for at in numbers {
         let reserved = is_reserved(index, *at);
@@ -144,7 +149,8 @@ pub(crate) fn add_reserved_numbers(
     ranges: &[RangeAt],
     numbers: &[NumberAt],
 ) -> Result<(), NoMemory>
-    ensures { OnOk result (found.new.items ≡ found.old.items ++ reserved_numbers ranges.now numbers.now) }
+    ensures { OnOk result (found.new.items ≡ found.old.items
+        ++ reserved_numbers ranges.now numbers.now) }
 {
     let index = index_of(alloc, ranges)?;
     add_inside(found, &index, numbers)
@@ -184,7 +190,8 @@ fn sharing_of_few(alloc: Global, ranges: &[RangeAt]) -> Result<Vec<bool>, NoMemo
 
 /// Whether a range shares a number with one that is indexed, or is known to share one.
 fn shares_again(index: &[RangeAt], range: RangeAt, is_known: bool) -> bool
-    ensures { (rs : List RangeOf) → IsIndexOf rs index.now → result ≡ (list_any (λ r. share r range) rs || is_known) }
+    ensures { (rs : List RangeOf) → IsIndexOf rs index.now
+        → result ≡ (list_any (λ r. share r range) rs || is_known) }
 {
     shares(index, range) || is_known
 }
@@ -198,7 +205,8 @@ fn add_sharing(
     known: &[bool],
 ) -> Result<(), NoMemory>
     requires { known.now ≡ after_earlier share ranges.now }
-    ensures { OnOk result ((rs : List RangeOf) → IsIndexOf rs index.now → flags.new.items ≡ flags.old.items ++ earlier share rs ranges.now) }
+    ensures { OnOk result ((rs : List RangeOf) → IsIndexOf rs index.now
+        → flags.new.items ≡ flags.old.items ++ earlier share rs ranges.now) }
 {
     for i in 0..ranges.len() {
         flags.push(shares_again(index, ranges[i], known[i]))?;
@@ -270,7 +278,8 @@ pub(crate) fn add_repeated_fields(
     found: &mut Vec<Flaw>,
     numbers: &[NumberAt],
 ) -> Result<(), NoMemory>
-    ensures { OnOk result (found.new.items ≡ found.old.items ++ marked kind.DuplicateNumber (map (λ n. n.token) numbers.now) (repeated_numbers numbers.now)) }
+    ensures { OnOk result (found.new.items ≡ found.old.items ++ marked kind.DuplicateNumber
+        (map (λ n. n.token) numbers.now) (repeated_numbers numbers.now)) }
 {
     let tokens = number_tokens(alloc, numbers)?;
     let flags = repeated(alloc, numbers)?;
@@ -286,7 +295,8 @@ pub fn add_field_numbers(
     ranges: &[RangeAt],
     numbers: &[NumberAt],
 ) -> Result<(), NoMemory>
-    ensures { OnOk result (found.new.items ≡ found.old.items ++ field_number_flaws ranges.now numbers.now) }
+    ensures { OnOk result (found.new.items ≡ found.old.items
+        ++ field_number_flaws ranges.now numbers.now) }
 {
     add_outside_fields(found, numbers)?;
     add_repeated_fields(alloc, found, numbers)?;
@@ -302,7 +312,9 @@ pub fn add_value_ranges(
     ranges: &[RangeAt],
     numbers: &[NumberAt],
 ) -> Result<(), NoMemory>
-    ensures { OnOk result (found.new.items ≡ found.old.items ++ (reserved_numbers ranges.now numbers.now ++ (broken_ranges least_value most_value ranges.now ++ overlaps ranges.now))) }
+    ensures { OnOk result (found.new.items ≡ found.old.items ++
+        (reserved_numbers ranges.now numbers.now
+        ++ (broken_ranges least_value most_value ranges.now ++ overlaps ranges.now))) }
 {
     add_reserved_numbers(alloc, found, ranges, numbers)?;
     add_broken_ranges(found, LEAST_VALUE, MOST_VALUE, ranges)?;

@@ -81,21 +81,24 @@ pub(crate) fn index_of(alloc: Global, ranges: &[RangeAt]) -> Result<Vec<RangeAt>
 /// How many of the ranges begin before another ends.
 fn begun(index: &[RangeAt], range: RangeAt) -> usize
     ensures bound { result ≤ length index.now }
-    ensures place { AreInOrder index.now → IsPartitionPoint (λ r. int_le r.first range.last ≡ true) (λ r. int_le r.first range.last ≡ false) index.now result }
+    ensures place { AreInOrder index.now → IsPartitionPoint (λ r. int_le r.first range.last ≡ true)
+        (λ r. int_le r.first range.last ≡ false) index.now result }
 {
     index.partition_point(|other| other.first <= range.last)
 }
 
 fn reach_before(index: &[RangeAt], place: usize, range: RangeAt) -> bool
     requires { place ≤ length index.now }
-    ensures { (d : RangeOf) → result ≡ (nat_lt 0 place && int_le range.first (get_or index.now (place - 1) d).last) }
+    ensures { (d : RangeOf)
+        → result ≡ (nat_lt 0 place && int_le range.first (get_or index.now (place - 1) d).last) }
 {
     place > 0 && range.first <= index[place - 1].last
 }
 
 /// Whether one of the ranges that are indexed shares a number with a range.
 pub(crate) fn shares(index: &[RangeAt], range: RangeAt) -> bool
-    ensures { (rs : List RangeOf) → IsIndexOf rs index.now → result ≡ list_any (λ r. share r range) rs }
+    ensures { (rs : List RangeOf) → IsIndexOf rs index.now
+        → result ≡ list_any (λ r. share r range) rs }
 {
     let place = begun(index, range);
     has_numbers(range) && reach_before(index, place, range)

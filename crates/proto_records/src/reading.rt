@@ -26,7 +26,8 @@ use serde_json::{Category, Value};
 use std::alloc::Global;
 
 fn number_at(value: &Value, key: &str) -> Option<u64>
-    ensures { result ≡ option_and_then as_u64 (option_and_then as_number (get key.now (view value.now))) }
+    ensures { result ≡ option_and_then as_u64
+        (option_and_then as_number (get key.now (view value.now))) }
 {
     value.get(key).and_then(Value::as_u64)
 }
@@ -41,7 +42,8 @@ fn small_number_at(value: &Value, key: &str) -> Option<u32>
 }
 
 fn text_at<'a>(value: &'a Value, key: &str) -> Option<&'a str>
-    ensures { option_map (λ s. s.now) result ≡ option_and_then as_str (get key.now (view value.now)) }
+    ensures { option_map (λ s. s.now) result
+        ≡ option_and_then as_str (get key.now (view value.now)) }
 {
     value.get(key).and_then(Value::as_str)
 }
@@ -172,7 +174,8 @@ fn read_files(alloc: Global, values: &Vec<Value>) -> Result<Option<Entry>, NoMem
 
 #[tactic(auto, unfolding(crate::specs::RecordText::record_data))]
 fn read_record(alloc: Global, value: &Value) -> Result<Option<Record>, NoMemory>
-    ensures { IfOk result (λ found. (r : RecordOf) → IsEntry r.entry → view value.now ≡ record_data r
+    ensures { IfOk result (λ found. (r : RecordOf)
+        → IsEntry r.entry → view value.now ≡ record_data r
         → IsSomeAnd found (λ s. s ≡ r)) }
 {
     let Some(state) = read_state(value) else {
@@ -202,7 +205,8 @@ fn read_value(alloc: Global, line: &[u8]) -> Result<Option<Value>, NoMemory>
 
 // The record of this shape, if there is one: what is read of a record's text is that record.
 fn read_shape(alloc: Global, line: &[u8]) -> Result<Option<Record>, NoMemory>
-    ensures { IfOk result (λ found. (r : RecordOf) → IsRecord r → line.now ≡ compact_text (record_data r)
+    ensures { IfOk result (λ found. (r : RecordOf)
+        → IsRecord r → line.now ≡ compact_text (record_data r)
         → IsSomeAnd found (λ s. s ≡ r)) }
 {
     let Some(value) = read_value(alloc, line)? else {

@@ -52,7 +52,8 @@ fn change_value(alloc: Global, change: &Change) -> Result<Value, NoMemory>
 }
 
 fn change_values(alloc: Global, changes: &[Change]) -> Result<Vec<Value>, NoMemory>
-    ensures values { IfOk result (λ v. map view v.items ≡ map change_data (map change_of changes.now)) }
+    ensures values { IfOk result (λ v. map view v.items
+        ≡ map change_data (map change_of changes.now)) }
     ensures texts { OnOk result (AreTextual (map change_of changes.now)) }
 {
     let mut values = Vec::with_capacity(alloc, changes.len())?;
@@ -73,7 +74,8 @@ fn state_text(state: State) -> &'static str
 
 #[tactic(auto, unfolding(crate::specs::RecordText::record_data))]
 fn record_value(alloc: Global, state: State, entry: &Entry) -> Result<Value, NoMemory>
-    ensures value { IfOk result (λ v. view v ≡ record_data (record { state = state; entry = entry.now })) }
+    ensures value { IfOk result (λ v. view v
+        ≡ record_data (record { state = state; entry = entry.now })) }
     ensures is { OnOk result (IsRecord (record { state = state; entry = entry.now })) }
 {
     let files = Value::Array(change_values(alloc, entry.changes())?);
@@ -82,7 +84,8 @@ fn record_value(alloc: Global, state: State, entry: &Entry) -> Result<Value, NoM
 
 /// The text of the record of an entry in this state, with its line feed.
 pub fn line_of(alloc: Global, state: State, entry: &Entry) -> Result<String, NoMemory>
-    ensures text { IfOk result (λ s. string_bytes s ≡ record_text (record { state = state; entry = entry.now })) }
+    ensures text { IfOk result (λ s. string_bytes s
+        ≡ record_text (record { state = state; entry = entry.now })) }
     ensures is { OnOk result (IsRecord (record { state = state; entry = entry.now })) }
 {
     let mut text = record_value(alloc, state, entry)?.to_string(alloc)?;

@@ -55,7 +55,8 @@ impl<'a, R: Files + AllocGlobal> FolderStore<'a, R> {
     /// file not be removed; those that are left then can be removed later.
     pub fn clear_leftovers(&mut self) -> Result<(), StoreFault>
         requires { self.old.failures < 2 ^ 64 - 1 }
-        ensures same { ⟦<FolderStore<'a, R> as Store>⟧.holds self.new ≡ ⟦<FolderStore<'a, R> as Store>⟧.holds self.old }
+        ensures same { ⟦<FolderStore<'a, R> as Store>⟧.holds self.new
+            ≡ ⟦<FolderStore<'a, R> as Store>⟧.holds self.old }
         ensures nowhere { self.old.root.now ≡ [] → IsErr result }
         ensures root { self.new.root.now ≡ self.old.root.now }
         ensures count { Counts self.old.failures self.new.failures result }
@@ -312,7 +313,8 @@ impl<R: Files + AllocGlobal> Store for FolderStore<'_, R> {
     fn replace(&mut self, path: &str, bytes: &[u8]) -> Result<(), StoreFault>
         requires { self.old.failures < 2 ^ 64 - 1 }
         ensures ok { OnOk result (unknown ≡ option_map (with_file path.now bytes.now) unknown) }
-        ensures err { OnErr result ((unknown ≡ unknown) ⊎ (unknown ≡ option_map (with_file path.now bytes.now) unknown)) }
+        ensures err { OnErr result ((unknown ≡ unknown) ⊎
+            (unknown ≡ option_map (with_file path.now bytes.now) unknown)) }
         ensures nowhere { self.old.root.now ≡ [] → IsErr result }
         ensures root { self.new.root.now ≡ self.old.root.now }
         ensures count { Counts self.old.failures self.new.failures result }
@@ -341,7 +343,8 @@ impl<R: Files + AllocGlobal> Store for FolderStore<'_, R> {
     fn replace_journal(&mut self, bytes: &[u8]) -> Result<(), StoreFault>
         requires { self.old.failures < 2 ^ 64 - 1 }
         ensures ok { OnOk result (unknown ≡ option_map (with_journal bytes.now) unknown) }
-        ensures err { OnErr result ((unknown ≡ unknown) ⊎ (unknown ≡ option_map (with_journal bytes.now) unknown)) }
+        ensures err { OnErr result ((unknown ≡ unknown) ⊎
+            (unknown ≡ option_map (with_journal bytes.now) unknown)) }
         ensures nowhere { self.old.root.now ≡ [] → IsErr result }
         ensures root { self.new.root.now ≡ self.old.root.now }
         ensures count { Counts self.old.failures self.new.failures result }

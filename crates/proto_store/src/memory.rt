@@ -55,8 +55,10 @@ impl MemoryStore {
         files: Vec<(String, Vec<u8>)>,
         journal: Vec<u8>,
     ) -> Result<MemoryStore, NoMemory>
-        ensures files { IfOk result (λ s. KeepsLatest (⟦<MemoryStore as Store>⟧.holds s) (files_of files.items)) }
-        ensures journal { IfOk result (λ s. HoldsJournal (⟦<MemoryStore as Store>⟧.holds s) journal.items) }
+        ensures files { IfOk result (λ s. KeepsLatest
+            (⟦<MemoryStore as Store>⟧.holds s) (files_of files.items)) }
+        ensures journal { IfOk result (λ s. HoldsJournal
+            (⟦<MemoryStore as Store>⟧.holds s) journal.items) }
         ensures failures { IfOk result (λ s. ⟦<MemoryStore as Store>⟧.failure_count s ≡ 0) }
         ensures planned { IfOk result (λ s. s.planned ≡ None) }
     {
@@ -77,7 +79,8 @@ impl MemoryStore {
     /// bytes where it `lands` and memory is there for them, and else the old ones.
     pub fn fail_at(&mut self, call: u64, lands: bool)
         requires { 0 < call }
-        ensures { self.new ≡ record self.old { planned = Some (record { calls = call; lands = lands }) } }
+        ensures { self.new
+            ≡ record self.old { planned = Some (record { calls = call; lands = lands }) } }
     {
         self.planned = Some(PlannedFailure { calls: call, lands });
     }
@@ -113,14 +116,16 @@ impl MemoryStore {
     }
 
     fn paths(&self) -> Result<Vec<String>, NoMemory>
-        ensures { IfOk result (λ paths. ListsPaths (Some self.now.held) (map string_bytes paths.items)) }
+        ensures { IfOk result (λ paths. ListsPaths
+            (Some self.now.held) (map string_bytes paths.items)) }
     {
         paths_in(self.alloc, &self.files)
     }
 
     // A copy of the bytes at a path, where memory is left.
     fn bytes(&self, path: &str) -> Option<Vec<u8>>
-        ensures { IfSome result (λ bytes. bytes_at path.now self.now.held.files ≡ Some bytes.items) }
+        ensures { IfSome result (λ bytes. bytes_at path.now self.now.held.files
+            ≡ Some bytes.items) }
     {
         let bytes = self.files.get(path)?;
         match bytes.clone() {
@@ -130,7 +135,8 @@ impl MemoryStore {
     }
 
     fn put_file(&mut self, path: &str, bytes: Vec<u8>)
-        ensures { self.new ≡ record self.old { held = with_file path.now bytes.items self.old.held } }
+        ensures { self.new
+            ≡ record self.old { held = with_file path.now bytes.items self.old.held } }
     {
         put_bytes(&mut self.files, path, bytes);
     }
@@ -143,7 +149,8 @@ impl MemoryStore {
 }
 
 fn paths_in(alloc: Global, files: &BTreeMap<String, Vec<u8>>) -> Result<Vec<String>, NoMemory>
-    ensures { IfOk result (λ paths. AreInPathOrder (files_in files.now) × IsPermutation (map string_bytes paths.items) (paths_of (files_in files.now))) }
+    ensures { IfOk result (λ paths. AreInPathOrder (files_in files.now)
+        × IsPermutation (map string_bytes paths.items) (paths_of (files_in files.now))) }
 {
     let mut paths = Vec::with_capacity(alloc, files.len())?;
     for path in files.keys() {
@@ -169,7 +176,8 @@ impl Store for MemoryStore {
     /// The paths of all files, in their order. The call that is to fail fails; any other only where memory runs out.
     fn list(&mut self) -> Result<Vec<String>, StoreFault>
         requires { self.old.failures < 2 ^ 64 - 1 }
-        ensures paths { IfOk result (λ paths. ListsPaths (Some self.old.held) (map string_bytes paths.items)) }
+        ensures paths { IfOk result (λ paths. ListsPaths
+            (Some self.old.held) (map string_bytes paths.items)) }
         ensures same { self.new.held ≡ self.old.held }
         ensures count { Counts self.old.failures self.new.failures result }
         ensures state { self.new ≡ after_call self.old.held self.old result }
@@ -185,7 +193,8 @@ impl Store for MemoryStore {
     fn read(&mut self, path: &str) -> Result<Vec<u8>, StoreFault>
         requires room { self.old.failures < 2 ^ 64 - 1 }
         requires listed { IsListed (Some self.old.held) path.now }
-        ensures bytes { IfOk result (λ bytes. HoldsBytes (Some self.old.held) path.now bytes.items) }
+        ensures bytes { IfOk result (λ bytes. HoldsBytes
+            (Some self.old.held) path.now bytes.items) }
         ensures same { self.new.held ≡ self.old.held }
         ensures count { Counts self.old.failures self.new.failures result }
         ensures state { self.new ≡ after_call self.old.held self.old result }
@@ -203,9 +212,11 @@ impl Store for MemoryStore {
         requires room { self.old.failures < 2 ^ 64 - 1 }
         requires listed { IsListed (Some self.old.held) path.now }
         ensures ok { OnOk result (self.new.held ≡ with_file path.now bytes.now self.old.held) }
-        ensures err { OnErr result ((self.new.held ≡ self.old.held) ⊎ (self.new.held ≡ with_file path.now bytes.now self.old.held)) }
+        ensures err { OnErr result ((self.new.held ≡ self.old.held) ⊎
+            (self.new.held ≡ with_file path.now bytes.now self.old.held)) }
         ensures count { Counts self.old.failures self.new.failures result }
-        ensures state { Replaces (with_file path.now bytes.now self.old.held) self.old self.new result }
+        ensures state { Replaces
+            (with_file path.now bytes.now self.old.held) self.old self.new result }
         ensures fails { IsDue self.old.planned → IsErr result }
     {
         match (self.begin_call(), bytes.to_vec(self.alloc)) {
@@ -241,7 +252,8 @@ impl Store for MemoryStore {
     fn replace_journal(&mut self, bytes: &[u8]) -> Result<(), StoreFault>
         requires { self.old.failures < 2 ^ 64 - 1 }
         ensures ok { OnOk result (self.new.held ≡ with_journal bytes.now self.old.held) }
-        ensures err { OnErr result ((self.new.held ≡ self.old.held) ⊎ (self.new.held ≡ with_journal bytes.now self.old.held)) }
+        ensures err { OnErr result ((self.new.held ≡ self.old.held) ⊎
+            (self.new.held ≡ with_journal bytes.now self.old.held)) }
         ensures count { Counts self.old.failures self.new.failures result }
         ensures state { Replaces (with_journal bytes.now self.old.held) self.old self.new result }
         ensures fails { IsDue self.old.planned → IsErr result }

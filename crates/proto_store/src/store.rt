@@ -44,7 +44,8 @@ pub trait Store {
     /// The paths of all files, each once, in any order.
     fn list(&mut self) -> Result<Vec<String>, StoreFault>
         requires { failure_count self.old < 2 ^ 64 - 1 }
-        ensures paths { IfOk result (λ paths. ListsPaths (holds self.old) (map string_bytes paths.items)) }
+        ensures paths { IfOk result (λ paths. ListsPaths
+            (holds self.old) (map string_bytes paths.items)) }
         ensures same { holds self.new ≡ holds self.old }
         ensures count { Counts (failure_count self.old) (failure_count self.new) result };
 
@@ -61,7 +62,8 @@ pub trait Store {
     fn replace(&mut self, path: &str, bytes: &[u8]) -> Result<(), StoreFault>
         requires room { failure_count self.old < 2 ^ 64 - 1 }
         requires listed { IsListed (holds self.old) path.now }
-        ensures ok { OnOk result (holds self.new ≡ option_map (with_file path.now bytes.now) (holds self.old)) }
+        ensures ok { OnOk result (holds self.new
+            ≡ option_map (with_file path.now bytes.now) (holds self.old)) }
         ensures err { OnErr result ((holds self.new ≡ holds self.old)
             ⊎ (holds self.new ≡ option_map (with_file path.now bytes.now) (holds self.old))) }
         ensures count { Counts (failure_count self.old) (failure_count self.new) result };
@@ -77,7 +79,8 @@ pub trait Store {
     /// bytes or the new ones.
     fn replace_journal(&mut self, bytes: &[u8]) -> Result<(), StoreFault>
         requires { failure_count self.old < 2 ^ 64 - 1 }
-        ensures ok { OnOk result (holds self.new ≡ option_map (with_journal bytes.now) (holds self.old)) }
+        ensures ok { OnOk result (holds self.new
+            ≡ option_map (with_journal bytes.now) (holds self.old)) }
         ensures err { OnErr result ((holds self.new ≡ holds self.old)
             ⊎ (holds self.new ≡ option_map (with_journal bytes.now) (holds self.old))) }
         ensures count { Counts (failure_count self.old) (failure_count self.new) result };
