@@ -1,60 +1,119 @@
 //! Entries that are made by hand.
 
 use super::calls::*;
-use super::rows::{DONE, ONE};
+use super::rows::{DONE, ONE, Step, Texts};
 use proto_edit::*;
+use proto_faults::NoMemory;
 use proto_text::{Splice, Splices};
 use std::alloc::Global;
+use std::process::Abort;
 use std::test::Fail;
 
-// The change of one file, by its path, its lengths before and after, and one splice.
-fn change(
-    alloc: Global,
-    path: &str,
-    (before, after): (u32, u32),
-    (at, old, new): (u32, &str, &str),
-) -> Result<Change, Fail> {
-    let mut splices = Vec::new(alloc);
+fn splice(alloc: Global, at: u32, old: &str, new: &str) -> Result<Splice, NoMemory> {
     let old = String::from_str(alloc, old)?;
     let new = String::from_str(alloc, new)?;
-    splices.push(Splice { at, old, new })?;
-    Ok(Change {
-        path: String::from_str(alloc, path)?,
+    Ok(Splice { at, old, new })
+}
+
+// One splice.
+fn splices<R: AllocGlobal + Abort>(
+    rt: &R,
+    (at, old, new): (u32, &str, &str),
+) -> Result<Splices, NoMemory> {
+    let mut splices = Vec::new(rt.alloc());
+    splices.push(splice(rt.alloc(), at, old, new)?)?;
+    match Splices::new(splices) {
+        Ok(splices) => Ok(splices),
+        Err(fault) => panic!(rt; "{}", fault.name()),
+    }
+}
+
+// Adds the change of one file, by its path, its lengths before and after, and one splice.
+fn add_change<R: AllocGlobal + Abort>(
+    rt: &R,
+    changes: &mut Vec<Change>,
+    path: &str,
+    (before, after): (u32, u32),
+    of: (u32, &str, &str),
+) -> Result<(), NoMemory> {
+    let splices = splices(rt, of)?;
+    let path = String::from_str(rt.alloc(), path)?;
+    changes.push(Change {
+        path,
         before,
         after,
-        splices: Splices::new(splices)?,
-    })
+        splices,
+    })?;
+    Ok(())
+}
+
+/// The path, the lengths before and after, the splice, and whether they are an entry.
+type Made = (
+    &'static str,
+    (u32, u32),
+    (u32, &'static str, &'static str),
+    bool,
+);
+
+const MADE: &[Made] = &[
+    ("a.proto", (48, 48), (38, "b_c", "d_e"), true),
+    ("a.proto", (48, 46), (38, "d_e", "f"), true),
+    ("a.proto", (41, 41), (38, "b_c", "d_e"), true),
+    ("a.proto", (40, 40), (38, "b_c", "d_e"), false),
+    ("a.proto", (48, 49), (38, "b_c", "d_e"), false),
+    ("a.proto", (48, 48), (38, "b_c", "b_c"), false),
+    ("a.txt", (48, 48), (38, "b_c", "d_e"), false),
+];
+
+fn expect_made<R: AllocGlobal + Abort>(
+    rt: &R,
+    (path, lengths, splice, is_entry): Made,
+) -> Result<(), NoMemory> {
+    let mut changes = Vec::new(rt.alloc());
+    add_change(rt, &mut changes, path, lengths, splice)?;
+    assert!(rt; Entry::new(changes).is_some() == is_entry, "{path}");
+    Ok(())
 }
 
 #[test]
 fn have_rules(rt: HostRuntime) -> Result<(), Fail> {
-    let alloc = rt.alloc();
-    assert!(rt; Entry::new(Vec::new(alloc)).is_none());
-    for (path, lengths, splice, is_entry) in [
-        ("a.proto", (48, 48), (38, "b_c", "d_e"), true),
-        ("a.proto", (48, 46), (38, "d_e", "f"), true),
-        ("a.proto", (41, 41), (38, "b_c", "d_e"), true),
-        ("a.proto", (40, 40), (38, "b_c", "d_e"), false),
-        ("a.proto", (48, 49), (38, "b_c", "d_e"), false),
-        ("a.proto", (48, 48), (38, "b_c", "b_c"), false),
-        ("a.txt", (48, 48), (38, "b_c", "d_e"), false),
-    ] {
-        let mut changes = Vec::new(alloc);
-        changes.push(change(alloc, path, lengths, splice)?)?;
-        assert!(rt; Entry::new(changes).is_some() == is_entry, "{path}");
+    assert!(rt; Entry::new(Vec::new(rt.alloc())).is_none());
+    for &made in MADE {
+        expect_made(&rt, made)?;
     }
+    Ok(())
+}
+
+// ---- a workspace beside its edit
+
+fn edited(alloc: Global, workspace: &Workspace, step: Step) -> Result<(Workspace, Entry), Refusal> {
+    let edit = edit_of(alloc, step)?;
+    workspace.with_edit(alloc, &edit)
+}
+
+fn without(alloc: Global, workspace: &Workspace, entry: &Entry) -> Result<Workspace, Refusal> {
+    workspace.without_entry(alloc, entry)
+}
+
+// The entry leads from the edited workspace back to the first one, which it does not fit.
+fn expect_without<R: AllocGlobal + Abort>(
+    rt: &R,
+    workspace: &Workspace,
+    edited: &Workspace,
+    entry: &Entry,
+) -> Result<(), NoMemory> {
+    let again = made(rt, without(rt.alloc(), edited, entry))?;
+    assert!(rt; are_texts(edited, DONE) && are_texts(&again, ONE));
+    assert!(rt; said(without(rt.alloc(), workspace, entry)) == (17, "Stale"));
     Ok(())
 }
 
 #[test]
 fn leave_a_workspace_beside_its_edit(rt: HostRuntime) -> Result<(), Fail> {
-    let alloc = rt.alloc();
-    let workspace = opened(alloc, ONE)?;
-    let (edited, entry) = workspace.with_edit(alloc, &rename(alloc, "A.b_c", "d_e")?)?;
+    let workspace = opened(&rt, ONE)?;
+    let (edited, entry) = made(&rt, edited(rt.alloc(), &workspace, ("A.b_c", "d_e", "")))?;
     assert!(rt; are_texts(&workspace, ONE) && are_texts(&edited, DONE));
-    let again = edited.without_entry(alloc, &entry)?;
-    assert!(rt; are_texts(&edited, DONE) && are_texts(&again, ONE));
-    assert!(rt; said(workspace.without_entry(alloc, &entry)) == (17, "Stale"));
+    expect_without(&rt, &workspace, &edited, &entry)?;
     Ok(())
 }
 
@@ -95,24 +154,41 @@ const BACK: &[Back] = &[
     (&[N, USES_N, HAS_M], 2, (17, "Stale"), &[N, USES_N, HAS_M]),
 ];
 
-fn entry_of(alloc: Global, files: usize) -> Result<Option<Entry>, Fail> {
-    let mut changes = Vec::new(alloc);
-    changes.push(change(alloc, "a.proto", (31, 31), (27, "M", "N"))?)?;
+fn entry_of<R: AllocGlobal + Abort>(rt: &R, files: usize) -> Result<Option<Entry>, NoMemory> {
+    let mut changes = Vec::new(rt.alloc());
+    add_change(rt, &mut changes, "a.proto", (31, 31), (27, "M", "N"))?;
     if files > 1 {
-        changes.push(change(alloc, "b.proto", (59, 59), (49, "M", "N"))?)?;
+        add_change(rt, &mut changes, "b.proto", (59, 59), (49, "M", "N"))?;
     }
     Ok(Entry::new(changes))
 }
 
+// What the undoing of the entry is answered.
+fn undoing<R: AllocGlobal + Abort>(
+    rt: &R,
+    workspace: &mut Workspace,
+    files: usize,
+) -> Result<(u32, &'static str), NoMemory> {
+    match entry_of(rt, files)? {
+        Some(entry) => Ok(said(undo(rt.alloc(), workspace, &entry))),
+        None => panic!(rt; "no entry"),
+    }
+}
+
+fn expect_back<R: AllocGlobal + Abort>(
+    rt: &R,
+    (files, count, answer, after): Back,
+) -> Result<(), NoMemory> {
+    let mut workspace = opened(rt, files)?;
+    assert!(rt; undoing(rt, &mut workspace, count)? == answer);
+    assert!(rt; are_texts(&workspace, after));
+    Ok(())
+}
+
 #[test]
 fn are_undone_in_any_files(rt: HostRuntime) -> Result<(), Fail> {
-    let alloc = rt.alloc();
-    for &(files, count, answer, after) in BACK {
-        let mut workspace = opened(alloc, files)?;
-        if let Some(entry) = entry_of(alloc, count)? {
-            assert!(rt; said(undo(alloc, &mut workspace, &entry)) == answer);
-        }
-        assert!(rt; are_texts(&workspace, after));
+    for &back in BACK {
+        expect_back(&rt, back)?;
     }
     Ok(())
 }

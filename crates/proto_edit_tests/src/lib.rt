@@ -6,6 +6,8 @@ mod allocations;
 #[cfg(test)]
 mod calls;
 #[cfg(test)]
+mod edited;
+#[cfg(test)]
 mod entries;
 #[cfg(test)]
 mod opening;

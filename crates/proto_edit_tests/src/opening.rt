@@ -1,31 +1,49 @@
 //! What `Workspace::open` answers: descriptors, or the least fault.
 
 use super::calls::*;
-use proto_faults::SchemaFault;
+use super::rows::Texts;
+use proto_faults::{Fault, NoMemory, SchemaFault};
 use std::alloc::Global;
+use std::process::Abort;
 use std::test::Fail;
 
-// The descriptors of files, or their fault as `path:offset: number name`.
-fn answer(alloc: Global, texts: &[(&str, &str)]) -> Result<String, Fail> {
-    match opened(alloc, texts) {
-        Ok(workspace) => Ok(json_of(alloc, &workspace)?),
-        Err(SchemaFault::Schema(fault)) => {
-            let (offset, number, name) = (fault.offset, fault.number(), fault.name());
-            let path = fault.path.as_str();
-            Ok(format!(in alloc; "{path}:{offset}: {number} {name}")?)
-        }
-        Err(SchemaFault::NoMemory) => Ok(String::from_str(alloc, "no memory")?),
+// A fault as `path:offset: number name`.
+fn told_of_fault(alloc: Global, fault: &Fault) -> Result<String, NoMemory> {
+    let (offset, number, name) = (fault.offset, fault.number(), fault.name());
+    let path = fault.path.as_str();
+    Ok(format!(in alloc; "{path}:{offset}: {number} {name}")?)
+}
+
+// The descriptors of files, or their fault.
+fn answer(alloc: Global, texts: &[(&str, &str)]) -> Result<String, NoMemory> {
+    match open(alloc, texts) {
+        Ok(workspace) => json_of(alloc, &workspace),
+        Err(SchemaFault::Schema(fault)) => told_of_fault(alloc, &fault),
+        Err(SchemaFault::NoMemory) => Err(NoMemory),
     }
 }
 
-const PACKAGES: Texts = &[
-    ("c.proto", "syntax = \"proto3\"; package a.b;"),
-    (
-        "a.proto",
-        "syntax = \"proto3\"; package a; import \"b.proto\"; message A { b.X f = 1; }",
-    ),
-    ("b.proto", "syntax = \"proto3\"; package b; message X {}"),
-];
+fn expect_answer<R: AllocGlobal + Abort>(
+    rt: &R,
+    texts: &[(&str, &str)],
+    wanted: &str,
+) -> Result<(), NoMemory> {
+    assert_eq!(rt; answer(rt.alloc(), texts)?.as_str(), wanted);
+    Ok(())
+}
+
+const A: (&str, &str) = (
+    "a.proto",
+    "syntax = \"proto3\"; package a; import \"b.proto\"; message A { b.X f = 1; }",
+);
+
+const B: (&str, &str) = ("b.proto", "syntax = \"proto3\"; package b; message X {}");
+
+const C: (&str, &str) = ("c.proto", "syntax = \"proto3\"; package a.b;");
+
+const PACKAGES: Texts = &[C, A, B];
+
+const SORTED: Texts = &[A, B, C];
 
 const ANSWERS: &[(Texts, &str)] = &[
     (&[], "{}"),
@@ -48,11 +66,15 @@ const ANSWERS: &[(Texts, &str)] = &[
 
 #[test]
 fn tells_descriptors_or_the_least_fault(rt: HostRuntime) -> Result<(), Fail> {
-    let alloc = rt.alloc();
     for &(files, wanted) in ANSWERS {
-        assert_eq!(rt; answer(alloc, files)?.as_str(), wanted);
+        expect_answer(&rt, files, wanted)?;
     }
-    let workspace = opened(alloc, PACKAGES)?;
-    assert!(rt; are_texts(&workspace, &[PACKAGES[1], PACKAGES[2], PACKAGES[0]]));
+    Ok(())
+}
+
+#[test]
+fn sorts_the_files_by_their_paths(rt: HostRuntime) -> Result<(), Fail> {
+    let workspace = opened(&rt, PACKAGES)?;
+    assert!(rt; are_texts(&workspace, SORTED));
     Ok(())
 }

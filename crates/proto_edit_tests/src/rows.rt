@@ -1,6 +1,7 @@
 //! Renames with their answers by the rules of docs/edits.md. Places are counted in the texts.
 
-use super::calls::Texts;
+/// Files: paths and texts.
+pub(crate) type Texts = &'static [(&'static str, &'static str)];
 
 pub(crate) struct Row {
     pub(crate) files: Texts,
@@ -15,15 +16,34 @@ pub(crate) struct Row {
 /// its splices by place, old and new text.
 pub(crate) type Step = (&'static str, &'static str, &'static str);
 
-pub(crate) const ONE: Texts = &[(
+/// The text of `ONE`.
+pub(crate) const TEXT: &str = "syntax = \"proto3\"; message A { string b_c = 1; }";
+
+pub(crate) const ONE: Texts = &[("a.proto", TEXT)];
+
+pub(crate) const LAST: Texts = &[(
     "a.proto",
-    "syntax = \"proto3\"; message A { string b_c = 1; }",
+    "syntax = \"proto3\"; message A { string f = 1; }",
 )];
 
 pub(crate) const DONE: Texts = &[(
     "a.proto",
     "syntax = \"proto3\"; message A { string d_e = 1; }",
 )];
+
+/// A value that is a default.
+pub(crate) const VALUE: Row = Row {
+    files: &[(
+        "a.proto",
+        "message M { enum E { V = 0; } optional E e = 1 [default = V]; } message N { enum F { V = 0; } optional F f = 1 [default = V]; }",
+    )],
+    steps: &[("M.V", "W", "a.proto 127 127 (21 V W) (58 V W);")],
+    after: &[(
+        "a.proto",
+        "message M { enum E { W = 0; } optional E e = 1 [default = W]; } message N { enum F { V = 0; } optional F f = 1 [default = V]; }",
+    )],
+    json: "[{\"enumType\":[{\"name\":\"E\",\"value\":[{\"name\":\"W\",\"number\":0}]}],\"field\":[{\"defaultValue\":\"W\",\"jsonName\":\"e\",\"label\":\"LABEL_OPTIONAL\",\"name\":\"e\",\"number\":1,\"type\":\"TYPE_ENUM\",\"typeName\":\".M.E\"}],\"name\":\"M\"},{\"enumType\":[{\"name\":\"F\",\"value\":[{\"name\":\"V\",\"number\":0}]}],\"field\":[{\"defaultValue\":\"V\",",
+};
 
 /// Fields, values with their defaults, methods and services.
 pub(crate) const MEMBERS: &[Row] = &[
@@ -57,18 +77,7 @@ pub(crate) const MEMBERS: &[Row] = &[
         )],
         json: "{\"jsonName\":\"fooBar\",\"label\":\"LABEL_OPTIONAL\",\"name\":\"foo_bar\",\"number\":2,\"type\":\"TYPE_STRING\"}",
     },
-    Row {
-        files: &[(
-            "a.proto",
-            "message M { enum E { V = 0; } optional E e = 1 [default = V]; } message N { enum F { V = 0; } optional F f = 1 [default = V]; }",
-        )],
-        steps: &[("M.V", "W", "a.proto 127 127 (21 V W) (58 V W);")],
-        after: &[(
-            "a.proto",
-            "message M { enum E { W = 0; } optional E e = 1 [default = W]; } message N { enum F { V = 0; } optional F f = 1 [default = V]; }",
-        )],
-        json: "[{\"enumType\":[{\"name\":\"E\",\"value\":[{\"name\":\"W\",\"number\":0}]}],\"field\":[{\"defaultValue\":\"W\",\"jsonName\":\"e\",\"label\":\"LABEL_OPTIONAL\",\"name\":\"e\",\"number\":1,\"type\":\"TYPE_ENUM\",\"typeName\":\".M.E\"}],\"name\":\"M\"},{\"enumType\":[{\"name\":\"F\",\"value\":[{\"name\":\"V\",\"number\":0}]}],\"field\":[{\"defaultValue\":\"V\",",
-    },
+    VALUE,
     Row {
         files: &[(
             "a.proto",
@@ -82,6 +91,38 @@ pub(crate) const MEMBERS: &[Row] = &[
         json: "\"service\":[{\"method\":[{\"inputType\":\".M\",\"name\":\"M\",\"outputType\":\".M\"}],\"name\":\"S\"}]",
     },
 ];
+
+/// A message that two other files use.
+pub(crate) const WIDE: Row = Row {
+    files: &[
+        ("a.proto", "syntax = \"proto3\"; message M {}"),
+        (
+            "b.proto",
+            "syntax = \"proto3\"; import \"a.proto\"; message B { M m = 1; }",
+        ),
+        (
+            "c.proto",
+            "syntax = \"proto3\"; import \"a.proto\"; message C { M m = 1; }",
+        ),
+    ],
+    steps: &[(
+        "M",
+        "N",
+        "a.proto 31 31 (27 M N);b.proto 59 59 (49 M N);c.proto 59 59 (49 M N);",
+    )],
+    after: &[
+        ("a.proto", "syntax = \"proto3\"; message N {}"),
+        (
+            "b.proto",
+            "syntax = \"proto3\"; import \"a.proto\"; message B { N m = 1; }",
+        ),
+        (
+            "c.proto",
+            "syntax = \"proto3\"; import \"a.proto\"; message C { N m = 1; }",
+        ),
+    ],
+    json: "\"typeName\":\".N\"}],\"name\":\"C\"",
+};
 
 /// Messages and enums, with the words that stand for them.
 pub(crate) const TYPES: &[Row] = &[
@@ -121,36 +162,7 @@ pub(crate) const TYPES: &[Row] = &[
         )],
         json: "\"typeName\":\".p.A.X.C\"}],\"name\":\"A\",\"nestedType\":[{\"name\":\"X\",\"nestedType\":[{\"name\":\"C\"}]}]",
     },
-    Row {
-        files: &[
-            ("a.proto", "syntax = \"proto3\"; message M {}"),
-            (
-                "b.proto",
-                "syntax = \"proto3\"; import \"a.proto\"; message B { M m = 1; }",
-            ),
-            (
-                "c.proto",
-                "syntax = \"proto3\"; import \"a.proto\"; message C { M m = 1; }",
-            ),
-        ],
-        steps: &[(
-            "M",
-            "N",
-            "a.proto 31 31 (27 M N);b.proto 59 59 (49 M N);c.proto 59 59 (49 M N);",
-        )],
-        after: &[
-            ("a.proto", "syntax = \"proto3\"; message N {}"),
-            (
-                "b.proto",
-                "syntax = \"proto3\"; import \"a.proto\"; message B { N m = 1; }",
-            ),
-            (
-                "c.proto",
-                "syntax = \"proto3\"; import \"a.proto\"; message C { N m = 1; }",
-            ),
-        ],
-        json: "\"typeName\":\".N\"}],\"name\":\"C\"",
-    },
+    WIDE,
     Row {
         files: &[
             ("a.proto", "package p; enum E { V = 0; }"),
@@ -177,20 +189,23 @@ pub(crate) const TYPES: &[Row] = &[
     },
 ];
 
+/// A map field, whose entry is renamed with it.
+pub(crate) const FIRST_MAP: Row = Row {
+    files: &[(
+        "a.proto",
+        "syntax = \"proto3\"; message M { map<string,int32> foo = 1; }",
+    )],
+    steps: &[("M.foo", "FooEntry", "a.proto 59 64 (49 foo FooEntry);")],
+    after: &[(
+        "a.proto",
+        "syntax = \"proto3\"; message M { map<string,int32> FooEntry = 1; }",
+    )],
+    json: "{\"field\":[{\"jsonName\":\"FooEntry\",\"label\":\"LABEL_REPEATED\",\"name\":\"FooEntry\",\"number\":1,\"type\":\"TYPE_MESSAGE\",\"typeName\":\".M.FooEntryEntry\"}],\"name\":\"M\",\"nestedType\":[{\"field\":[{\"jsonName\":\"key\",\"label\":\"LABEL_OPTIONAL\",\"name\":\"key\",\"number\":1,\"type\":\"TYPE_STRING\"},{\"jsonName\":\"value\",\"label\":\"LABEL_OPTIONAL\",\"name\":\"value\",\"number\":2,\"type\":\"TYPE_INT32\"}],\"name\":\"FooEntryEntry\",\"options\":{\"mapEntry\":true}}]}",
+};
+
 /// Map fields, whose entries are renamed with them.
 pub(crate) const MAPS: &[Row] = &[
-    Row {
-        files: &[(
-            "a.proto",
-            "syntax = \"proto3\"; message M { map<string,int32> foo = 1; }",
-        )],
-        steps: &[("M.foo", "FooEntry", "a.proto 59 64 (49 foo FooEntry);")],
-        after: &[(
-            "a.proto",
-            "syntax = \"proto3\"; message M { map<string,int32> FooEntry = 1; }",
-        )],
-        json: "{\"field\":[{\"jsonName\":\"FooEntry\",\"label\":\"LABEL_REPEATED\",\"name\":\"FooEntry\",\"number\":1,\"type\":\"TYPE_MESSAGE\",\"typeName\":\".M.FooEntryEntry\"}],\"name\":\"M\",\"nestedType\":[{\"field\":[{\"jsonName\":\"key\",\"label\":\"LABEL_OPTIONAL\",\"name\":\"key\",\"number\":1,\"type\":\"TYPE_STRING\"},{\"jsonName\":\"value\",\"label\":\"LABEL_OPTIONAL\",\"name\":\"value\",\"number\":2,\"type\":\"TYPE_INT32\"}],\"name\":\"FooEntryEntry\",\"options\":{\"mapEntry\":true}}]}",
-    },
+    FIRST_MAP,
     Row {
         files: &[("a.proto", "message M { map<int32,int32> FooEntry = 1; }")],
         steps: &[("M.FooEntry", "foo", "a.proto 44 39 (29 FooEntry foo);")],
@@ -334,10 +349,7 @@ pub(crate) const RUNS: &[Row] = &[
             ("A.b_c", "x", "1 UnknownTarget"),
             ("A.d_e", "f", "a.proto 48 46 (38 d_e f);"),
         ],
-        after: &[(
-            "a.proto",
-            "syntax = \"proto3\"; message A { string f = 1; }",
-        )],
+        after: LAST,
         json: "\"jsonName\":\"f\"",
     },
     Row {
