@@ -101,6 +101,29 @@ pub(crate) const MEMBERS: &[Deletion] = &[
     ],
 ];
 
+/// A field of a oneof, and the last one, which stays.
+pub(crate) const ONEOF: &[Row] = &[Row {
+    files: &[(
+        "a.proto",
+        "syntax = \"proto3\"; message M { oneof o { string a = 1; int32 b = 2; } }",
+    )],
+    steps: &[
+        ("delete", "M.o", "", "2 KindNotAllowed"),
+        (
+            "delete",
+            "M.a",
+            "",
+            "a.proto 71 84 (41 string a = 1; int32 b = 2; }  int32 b = 2; } reserved 1; reserved \"a\";);",
+        ),
+        ("delete", "M.b", "", "10 LastOfOneof"),
+    ],
+    after: &[(
+        "a.proto",
+        "syntax = \"proto3\"; message M { oneof o {  int32 b = 2; } reserved 1; reserved \"a\"; }",
+    )],
+    json: "\"oneofDecl\":[{\"name\":\"o\"}],\"reservedName\":[\"a\"],\"reservedRange\":[{\"end\":2,\"start\":1}]",
+}];
+
 /// Deletions one after another, and what refuses them.
 pub(crate) const DELETIONS: &[Row] = &[
     Row {
@@ -164,27 +187,6 @@ pub(crate) const DELETIONS: &[Row] = &[
             "message M { reserved 5; reserved 1; reserved \"a\"; reserved 2; reserved \"b\"; reserved 7, 8; optional int32 c = 3; }",
         )],
         json: "\"reservedName\":[\"a\",\"b\"],\"reservedRange\":[{\"end\":6,\"start\":5},{\"end\":2,\"start\":1},{\"end\":3,\"start\":2},{\"end\":8,\"start\":7},{\"end\":9,\"start\":8}]",
-    },
-    Row {
-        files: &[(
-            "a.proto",
-            "syntax = \"proto3\"; message M { oneof o { string a = 1; int32 b = 2; } }",
-        )],
-        steps: &[
-            ("delete", "M.o", "", "2 KindNotAllowed"),
-            (
-                "delete",
-                "M.a",
-                "",
-                "a.proto 71 84 (41 string a = 1; int32 b = 2; }  int32 b = 2; } reserved 1; reserved \"a\";);",
-            ),
-            ("delete", "M.b", "", "10 LastOfOneof"),
-        ],
-        after: &[(
-            "a.proto",
-            "syntax = \"proto3\"; message M { oneof o {  int32 b = 2; } reserved 1; reserved \"a\"; }",
-        )],
-        json: "\"oneofDecl\":[{\"name\":\"o\"}],\"reservedName\":[\"a\"],\"reservedRange\":[{\"end\":2,\"start\":1}]",
     },
     Row {
         files: &[(

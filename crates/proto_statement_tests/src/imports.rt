@@ -2,41 +2,43 @@
 
 use super::calls::{Place, Row};
 
+/// An import added and dropped, with what refuses others between.
+pub(crate) const IMPORT: &[Row] = &[Row {
+    files: &[
+        (
+            "a.proto",
+            "syntax = \"proto3\"; message A { string b_c = 1; }",
+        ),
+        ("b.proto", ""),
+    ],
+    steps: &[
+        (
+            "add",
+            "a.proto",
+            "b.proto",
+            "a.proto 48 66 (18  \nimport \"b.proto\";);",
+        ),
+        ("add", "a.proto", "b.proto", "12 AlreadyImported"),
+        ("add", "b.proto", "a.proto", "14 Cycle"),
+        (
+            "drop",
+            "a.proto",
+            "b.proto",
+            "a.proto 66 49 (19 import \"b.proto\"; );",
+        ),
+    ],
+    after: &[
+        (
+            "a.proto",
+            "syntax = \"proto3\";\n message A { string b_c = 1; }",
+        ),
+        ("b.proto", ""),
+    ],
+    json: "",
+}];
+
 /// Imports added.
 pub(crate) const ADDED: &[Row] = &[
-    Row {
-        files: &[
-            (
-                "a.proto",
-                "syntax = \"proto3\"; message A { string b_c = 1; }",
-            ),
-            ("b.proto", ""),
-        ],
-        steps: &[
-            (
-                "add",
-                "a.proto",
-                "b.proto",
-                "a.proto 48 66 (18  \nimport \"b.proto\";);",
-            ),
-            ("add", "a.proto", "b.proto", "12 AlreadyImported"),
-            ("add", "b.proto", "a.proto", "14 Cycle"),
-            (
-                "drop",
-                "a.proto",
-                "b.proto",
-                "a.proto 66 49 (19 import \"b.proto\"; );",
-            ),
-        ],
-        after: &[
-            (
-                "a.proto",
-                "syntax = \"proto3\";\n message A { string b_c = 1; }",
-            ),
-            ("b.proto", ""),
-        ],
-        json: "",
-    },
     Row {
         files: &[("a.proto", ""), ("b.proto", "")],
         steps: &[(

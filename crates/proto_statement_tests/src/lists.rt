@@ -1,7 +1,6 @@
 //! Edits of all kinds one after another, with refused ones among them. Places are counted in the texts.
 
 use super::calls::*;
-use super::statements::expect_steps;
 use std::test::Fail;
 
 pub(crate) const LISTS: &[Row] = &[Row {
@@ -74,15 +73,14 @@ const BACK: &[(&str, &str)] = &[
 
 #[test]
 fn are_undone_one_by_one(rt: HostRuntime) -> Result<(), Fail> {
-    let alloc = rt.alloc();
     for row in LISTS {
-        let mut workspace = opened(alloc, row.files)?;
-        let entries = expect_steps(&rt, &mut workspace, row.steps)?;
-        assert_eq!(rt; entries.len(), BACK.len());
-        for (entry, &(a, b)) in entries.iter().rev().zip(BACK) {
-            undo(alloc, &mut workspace, entry)?;
+        let mut edited = begun(&rt, row.files)?;
+        expect_answers(&rt, &mut edited, row.steps)?;
+        assert_eq!(rt; edited.entries.len(), BACK.len());
+        for (entry, &(a, b)) in edited.entries.iter().rev().zip(BACK) {
+            undone(&rt, &mut edited.workspace, entry)?;
             let files = [("a.proto", a), ("b.proto", b), ("c.proto", "")];
-            assert!(rt; are_texts(&workspace, &files), "not {a}");
+            assert!(rt; are_texts(&edited.workspace, &files), "not {a}");
         }
     }
     Ok(())
