@@ -7,49 +7,62 @@ use proto_journal::{LoadFault, MemoryStore};
 use std::process::Abort;
 use std::test::Fail;
 
-const CUTS: [(&str, &str); 4] = [(BEFORE, ""), (BEFORE, OPEN), (AFTER, OPEN), (AFTER, DONE)];
+const CUTS: &[Left] = &[(BEFORE, ""), (BEFORE, OPEN), (AFTER, OPEN), (AFTER, DONE)];
 
 fn made_store<R: AllocGlobal>(rt: &R) -> Result<MemoryStore, NoMemory> {
-    match store_of(rt.alloc(), BEFORE, b"") {
+    match store_of(rt.alloc(), (BEFORE, "")) {
         Ok(store) => Ok(store),
-        Err(NoMemory) => store_of(rt.alloc(), BEFORE, b""),
+        Err(NoMemory) => store_of(rt.alloc(), (BEFORE, "")),
+    }
+}
+
+fn answered<R: AllocGlobal + Abort>(rt: &R, store: &mut MemoryStore) -> Result<Answer, LoadFault> {
+    match called(rt, store, RENAME) {
+        Ok(answer) => Ok(answer),
+        Err(_) => called(rt, store, RENAME),
     }
 }
 
 fn is_still<R: AllocGlobal + Abort>(
     rt: &R,
     store: &mut MemoryStore,
-    text: &str,
-    journal: &str,
+    left: Left,
 ) -> Result<bool, LoadFault> {
-    match is_left(rt, store, text, journal.as_bytes()) {
+    match is_left(rt, store, left) {
         Ok(is) => Ok(is),
-        Err(_) => is_left(rt, store, text, journal.as_bytes()),
+        Err(_) => is_left(rt, store, left),
+    }
+}
+
+fn is_cut<R: AllocGlobal + Abort>(rt: &R, store: &mut MemoryStore) -> Result<bool, LoadFault> {
+    for &left in CUTS {
+        if is_still(rt, store, left)? {
+            return Ok(true);
+        }
+    }
+    Ok(false)
+}
+
+// Whether the store is left as it was said.
+fn is_left_so<R: AllocGlobal + Abort>(
+    rt: &R,
+    store: &mut MemoryStore,
+    (number, name, _): Said,
+) -> Result<bool, LoadFault> {
+    match (number, name) {
+        (0, "done") => is_still(rt, store, (AFTER, DONE)),
+        // Refused for want of memory.
+        (6, _) => is_still(rt, store, (BEFORE, "")),
+        // The store's own growth was refused, which is a call that failed.
+        (4, _) => is_cut(rt, store),
+        _ => Ok(false),
     }
 }
 
 #[test]
 fn one_is_refused(rt: HostRuntime) -> Result<(), Fail> {
     let mut store = made_store(&rt)?;
-    let made = match committed(&rt, &mut store, "A.b_c", None) {
-        Ok(made) => made,
-        Err(_) => committed(&rt, &mut store, "A.b_c", None)?,
-    };
-    match made.said {
-        (0, "done", _) => assert!(rt; is_still(&rt, &mut store, AFTER, DONE)?, "made"),
-        (6, _, _) => assert!(rt;
-            is_still(&rt, &mut store, BEFORE, "")?,
-            "refused for memory"
-        ),
-        // The store's own growth was refused, which is a call that failed.
-        (4, _, _) => {
-            let mut is_cut = false;
-            for (text, journal) in CUTS {
-                is_cut = is_cut || is_still(&rt, &mut store, text, journal)?;
-            }
-            assert!(rt; is_cut, "cut");
-        }
-        (number, name, _) => panic!(rt; "{number} {name}"),
-    }
+    let (said, _) = answered(&rt, &mut store)?;
+    assert!(rt; is_left_so(&rt, &mut store, said)?, "{said:?}");
     Ok(())
 }

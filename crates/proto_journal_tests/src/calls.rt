@@ -20,22 +20,23 @@ pub(crate) const OPEN: &str =
 /// A fault's number and name, or 0 and `done`; and the number of a refusal, or 0.
 pub(crate) type Said = (u32, &'static str, u32);
 
-/// The failure that is to come: the number of the call, and whether the new bytes land.
-pub(crate) type Failure = Option<(u64, bool)>;
+/// The name that becomes `d_e`, or none for an undo; and the failure that is to come: the number of the store's call, or 0, and
+/// whether the new bytes land.
+pub(crate) type Call = (&'static str, u64, bool);
 
-/// What a call answers, and whether the workspace then has the text.
-#[derive(Drop)]
-pub(crate) struct Tried {
-    pub(crate) said: Said,
-    workspace: Workspace,
-}
+/// What a call answers, and which of the two texts the workspace then has.
+pub(crate) type Answer = (Said, &'static str);
 
-impl Tried {
-    pub(crate) fn has_text(&self, text: &str) -> bool {
-        let files = self.workspace.files();
-        files.len() == 1 && files.source(0).as_bytes() == text.as_bytes()
-    }
-}
+/// The text and the journal of a store.
+pub(crate) type Left = (&'static str, &'static str);
+
+pub(crate) const RENAME: Call = ("A.b_c", 0, false);
+
+pub(crate) const UNDO: Call = ("", 0, false);
+
+pub(crate) const MADE: Answer = ((0, "done", 0), AFTER);
+
+pub(crate) const TAKEN_BACK: Answer = ((0, "done", 0), BEFORE);
 
 pub(crate) fn said<T: Drop>(answer: Result<T, JournalFault>) -> Said {
     match answer {
@@ -46,11 +47,11 @@ pub(crate) fn said<T: Drop>(answer: Result<T, JournalFault>) -> Said {
 }
 
 /// A store of `a.proto` with this text, and of this journal.
-pub(crate) fn store_of(alloc: Global, text: &str, journal: &[u8]) -> Result<MemoryStore, NoMemory> {
+pub(crate) fn store_of(alloc: Global, (text, journal): Left) -> Result<MemoryStore, NoMemory> {
     let mut files = Vec::new(alloc);
     let path = String::from_str(alloc, "a.proto")?;
     files.push((path, text.as_bytes().to_vec(alloc)?))?;
-    MemoryStore::new(alloc, files, journal.to_vec(alloc)?)
+    MemoryStore::new(alloc, files, journal.as_bytes().to_vec(alloc)?)
 }
 
 fn rename(alloc: Global, name: &str, to: &str) -> Result<Edit, NoMemory> {
@@ -60,48 +61,71 @@ fn rename(alloc: Global, name: &str, to: &str) -> Result<Edit, NoMemory> {
     })
 }
 
-// Lets a call fail.
-fn plan(store: &mut MemoryStore, failure: Failure)
+// Lets a call fail, if its number is not 0.
+fn plan(store: &mut MemoryStore, number: u64, lands: bool)
     ensures held { store.new.held ≡ store.old.held }
     ensures failures { store.new.failures ≡ store.old.failures }
 {
-    if let Some((call, lands)) = failure
-        && call > 0
-    {
-        store.fail_at(call, lands);
+    if number > 0 {
+        store.fail_at(number, lands);
     }
 }
 
-/// Commits the rename of a name, over a workspace that is loaded from the store.
-pub(crate) fn committed<R: AllocGlobal + Abort>(
+fn has_text(workspace: &Workspace, text: &str) -> bool {
+    let files = workspace.files();
+    files.len() == 1 && files.source(0).as_bytes() == text.as_bytes()
+}
+
+// Which of the two texts the workspace has, or none.
+fn text_of(workspace: &Workspace) -> &'static str {
+    if has_text(workspace, BEFORE) {
+        BEFORE
+    } else if has_text(workspace, AFTER) {
+        AFTER
+    } else {
+        ""
+    }
+}
+
+fn committed<R: AllocGlobal + Abort>(
     rt: &R,
     store: &mut MemoryStore,
-    name: &str,
-    failure: Failure,
-) -> Result<Tried, LoadFault> {
+    (name, number, lands): Call,
+) -> Result<Answer, LoadFault> {
     assert!(rt; store.failures() < u64::MAX);
     let Ok(edit) = rename(rt.alloc(), name, "d_e") else {
         return Err(LoadFault::NoMemory);
     };
     let mut workspace = load(rt.alloc(), store)?;
-    plan(store, failure);
+    plan(store, number, lands);
     let answer = commit(rt.alloc(), store, &mut workspace, edit);
-    let said = said(answer);
-    Ok(Tried { said, workspace })
+    Ok((said(answer), text_of(&workspace)))
 }
 
-/// Undoes the last entry, over a workspace that is loaded from the store.
-pub(crate) fn undone<R: AllocGlobal + Abort>(
+fn undone<R: AllocGlobal + Abort>(
     rt: &R,
     store: &mut MemoryStore,
-    failure: Failure,
-) -> Result<Tried, LoadFault> {
+    (_, number, lands): Call,
+) -> Result<Answer, LoadFault> {
     assert!(rt; store.failures() < u64::MAX);
     let mut workspace = load(rt.alloc(), store)?;
-    plan(store, failure);
+    plan(store, number, lands);
     let answer = undo_last(rt.alloc(), store, &mut workspace);
-    let said = said(answer);
-    Ok(Tried { said, workspace })
+    Ok((said(answer), text_of(&workspace)))
+}
+
+/// Commits a rename, or undoes the last entry, over a workspace that is loaded from the store.
+pub(crate) fn called<R: AllocGlobal + Abort>(
+    rt: &R,
+    store: &mut MemoryStore,
+    call: Call,
+) -> Result<Answer, LoadFault> {
+    let (name, _, _) = call;
+    if name.is_empty() {
+        undone(rt, store, call)
+    } else {
+        committed(rt, store, call)
+    }
 }
 
 /// What `ready` answers.
@@ -110,22 +134,59 @@ pub(crate) fn said_ready<R: AllocGlobal + Abort>(rt: &R, store: &mut MemoryStore
     said(ready(rt.alloc(), store))
 }
 
-/// Whether the store has `a.proto` with this text alone, and this journal.
-pub(crate) fn is_left<R: AllocGlobal + Abort>(
-    rt: &R,
-    store: &mut MemoryStore,
-    text: &str,
-    journal: &[u8],
-) -> Result<bool, LoadFault> {
-    assert!(rt; store.failures() < u64::MAX);
-    let files = all_files(rt.alloc(), store)?;
-    let held = store.read_journal()?;
-    Ok(is_one(&files, text) && held.as_slice() == journal)
-}
-
 fn is_one(files: &[(String, Vec<u8>)], text: &str) -> bool {
     match files {
         [(path, bytes)] => path.as_str() == "a.proto" && bytes.as_slice() == text.as_bytes(),
         _ => false,
     }
+}
+
+fn has_file<R: AllocGlobal + Abort>(
+    rt: &R,
+    store: &mut MemoryStore,
+    text: &str,
+) -> Result<bool, LoadFault> {
+    assert!(rt; store.failures() < u64::MAX);
+    let files = all_files(rt.alloc(), store)?;
+    Ok(is_one(&files, text))
+}
+
+fn has_journal<R: AllocGlobal + Abort>(
+    rt: &R,
+    store: &mut MemoryStore,
+    journal: &str,
+) -> Result<bool, LoadFault> {
+    assert!(rt; store.failures() < u64::MAX);
+    let held = store.read_journal()?;
+    Ok(held.as_slice() == journal.as_bytes())
+}
+
+/// Whether the store has `a.proto` with this text alone, and this journal.
+pub(crate) fn is_left<R: AllocGlobal + Abort>(
+    rt: &R,
+    store: &mut MemoryStore,
+    (text, journal): Left,
+) -> Result<bool, LoadFault> {
+    Ok(has_file(rt, store, text)? && has_journal(rt, store, journal)?)
+}
+
+/// The call is answered so, and the store is then left so.
+pub(crate) fn expect_call<R: AllocGlobal + Abort>(
+    rt: &R,
+    store: &mut MemoryStore,
+    call: Call,
+    answer: Answer,
+    left: Left,
+) -> Result<(), LoadFault> {
+    let (name, number, lands) = call;
+    assert_eq!(rt;
+        called(rt, store, call)?,
+        answer,
+        "{name}, call {number}, {lands}"
+    );
+    assert!(rt;
+        is_left(rt, store, left)?,
+        "the store, {name}, call {number}, {lands}"
+    );
+    Ok(())
 }

@@ -7,7 +7,7 @@ use std::test::Fail;
 type Cut = (u64, bool, &'static str, &'static str);
 
 // The calls are: read the journal, replace it, replace the file, replace the journal.
-const COMMITS: [Cut; 8] = [
+const COMMITS: &[Cut] = &[
     (1, false, BEFORE, ""),
     (1, true, BEFORE, ""),
     (2, false, BEFORE, ""),
@@ -18,7 +18,7 @@ const COMMITS: [Cut; 8] = [
     (4, true, AFTER, DONE),
 ];
 
-const UNDOS: [Cut; 8] = [
+const UNDOS: &[Cut] = &[
     (1, false, AFTER, DONE),
     (1, true, AFTER, DONE),
     (2, false, AFTER, DONE),
@@ -29,43 +29,38 @@ const UNDOS: [Cut; 8] = [
     (4, true, BEFORE, ""),
 ];
 
+const CUT: Said = (4, "Store", 0);
+
 #[test]
 fn commits_are_cut(rt: HostRuntime) -> Result<(), Fail> {
-    for (call, lands, text, journal) in COMMITS {
-        let mut store = store_of(rt.alloc(), BEFORE, b"")?;
-        let cut = committed(&rt, &mut store, "A.b_c", Some((call, lands)))?;
-        assert_eq!(rt; cut.said, (4, "Store", 0), "call {call}, {lands}");
-        assert!(rt; cut.has_text(BEFORE), "the workspace, call {call}, {lands}");
-        assert!(rt;
-            is_left(&rt, &mut store, text, journal.as_bytes())?,
-            "the store, call {call}, {lands}"
-        );
+    for &(number, lands, text, journal) in COMMITS {
+        let mut store = store_of(rt.alloc(), (BEFORE, ""))?;
+        let call = ("A.b_c", number, lands);
+        expect_call(&rt, &mut store, call, (CUT, BEFORE), (text, journal))?;
     }
     Ok(())
 }
 
 #[test]
 fn undos_are_cut(rt: HostRuntime) -> Result<(), Fail> {
-    for (call, lands, text, journal) in UNDOS {
-        let mut store = store_of(rt.alloc(), AFTER, DONE.as_bytes())?;
-        let cut = undone(&rt, &mut store, Some((call, lands)))?;
-        assert_eq!(rt; cut.said, (4, "Store", 0), "call {call}, {lands}");
-        assert!(rt; cut.has_text(AFTER), "the workspace, call {call}, {lands}");
-        assert!(rt;
-            is_left(&rt, &mut store, text, journal.as_bytes())?,
-            "the store, call {call}, {lands}"
-        );
+    for &(number, lands, text, journal) in UNDOS {
+        let mut store = store_of(rt.alloc(), (AFTER, DONE))?;
+        let call = ("", number, lands);
+        expect_call(&rt, &mut store, call, (CUT, AFTER), (text, journal))?;
     }
     Ok(())
 }
 
 #[test]
 fn no_fifth_call_fails(rt: HostRuntime) -> Result<(), Fail> {
-    let mut store = store_of(rt.alloc(), BEFORE, b"")?;
-    let made = committed(&rt, &mut store, "A.b_c", Some((5, false)))?;
-    assert_eq!(rt; made.said, (0, "done", 0));
-    let mut later = store_of(rt.alloc(), AFTER, DONE.as_bytes())?;
-    let back = undone(&rt, &mut later, Some((5, false)))?;
-    assert_eq!(rt; back.said, (0, "done", 0));
+    let mut store = store_of(rt.alloc(), (BEFORE, ""))?;
+    assert_eq!(rt; called(&rt, &mut store, ("A.b_c", 5, false))?, MADE);
+    Ok(())
+}
+
+#[test]
+fn no_fifth_call_of_an_undo_fails(rt: HostRuntime) -> Result<(), Fail> {
+    let mut store = store_of(rt.alloc(), (AFTER, DONE))?;
+    assert_eq!(rt; called(&rt, &mut store, ("", 5, false))?, TAKEN_BACK);
     Ok(())
 }

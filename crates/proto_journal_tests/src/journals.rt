@@ -1,6 +1,8 @@
 //! Damaged and open journals, and files that do not fit the last entry.
 
 use super::calls::*;
+use proto_journal::{LoadFault, MemoryStore};
+use std::process::Abort;
 use std::test::Fail;
 
 /// A journal, and what `ready` answers, a commit of an edit that is not admissible, and an undo.
@@ -14,7 +16,7 @@ const READY: Said = (0, "done", 0);
 
 const REFUSED: Said = (0, "UnknownTarget", 1);
 
-const JOURNALS: [Answered; 5] = [
+const JOURNALS: &[Answered] = &[
     ("", READY, REFUSED, (2, "NothingToUndo", 0)),
     ("x", BAD, BAD, BAD),
     ("\n", BAD, BAD, BAD),
@@ -22,29 +24,23 @@ const JOURNALS: [Answered; 5] = [
     (DONE, READY, REFUSED, (0, "Stale", 17)),
 ];
 
+fn expect_answers<R: AllocGlobal + Abort>(
+    rt: &R,
+    store: &mut MemoryStore,
+    (journal, on_ready, on_commit, on_undo): Answered,
+) -> Result<(), LoadFault> {
+    let left = (BEFORE, journal);
+    assert_eq!(rt; said_ready(rt, store), on_ready, "ready over {journal}");
+    expect_call(rt, store, ("A.q", 0, false), (on_commit, BEFORE), left)?;
+    expect_call(rt, store, UNDO, (on_undo, BEFORE), left)
+}
+
 #[test]
 fn journals_are_asked_first(rt: HostRuntime) -> Result<(), Fail> {
-    for (journal, on_ready, on_commit, on_undo) in JOURNALS {
-        let mut store = store_of(rt.alloc(), BEFORE, journal.as_bytes())?;
-        assert_eq!(rt;
-            said_ready(&rt, &mut store),
-            on_ready,
-            "ready over {journal}"
-        );
-        assert_eq!(rt;
-            committed(&rt, &mut store, "A.q", None)?.said,
-            on_commit,
-            "a commit over {journal}"
-        );
-        assert_eq!(rt;
-            undone(&rt, &mut store, None)?.said,
-            on_undo,
-            "an undo over {journal}"
-        );
-        assert!(rt;
-            is_left(&rt, &mut store, BEFORE, journal.as_bytes())?,
-            "the store over {journal}"
-        );
+    for &answered in JOURNALS {
+        let (journal, _, _, _) = answered;
+        let mut store = store_of(rt.alloc(), (BEFORE, journal))?;
+        expect_answers(&rt, &mut store, answered)?;
     }
     Ok(())
 }
