@@ -2,8 +2,8 @@
 
 use crate::commands::program;
 use crate::request::{Request, WordsFault};
-use clap::ArgMatches;
 use clap::error::ErrorKind;
+use clap::{ArgMatches, Error};
 use proto_lint::{Rule, RuleSet};
 use std::alloc::Global;
 
@@ -12,13 +12,19 @@ use std::alloc::Global;
 /// program's, or name a rule that there is not; `NoMemory` where memory runs out.
 pub fn read_words(alloc: Global, words: &[String]) -> Result<Request, WordsFault> {
     let words = marked_words(alloc, words)?;
-    match program(alloc)?.try_get_matches_from(words.as_slice()) {
+    let program = program(alloc)?;
+    match program.try_get_matches_from(words.as_slice()) {
         Ok(matches) => request_of(alloc, &matches),
-        Err(error) => match error.kind() {
-            ErrorKind::DisplayHelp => Ok(Request::Help(error.to_string(alloc)?)),
-            ErrorKind::OutOfMemory => Err(WordsFault::NoMemory),
-            _ => Err(WordsFault::BadCommandLine),
-        },
+        Err(error) => help_of(alloc, &error),
+    }
+}
+
+// The help, where it was asked for.
+fn help_of(alloc: Global, error: &Error) -> Result<Request, WordsFault> {
+    match error.kind() {
+        ErrorKind::DisplayHelp => Ok(Request::Help(error.to_string(alloc)?)),
+        ErrorKind::OutOfMemory => Err(WordsFault::NoMemory),
+        _ => Err(WordsFault::BadCommandLine),
     }
 }
 
@@ -26,16 +32,24 @@ pub fn read_words(alloc: Global, words: &[String]) -> Result<Request, WordsFault
 fn marked_words<'a>(alloc: Global, words: &'a [String]) -> Result<Vec<&'a str>, WordsFault> {
     let mut marked = Vec::new(alloc);
     for (index, word) in words.iter().enumerate() {
-        let word = word.as_str();
-        if index == 1 && word.starts_with('-') && !asks_help(word) {
-            return Err(WordsFault::BadCommandLine);
-        }
-        if index == 2 && !asks_help(word) {
-            marked.push("--")?;
-        }
-        marked.push(word)?;
+        put_marked(&mut marked, index, word.as_str())?;
     }
     Ok(marked)
+}
+
+// Adds the word with this index, and `--` before it where the texts begin.
+fn put_marked<'a>(
+    marked: &mut Vec<&'a str>,
+    index: usize,
+    word: &'a str,
+) -> Result<(), WordsFault> {
+    if index == 1 && word.starts_with('-') && !asks_help(word) {
+        return Err(WordsFault::BadCommandLine);
+    }
+    if index == 2 && !asks_help(word) {
+        marked.push("--")?;
+    }
+    Ok(marked.push(word)?)
 }
 
 fn asks_help(word: &str) -> bool {
@@ -47,12 +61,19 @@ fn request_of(alloc: Global, matches: &ArgMatches<'_>) -> Result<Request, WordsF
         return Err(WordsFault::BadCommandLine);
     };
     let root = text_of(alloc, matches, "ROOT")?;
+    request_with(alloc, command, matches, root)
+}
+
+// What the command asks for, of the schemas in this folder.
+fn request_with(
+    alloc: Global,
+    command: &str,
+    matches: &ArgMatches<'_>,
+    root: String,
+) -> Result<Request, WordsFault> {
     match command {
         "compile" => Ok(Request::Compile { root }),
-        "lint" => {
-            let rules = rules_of(matches.get_strs("RULE").unwrap_or(&[]))?;
-            Ok(Request::Lint { root, rules })
-        }
+        "lint" => lint_of(matches, root),
         "rename" | "delete-field" => edit_of_name(alloc, command, matches, root),
         "add-import" | "drop-import" => edit_of_import(alloc, command, matches, root),
         "undo" => Ok(Request::Undo { root }),
@@ -60,6 +81,11 @@ fn request_of(alloc: Global, matches: &ArgMatches<'_>) -> Result<Request, WordsF
         "recover" => Ok(Request::Recover { root }),
         _ => Err(WordsFault::BadCommandLine),
     }
+}
+
+fn lint_of(matches: &ArgMatches<'_>, root: String) -> Result<Request, WordsFault> {
+    let rules = rules_of(matches.get_strs("RULE").unwrap_or(&[]))?;
+    Ok(Request::Lint { root, rules })
 }
 
 fn edit_of_name(

@@ -4,6 +4,22 @@ use clap::{Arg, ArgAction, Command};
 use proto_faults::NoMemory;
 use std::alloc::Global;
 
+/// An argument of a command, by its identifier and its help.
+enum Argument {
+    /// One word, which has to stand there.
+    One(&'static str, &'static str),
+    /// Any number of words.
+    Many(&'static str, &'static str),
+}
+
+/// A command: its name, what it does, what stands below its help, and its arguments in their order.
+struct Words {
+    name: &'static str,
+    about: &'static str,
+    below: &'static str,
+    arguments: &'static [Argument],
+}
+
 const RULES: &str = "Rules:
   DIRECTORY_SAME_PACKAGE       a file whose package is not that of the first file of its directory
   ENUM_FIRST_VALUE_ZERO        the first value of an enum, if its number is not 0
@@ -35,139 +51,136 @@ const RULES: &str = "Rules:
 
 Example: protoref lint schemas IMPORT_USED PACKAGE_DEFINED";
 
-/// All commands of the program.
+const ROOT: Argument = Argument::One("ROOT", "The folder of the schemas");
+
+const FILE: Argument = Argument::One("FILE", "The path of the schema below the folder");
+
+const COMMANDS: &[Words] = &[
+    Words {
+        name: "compile",
+        about: "Prints the descriptors of the schemas as JSON",
+        below: "Example: protoref compile schemas",
+        arguments: &[ROOT],
+    },
+    Words {
+        name: "lint",
+        about: "Prints what lint rules find in the schemas",
+        below: RULES,
+        arguments: &[
+            ROOT,
+            Argument::Many("RULE", "The rules that are asked; all, where none is named"),
+        ],
+    },
+    Words {
+        name: "rename",
+        about: "Gives a symbol a new simple name, where it is declared and in each reference",
+        below: "Example: protoref rename schemas shop.v1.Order.price total_price",
+        arguments: &[
+            ROOT,
+            Argument::One("NAME", "The full name of a symbol, without a dot before it"),
+            Argument::One("TO", "The new simple name"),
+        ],
+    },
+    Words {
+        name: "delete-field",
+        about: "Deletes a field, and reserves its number and name",
+        below: "Example: protoref delete-field schemas shop.v1.Order.price",
+        arguments: &[
+            ROOT,
+            Argument::One("NAME", "The full name of a field, without a dot before it"),
+        ],
+    },
+    Words {
+        name: "add-import",
+        about: "Adds an import to a schema",
+        below: "Example: protoref add-import schemas shop/v1/order.proto shop/v1/item.proto",
+        arguments: &[
+            ROOT,
+            FILE,
+            Argument::One("PATH", "The path of the schema that it is to import"),
+        ],
+    },
+    Words {
+        name: "drop-import",
+        about: "Takes an import out of a schema",
+        below: "Example: protoref drop-import schemas shop/v1/order.proto shop/v1/item.proto",
+        arguments: &[
+            ROOT,
+            FILE,
+            Argument::One("PATH", "The path that it is to import no longer"),
+        ],
+    },
+    Words {
+        name: "undo",
+        about: "Undoes the last entry of the journal",
+        below: "Example: protoref undo schemas",
+        arguments: &[ROOT],
+    },
+    Words {
+        name: "log",
+        about: "Prints the entries of the journal, with the files that each of them changed",
+        below: "Example: protoref log schemas",
+        arguments: &[ROOT],
+    },
+    Words {
+        name: "recover",
+        about: "Takes back what an edit or an undo left that was cut off in its midst",
+        below: "Example: protoref recover schemas",
+        arguments: &[ROOT],
+    },
+];
+
+/// The program, with all its commands.
 pub(crate) fn program<'a>(alloc: Global) -> Result<Command<'a>, NoMemory> {
-    let program = Command::new(alloc, "protoref")
+    let mut commands = Vec::new(alloc);
+    for words in COMMANDS {
+        put_command(alloc, &mut commands, words)?;
+    }
+    Ok(program_alone(alloc).subcommands(commands)?)
+}
+
+// The program, with no command yet.
+fn program_alone<'a>(alloc: Global) -> Command<'a> {
+    Command::new(alloc, "protoref")
         .about("Compiles, lints and edits Protocol Buffers schemas")
         .disable_help_subcommand(true)
         .subcommand_required(true)
-        .subcommand(compile(alloc)?)?
-        .subcommand(lint(alloc)?)?;
-    with_journal(alloc, with_edits(alloc, program)?)
 }
 
-fn with_edits<'a>(alloc: Global, program: Command<'a>) -> Result<Command<'a>, NoMemory> {
-    let program = program
-        .subcommand(rename(alloc)?)?
-        .subcommand(delete_field(alloc)?)?;
-    let program = program
-        .subcommand(add_import(alloc)?)?
-        .subcommand(drop_import(alloc)?)?;
-    Ok(program)
+fn put_command<'a>(
+    alloc: Global,
+    commands: &mut Vec<Command<'a>>,
+    words: &Words,
+) -> Result<(), NoMemory> {
+    let arguments = arguments_of(alloc, words.arguments)?;
+    let command = command_alone(alloc, words).args(arguments)?;
+    Ok(commands.push(command)?)
 }
 
-fn with_journal<'a>(alloc: Global, program: Command<'a>) -> Result<Command<'a>, NoMemory> {
-    let program = program.subcommand(undo(alloc)?)?.subcommand(log(alloc)?)?;
-    Ok(program.subcommand(recover(alloc)?)?)
+// The command, with no argument yet.
+fn command_alone<'a>(alloc: Global, words: &Words) -> Command<'a> {
+    Command::new(alloc, words.name)
+        .about(words.about)
+        .after_help(words.below)
 }
 
-fn compile<'a>(alloc: Global) -> Result<Command<'a>, NoMemory> {
-    let command = Command::new(alloc, "compile")
-        .about("Prints the descriptors of the schemas as JSON")
-        .after_help("Example: protoref compile schemas")
-        .arg(root_argument(alloc))?;
-    Ok(command)
+fn arguments_of<'a>(alloc: Global, rows: &[Argument]) -> Result<Vec<Arg<'a>>, NoMemory> {
+    let mut arguments = Vec::new(alloc);
+    for argument in rows {
+        arguments.push(argument_of(alloc, argument))?;
+    }
+    Ok(arguments)
 }
 
-fn lint<'a>(alloc: Global) -> Result<Command<'a>, NoMemory> {
-    let rules = Arg::new(alloc, "RULE")
-        .help("The rules that are asked; all, where none is named")
-        .num_args(0..)
-        .action(ArgAction::Append);
-    let command = Command::new(alloc, "lint")
-        .about("Prints what lint rules find in the schemas")
-        .after_help(RULES)
-        .arg(root_argument(alloc))?
-        .arg(rules)?;
-    Ok(command)
-}
-
-fn rename<'a>(alloc: Global) -> Result<Command<'a>, NoMemory> {
-    let name = argument(
-        alloc,
-        "NAME",
-        "The full name of a symbol, without a dot before it",
-    );
-    let command = Command::new(alloc, "rename")
-        .about("Gives a symbol a new simple name, where it is declared and in each reference")
-        .after_help("Example: protoref rename schemas shop.v1.Order.price total_price")
-        .arg(root_argument(alloc))?
-        .arg(name)?
-        .arg(argument(alloc, "TO", "The new simple name"))?;
-    Ok(command)
-}
-
-fn delete_field<'a>(alloc: Global) -> Result<Command<'a>, NoMemory> {
-    let name = argument(
-        alloc,
-        "NAME",
-        "The full name of a field, without a dot before it",
-    );
-    let command = Command::new(alloc, "delete-field")
-        .about("Deletes a field, and reserves its number and name")
-        .after_help("Example: protoref delete-field schemas shop.v1.Order.price")
-        .arg(root_argument(alloc))?
-        .arg(name)?;
-    Ok(command)
-}
-
-fn add_import<'a>(alloc: Global) -> Result<Command<'a>, NoMemory> {
-    let path = argument(alloc, "PATH", "The path of the schema that it is to import");
-    let command = Command::new(alloc, "add-import")
-        .about("Adds an import to a schema")
-        .after_help("Example: protoref add-import schemas shop/v1/order.proto shop/v1/item.proto")
-        .arg(root_argument(alloc))?
-        .arg(file_argument(alloc))?
-        .arg(path)?;
-    Ok(command)
-}
-
-fn drop_import<'a>(alloc: Global) -> Result<Command<'a>, NoMemory> {
-    let path = argument(alloc, "PATH", "The path that it is to import no longer");
-    let command = Command::new(alloc, "drop-import")
-        .about("Takes an import out of a schema")
-        .after_help("Example: protoref drop-import schemas shop/v1/order.proto shop/v1/item.proto")
-        .arg(root_argument(alloc))?
-        .arg(file_argument(alloc))?
-        .arg(path)?;
-    Ok(command)
-}
-
-fn undo<'a>(alloc: Global) -> Result<Command<'a>, NoMemory> {
-    let command = Command::new(alloc, "undo")
-        .about("Undoes the last entry of the journal")
-        .after_help("Example: protoref undo schemas")
-        .arg(root_argument(alloc))?;
-    Ok(command)
-}
-
-fn log<'a>(alloc: Global) -> Result<Command<'a>, NoMemory> {
-    let command = Command::new(alloc, "log")
-        .about("Prints the entries of the journal, with the files that each of them changed")
-        .after_help("Example: protoref log schemas")
-        .arg(root_argument(alloc))?;
-    Ok(command)
-}
-
-fn recover<'a>(alloc: Global) -> Result<Command<'a>, NoMemory> {
-    let command = Command::new(alloc, "recover")
-        .about("Takes back what an edit or an undo left that was cut off in its midst")
-        .after_help("Example: protoref recover schemas")
-        .arg(root_argument(alloc))?;
-    Ok(command)
-}
-
-fn root_argument<'a>(alloc: Global) -> Arg<'a> {
-    argument(alloc, "ROOT", "The folder of the schemas")
-}
-
-fn file_argument<'a>(alloc: Global) -> Arg<'a> {
-    argument(alloc, "FILE", "The path of the schema below the folder")
-}
-
-fn argument<'a>(alloc: Global, id: &'a str, help: &'a str) -> Arg<'a> {
-    Arg::new(alloc, id)
-        .help(help)
-        .required(true)
-        .action(ArgAction::Set)
+fn argument_of<'a>(alloc: Global, argument: &Argument) -> Arg<'a> {
+    match argument {
+        Argument::One(id, help) => Arg::new(alloc, id)
+            .help(help)
+            .required(true)
+            .action(ArgAction::Set),
+        Argument::Many(id, help) => Arg::new(alloc, id)
+            .help(help)
+            .num_args(0..)
+            .action(ArgAction::Append),
+    }
 }
