@@ -1,7 +1,10 @@
 //! The journal's limit of 16,777,216 bytes, and that of a file.
 
-use crate::calls::{LINE, RENAMED, ROW, expect, expect_held, rename, store_of};
-use protoref_run::{Command, Status};
+use crate::calls::{
+    Asked, Kind, LINE, NEW, OLD, RENAME, ROW, Texts, expect, expect_files, expect_kept, store_with,
+};
+use proto_store::MemoryStore;
+use protoref_run::Status;
 use std::alloc::Global;
 use std::process::Abort;
 use std::test::Fail;
@@ -21,73 +24,87 @@ fn lines(alloc: Global, count: u32) -> Result<String, Fail> {
 fn has_no_room_for_an_entry_more(rt: HostRuntime) -> Result<(), Fail> {
     let journal = lines(rt.alloc(), 132_104)?;
     assert_eq!(rt; journal.len(), 16_777_208);
-    let mut store = store_of(rt.alloc(), ROW, journal.as_str())?;
-    let edit = rename(rt.alloc(), "A.b_c", "d_e")?;
-    expect(
+    expect_kept(
         &rt,
-        edit,
-        &mut store,
+        OLD,
+        journal.as_str(),
+        RENAME,
         "journal: 5 JournalFull\n",
-        Status::Problem,
-    )?;
-    expect_held(&rt, &mut store, ROW, journal.as_str())
+    )
+}
+
+// What is asked of these files and this journal makes of them those, and a journal of so many lines.
+fn expect_changed<R: AllocGlobal + Abort>(
+    rt: &R,
+    (files, journal): (Texts, &str),
+    asked: Asked,
+    after: Texts,
+    count: u32,
+) -> Result<(), Fail> {
+    let mut store = store_with(rt.alloc(), files, journal)?;
+    expect(rt, asked, &mut store, CHANGED, Status::Done)?;
+    expect_lines(rt, &mut store, after, count)
+}
+
+fn expect_lines<R: AllocGlobal + Abort>(
+    rt: &R,
+    store: &mut MemoryStore,
+    files: Texts,
+    count: u32,
+) -> Result<(), Fail> {
+    let journal = lines(rt.alloc(), count)?;
+    expect_files(rt, store, files, journal.as_str())
 }
 
 #[test]
 fn has_room_for_the_last_entry(rt: HostRuntime) -> Result<(), Fail> {
     let journal = lines(rt.alloc(), 132_103)?;
-    let mut store = store_of(rt.alloc(), ROW, journal.as_str())?;
-    let edit = rename(rt.alloc(), "A.b_c", "d_e")?;
-    expect(&rt, edit, &mut store, CHANGED, Status::Done)?;
-    let longer = format!(in rt.alloc(); "{journal}{LINE}")?;
-    expect_held(&rt, &mut store, RENAMED, longer.as_str())
+    expect_changed(&rt, (OLD, journal.as_str()), RENAME, NEW, 132_104)
 }
 
 #[test]
 fn gives_its_last_entry_back(rt: HostRuntime) -> Result<(), Fail> {
     let journal = lines(rt.alloc(), 132_104)?;
-    let mut store = store_of(rt.alloc(), RENAMED, journal.as_str())?;
-    expect(&rt, Command::Undo, &mut store, CHANGED, Status::Done)?;
-    let shorter = lines(rt.alloc(), 132_103)?;
-    expect_held(&rt, &mut store, ROW, shorter.as_str())
+    expect_changed(&rt, (NEW, journal.as_str()), Asked::Undo, OLD, 132_103)
 }
 
 // A journal that is longer by a record is none.
-fn expect_none<R: AllocGlobal + Abort>(
-    rt: &R,
-    command: Command,
-    journal: &str,
-) -> Result<(), Fail> {
-    let mut store = store_of(rt.alloc(), ROW, journal)?;
-    let line = "journal: 1 BadJournal\n";
-    expect(rt, command, &mut store, line, Status::Problem)?;
-    expect_held(rt, &mut store, ROW, journal)
-}
-
 #[test]
 fn is_none_past_its_limit(rt: HostRuntime) -> Result<(), Fail> {
     let journal = lines(rt.alloc(), 132_105)?;
-    expect_none(&rt, Command::Log, journal.as_str())?;
-    expect_none(&rt, Command::Recover, journal.as_str())
+    for asked in [Asked::Log, Asked::Recover] {
+        expect_kept(&rt, OLD, journal.as_str(), asked, "journal: 1 BadJournal\n")?;
+    }
+    Ok(())
 }
 
-// A file of 1,048,576 bytes may get a name of the same length, and no longer one.
-#[test]
-fn keeps_the_limit_of_a_file(rt: HostRuntime) -> Result<(), Fail> {
-    let mut text = String::from_str(rt.alloc(), ROW)?;
+// The first file, with spaces behind it up to 1,048,576 bytes.
+fn padded(alloc: Global) -> Result<String, Fail> {
+    let mut text = String::from_str(alloc, ROW)?;
     for _ in text.len()..1_048_576 {
         text.push(' ')?;
     }
-    let mut store = store_of(rt.alloc(), text.as_str(), "")?;
-    let longer = rename(rt.alloc(), "A.b_c", "d_ef")?;
+    Ok(text)
+}
+
+// Such a file may get a name of the same length, and no longer one.
+fn expect_limit<R: AllocGlobal + Abort>(rt: &R, text: &str) -> Result<(), Fail> {
+    let files = [("a.proto", text)];
+    let longer = Asked::Edit(Kind::Rename, "A.b_c", "d_ef");
+    let mut store = store_with(rt.alloc(), &files, "")?;
     expect(
-        &rt,
+        rt,
         longer,
         &mut store,
         "refused: 16 TooLarge\n",
         Status::Problem,
     )?;
-    expect_held(&rt, &mut store, text.as_str(), "")?;
-    let edit = rename(rt.alloc(), "A.b_c", "d_e")?;
-    expect(&rt, edit, &mut store, CHANGED, Status::Done)
+    expect_files(rt, &mut store, &files, "")?;
+    expect(rt, RENAME, &mut store, CHANGED, Status::Done)
+}
+
+#[test]
+fn keeps_the_limit_of_a_file(rt: HostRuntime) -> Result<(), Fail> {
+    let text = padded(rt.alloc())?;
+    expect_limit(&rt, text.as_str())
 }

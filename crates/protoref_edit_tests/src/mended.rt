@@ -1,8 +1,8 @@
 //! Torn stores whose files were changed by other hands, and journals that are none.
 
-use crate::calls::{LINE, OPEN_LINE, expect, expect_files, store_with};
+use crate::calls::Turn::{Done, Holds};
+use crate::calls::{Asked, LINE, OPEN_LINE, Row, expect_kept, expect_rows};
 use crate::three_files::OPEN;
-use protoref_run::{Command, Status};
 use std::process::Abort;
 use std::test::Fail;
 
@@ -12,17 +12,11 @@ const B: &str = "syntax = \"proto3\"; import \"a.proto\"; message B { M m = 1; }
 
 const C: &str = "syntax = \"proto3\"; import \"a.proto\"; message C { N m = 1; }";
 
-// The recovery prints this line, and changes nothing.
-fn expect_kept<R: AllocGlobal + Abort>(
-    rt: &R,
-    files: &[(&str, &str)],
-    journal: &str,
-    line: &str,
-) -> Result<(), Fail> {
-    let mut store = store_with(rt.alloc(), files, journal)?;
-    expect(rt, Command::Recover, &mut store, line, Status::Problem)?;
-    expect_files(rt, &mut store, files, journal)
-}
+/// An open entry of a file that does not compile.
+const BRACES: &str =
+    "{\"files\":[{\"after\":3,\"before\":2,\"path\":\"a.proto\",\"splices\":[{\"at\":1,\"new\":\"}{\",\"old\":\"(\"}]}],\"state\":\"open\",\"version\":1}\n";
+
+const STALE: &str = "refused: 17 Stale\n";
 
 // A file that is empty, that is longer or shorter, and that has another word at the place of the name.
 #[test]
@@ -36,59 +30,86 @@ fn are_stale_with_a_file_that_is_neither(rt: HostRuntime) -> Result<(), Fail> {
         "syntax = \"proto3\"; import \"a.proto\"; message B {  M m= 1; }",
     ] {
         let files = [("a.proto", A), ("b.proto", other), ("c.proto", C)];
-        expect_kept(&rt, &files, OPEN, "refused: 17 Stale\n")?;
+        expect_kept(&rt, &files, OPEN, Asked::Recover, STALE)?;
     }
     Ok(())
 }
 
 #[test]
 fn are_stale_without_a_file(rt: HostRuntime) -> Result<(), Fail> {
-    let stale = "refused: 17 Stale\n";
-    expect_kept(&rt, &[("a.proto", A), ("b.proto", B)], OPEN, stale)?;
-    expect_kept(&rt, &[("b.proto", B), ("c.proto", C)], OPEN, stale)?;
-    expect_kept(&rt, &[], OPEN, stale)
+    for files in [
+        [("a.proto", A), ("b.proto", B)].as_slice(),
+        &[("b.proto", B), ("c.proto", C)],
+        &[],
+    ] {
+        expect_kept(&rt, files, OPEN, Asked::Recover, STALE)?;
+    }
+    Ok(())
 }
 
-// The recovery puts these files in the place of those, and takes the only entry off.
-fn expect_mended<R: AllocGlobal + Abort>(
-    rt: &R,
-    torn: &[(&str, &str)],
-    journal: &str,
-    back: &[(&str, &str)],
-) -> Result<(), Fail> {
-    let mut store = store_with(rt.alloc(), torn, journal)?;
-    expect(
-        rt,
-        Command::Recover,
-        &mut store,
-        "recovered\n",
-        Status::Done,
-    )?;
-    expect_files(rt, &mut store, back, "")
-}
-
-// The lengths and the words of the entry decide: what else the files say is kept, and no other file is touched.
-#[test]
-fn keep_what_the_entry_does_not_name(rt: HostRuntime) -> Result<(), Fail> {
-    let other = "syntax = \"proto3\"; import \"a.proto\"; message D { N xy=12; }";
-    let back = "syntax = \"proto3\"; import \"a.proto\"; message D { M xy=12; }";
-    let mended = "syntax = \"proto3\"; import \"a.proto\"; message C { M m = 1; }";
-    expect_mended(
-        &rt,
-        &[
+/// Recoveries that put files in the place of others, and take the only entry off.
+const MENDED: &[Row] = &[
+    // The lengths and the words of the entry decide: what else the files say is kept, and no other file is touched.
+    Row {
+        files: &[
             ("a.proto", A),
-            ("b.proto", other),
+            (
+                "b.proto",
+                "syntax = \"proto3\"; import \"a.proto\"; message D { N xy=12; }",
+            ),
             ("c.proto", C),
             ("d.proto", "{"),
         ],
-        OPEN,
-        &[
-            ("a.proto", A),
-            ("b.proto", back),
-            ("c.proto", mended),
-            ("d.proto", "{"),
+        journal: OPEN,
+        turns: &[
+            Done(Asked::Recover, "recovered\n"),
+            Holds(
+                &[
+                    ("a.proto", A),
+                    (
+                        "b.proto",
+                        "syntax = \"proto3\"; import \"a.proto\"; message D { M xy=12; }",
+                    ),
+                    (
+                        "c.proto",
+                        "syntax = \"proto3\"; import \"a.proto\"; message C { M m = 1; }",
+                    ),
+                    ("d.proto", "{"),
+                ],
+                "",
+            ),
         ],
-    )
+    },
+    // Files that do not compile are recovered as others are.
+    Row {
+        files: &[("a.proto", "{}{")],
+        journal: BRACES,
+        turns: &[
+            Done(Asked::Recover, "recovered\n"),
+            Holds(&[("a.proto", "{(")], ""),
+        ],
+    },
+    Row {
+        files: &[("a.proto", "{(")],
+        journal: BRACES,
+        turns: &[
+            Done(Asked::Recover, "recovered\n"),
+            Holds(&[("a.proto", "{(")], ""),
+        ],
+    },
+];
+
+#[test]
+fn keep_what_the_entry_does_not_name(rt: HostRuntime) -> Result<(), Fail> {
+    expect_rows(&rt, MENDED)
+}
+
+// Both texts make a journal that is none.
+fn expect_none<R: AllocGlobal + Abort>(rt: &R, first: &str, second: &str) -> Result<(), Fail> {
+    let journal = format!(in rt.alloc(); "{first}{second}")?;
+    let files = [("a.proto", A)];
+    let line = "journal: 1 BadJournal\n";
+    expect_kept(rt, &files, journal.as_str(), Asked::Recover, line)
 }
 
 #[test]
@@ -104,20 +125,7 @@ fn are_not_recovered_from_a_journal_that_is_none(rt: HostRuntime) -> Result<(), 
         (" ", OPEN_LINE),
         ("\r\n", OPEN_LINE),
     ] {
-        let journal = format!(in rt.alloc(); "{first}{second}")?;
-        let files = [("a.proto", A)];
-        expect_kept(&rt, &files, journal.as_str(), "journal: 1 BadJournal\n")?;
-    }
-    Ok(())
-}
-
-// Files that do not compile are recovered as others are.
-#[test]
-fn are_recovered_without_a_look_at_schemas(rt: HostRuntime) -> Result<(), Fail> {
-    let journal =
-        "{\"files\":[{\"after\":3,\"before\":2,\"path\":\"a.proto\",\"splices\":[{\"at\":1,\"new\":\"}{\",\"old\":\"(\"}]}],\"state\":\"open\",\"version\":1}\n";
-    for text in ["{}{", "{("] {
-        expect_mended(&rt, &[("a.proto", text)], journal, &[("a.proto", "{(")])?;
+        expect_none(&rt, first, second)?;
     }
     Ok(())
 }

@@ -1,25 +1,19 @@
 //! What deletions of fields and changes of imports print and leave, and why they are refused. Places are counted in the texts.
 
-use crate::calls::{ROW, expect, expect_files, store_with};
-use proto_edit::Edit;
-use proto_faults::NoMemory;
-use protoref_run::{Command, Status};
-use std::alloc::Global;
-use std::process::Abort;
+use crate::calls::Turn::{Done, Holds, Problem};
+use crate::calls::{Asked, Kind, ROW, Row, Texts, expect_rows};
 use std::test::Fail;
 
-type Texts = &'static [(&'static str, &'static str)];
+const CHANGED: &str = "changed a.proto\n";
 
-/// What is asked, of which name or file and which path, and what is printed.
-type Asked = (&'static str, &'static str, &'static str, &'static str);
+const ONEOF: Texts = &[(
+    "a.proto",
+    "syntax = \"proto3\"; message M { oneof o { string a = 1; int32 b = 2; } }",
+)];
 
-struct Row {
-    files: Texts,
-    asked: &'static [Asked],
-    /// The files and the journal afterwards.
-    after: Texts,
-    journal: &'static str,
-}
+const APART: Texts = &[("a.proto", ROW), ("b.proto", "")];
+
+const EMPTY: Texts = &[("a.proto", ""), ("b.proto", "")];
 
 const ADDED: Texts = &[
     (
@@ -49,115 +43,120 @@ const OVERTAKEN: Texts = &[
 
 const ROWS: &[Row] = &[
     Row {
-        files: &[(
-            "a.proto",
-            "syntax = \"proto3\"; message M { oneof o { string a = 1; int32 b = 2; } }",
-        )],
-        asked: &[
-            ("delete", "M.q", "", "refused: 1 UnknownTarget\n"),
-            ("delete", "M.o", "", "refused: 2 KindNotAllowed\n"),
-            ("delete", "M.a", "", "changed a.proto\n"),
-            ("delete", "M.b", "", "refused: 10 LastOfOneof\n"),
-            ("log", "", "", "1 done a.proto\n"),
+        files: ONEOF,
+        journal: "",
+        turns: &[
+            Problem(
+                Asked::Edit(Kind::Delete, "M.q", ""),
+                "refused: 1 UnknownTarget\n",
+            ),
+            Problem(
+                Asked::Edit(Kind::Delete, "M.o", ""),
+                "refused: 2 KindNotAllowed\n",
+            ),
+            Done(Asked::Edit(Kind::Delete, "M.a", ""), CHANGED),
+            Problem(
+                Asked::Edit(Kind::Delete, "M.b", ""),
+                "refused: 10 LastOfOneof\n",
+            ),
+            Done(Asked::Log, "1 done a.proto\n"),
+            Holds(
+                &[(
+                    "a.proto",
+                    "syntax = \"proto3\"; message M { oneof o {  int32 b = 2; } reserved 1; reserved \"a\"; }",
+                )],
+                "{\"files\":[{\"after\":84,\"before\":71,\"path\":\"a.proto\",\"splices\":[{\"at\":41,\"new\":\" int32 b = 2; } reserved 1; reserved \\\"a\\\";\",\"old\":\"string a = 1; int32 b = 2; }\"}]}],\"state\":\"done\",\"version\":1}\n",
+            ),
+            Done(Asked::Undo, CHANGED),
+            Holds(ONEOF, ""),
         ],
-        after: &[(
-            "a.proto",
-            "syntax = \"proto3\"; message M { oneof o {  int32 b = 2; } reserved 1; reserved \"a\"; }",
-        )],
-        journal: "{\"files\":[{\"after\":84,\"before\":71,\"path\":\"a.proto\",\"splices\":[{\"at\":41,\"new\":\" int32 b = 2; } reserved 1; reserved \\\"a\\\";\",\"old\":\"string a = 1; int32 b = 2; }\"}]}],\"state\":\"done\",\"version\":1}\n",
     },
     Row {
-        files: &[("a.proto", ROW), ("b.proto", "")],
-        asked: &[
-            ("add", "a.proto", "b.proto", "changed a.proto\n"),
-            ("add", "a.proto", "b.proto", "refused: 12 AlreadyImported\n"),
-            ("add", "b.proto", "a.proto", "refused: 14 Cycle\n"),
-            ("add", "a.proto", "x.proto", "refused: 11 UnknownFile\n"),
+        files: APART,
+        journal: "",
+        turns: &[
+            Done(Asked::Edit(Kind::Import, "a.proto", "b.proto"), CHANGED),
+            Problem(
+                Asked::Edit(Kind::Import, "a.proto", "b.proto"),
+                "refused: 12 AlreadyImported\n",
+            ),
+            Problem(
+                Asked::Edit(Kind::Import, "b.proto", "a.proto"),
+                "refused: 14 Cycle\n",
+            ),
+            Problem(
+                Asked::Edit(Kind::Import, "a.proto", "x.proto"),
+                "refused: 11 UnknownFile\n",
+            ),
+            Holds(
+                ADDED,
+                "{\"files\":[{\"after\":66,\"before\":48,\"path\":\"a.proto\",\"splices\":[{\"at\":18,\"new\":\"\\nimport \\\"b.proto\\\";\",\"old\":\"\"}]}],\"state\":\"done\",\"version\":1}\n",
+            ),
+            Done(Asked::Undo, CHANGED),
+            Holds(APART, ""),
         ],
-        after: ADDED,
-        journal: "{\"files\":[{\"after\":66,\"before\":48,\"path\":\"a.proto\",\"splices\":[{\"at\":18,\"new\":\"\\nimport \\\"b.proto\\\";\",\"old\":\"\"}]}],\"state\":\"done\",\"version\":1}\n",
     },
     Row {
         files: ADDED,
-        asked: &[
-            ("drop", "a.proto", "b.proto", "changed a.proto\n"),
-            ("drop", "a.proto", "b.proto", "refused: 13 NotImported\n"),
-        ],
-        after: &[
-            (
-                "a.proto",
-                "syntax = \"proto3\";\n message A { string b_c = 1; }",
+        journal: "",
+        turns: &[
+            Done(Asked::Edit(Kind::Unimport, "a.proto", "b.proto"), CHANGED),
+            Problem(
+                Asked::Edit(Kind::Unimport, "a.proto", "b.proto"),
+                "refused: 13 NotImported\n",
             ),
-            ("b.proto", ""),
+            Holds(
+                &[
+                    (
+                        "a.proto",
+                        "syntax = \"proto3\";\n message A { string b_c = 1; }",
+                    ),
+                    ("b.proto", ""),
+                ],
+                "{\"files\":[{\"after\":49,\"before\":66,\"path\":\"a.proto\",\"splices\":[{\"at\":19,\"new\":\"\",\"old\":\"import \\\"b.proto\\\";\"}]}],\"state\":\"done\",\"version\":1}\n",
+            ),
+            Done(Asked::Undo, CHANGED),
+            Holds(ADDED, ""),
         ],
-        journal: "{\"files\":[{\"after\":49,\"before\":66,\"path\":\"a.proto\",\"splices\":[{\"at\":19,\"new\":\"\",\"old\":\"import \\\"b.proto\\\";\"}]}],\"state\":\"done\",\"version\":1}\n",
     },
     Row {
-        files: &[("a.proto", ""), ("b.proto", "")],
-        asked: &[("add", "a.proto", "b.proto", "changed a.proto\n")],
-        after: &[("a.proto", "import \"b.proto\";\n"), ("b.proto", "")],
-        journal: "{\"files\":[{\"after\":18,\"before\":0,\"path\":\"a.proto\",\"splices\":[{\"at\":0,\"new\":\"import \\\"b.proto\\\";\\n\",\"old\":\"\"}]}],\"state\":\"done\",\"version\":1}\n",
+        files: EMPTY,
+        journal: "",
+        turns: &[
+            Done(Asked::Edit(Kind::Import, "a.proto", "b.proto"), CHANGED),
+            Holds(
+                &[("a.proto", "import \"b.proto\";\n"), ("b.proto", "")],
+                "{\"files\":[{\"after\":18,\"before\":0,\"path\":\"a.proto\",\"splices\":[{\"at\":0,\"new\":\"import \\\"b.proto\\\";\\n\",\"old\":\"\"}]}],\"state\":\"done\",\"version\":1}\n",
+            ),
+            Done(Asked::Undo, CHANGED),
+            Holds(EMPTY, ""),
+        ],
     },
     Row {
         files: NEEDING,
-        asked: &[(
-            "drop",
-            "b.proto",
-            "c.proto",
-            "refused: 15 Needed a.proto:1:50\n",
-        )],
-        after: NEEDING,
         journal: "",
+        turns: &[
+            Problem(
+                Asked::Edit(Kind::Unimport, "b.proto", "c.proto"),
+                "refused: 15 Needed a.proto:1:50\n",
+            ),
+            Holds(NEEDING, ""),
+        ],
     },
     Row {
         files: OVERTAKEN,
-        asked: &[(
-            "add",
-            "a.proto",
-            "c.proto",
-            "refused: 7 Captured a.proto:1:61\n",
-        )],
-        after: OVERTAKEN,
         journal: "",
+        turns: &[
+            Problem(
+                Asked::Edit(Kind::Import, "a.proto", "c.proto"),
+                "refused: 7 Captured a.proto:1:61\n",
+            ),
+            Holds(OVERTAKEN, ""),
+        ],
     },
 ];
 
-fn command_of(alloc: Global, asked: Asked) -> Result<Command, NoMemory> {
-    let (word, of, path, _) = asked;
-    let of = String::from_str(alloc, of)?;
-    let path = String::from_str(alloc, path)?;
-    Ok(match word {
-        "delete" => Command::Edit(Edit::DeleteField { name: of }),
-        "add" => Command::Edit(Edit::AddImport { file: of, path }),
-        "drop" => Command::Edit(Edit::DropImport { file: of, path }),
-        _ => Command::Log,
-    })
-}
-
-// What is asked prints what the row says and leaves its files, and undoing it leads back.
-fn expect_row<R: AllocGlobal + Abort>(rt: &R, row: &Row) -> Result<(), Fail> {
-    let mut store = store_with(rt.alloc(), row.files, "")?;
-    for &asked in row.asked {
-        let (_, _, _, printed) = asked;
-        let status = match printed.starts_with("refused") {
-            true => Status::Problem,
-            false => Status::Done,
-        };
-        let command = command_of(rt.alloc(), asked)?;
-        expect(rt, command, &mut store, printed, status)?;
-    }
-    expect_files(rt, &mut store, row.after, row.journal)?;
-    if !row.journal.is_empty() {
-        let back = "changed a.proto\n";
-        expect(rt, Command::Undo, &mut store, back, Status::Done)?;
-    }
-    expect_files(rt, &mut store, row.files, "")
-}
-
 #[test]
 fn are_told_made_and_undone(rt: HostRuntime) -> Result<(), Fail> {
-    for row in ROWS {
-        expect_row(&rt, row)?;
-    }
-    Ok(())
+    expect_rows(&rt, ROWS)
 }

@@ -1,9 +1,9 @@
 //! Three files that one rename changes, and the steps of that rename, of its undo and of its recovery.
 
-use crate::calls::{Pipe, expect, expect_files, rename, run_into, store_with};
+use crate::calls::{Asked, Kind, Pipe, ask, expect, expect_files, store_with};
 use proto_faults::NoMemory;
 use proto_store::{MemoryStore, Store};
-use protoref_run::{Command, RunFault, Status};
+use protoref_run::{RunFault, Status};
 use std::alloc::Global;
 use std::process::Abort;
 use std::test::Fail;
@@ -19,8 +19,20 @@ pub(crate) const DONE: &str =
 pub(crate) const OPEN: &str =
     "{\"files\":[{\"after\":31,\"before\":31,\"path\":\"a.proto\",\"splices\":[{\"at\":27,\"new\":\"N\",\"old\":\"M\"}]},{\"after\":59,\"before\":59,\"path\":\"b.proto\",\"splices\":[{\"at\":49,\"new\":\"N\",\"old\":\"M\"}]},{\"after\":59,\"before\":59,\"path\":\"c.proto\",\"splices\":[{\"at\":49,\"new\":\"N\",\"old\":\"M\"}]}],\"state\":\"open\",\"version\":1}\n";
 
+const A: &str = "syntax = \"proto3\"; message M {}";
+
+const A_RENAMED: &str = "syntax = \"proto3\"; message N {}";
+
+const B: &str = "syntax = \"proto3\"; import \"a.proto\"; message B { M m = 1; }";
+
+const B_RENAMED: &str = "syntax = \"proto3\"; import \"a.proto\"; message B { N m = 1; }";
+
+const C: &str = "syntax = \"proto3\"; import \"a.proto\"; message C { M m = 1; }";
+
+const C_RENAMED: &str = "syntax = \"proto3\"; import \"a.proto\"; message C { N m = 1; }";
+
 /// What the journal has behind its older entries.
-#[derive(Clone, Copy, Debug, PartialEq, Eq)]
+#[derive(Clone, Copy)]
 pub(crate) enum Last {
     Nothing,
     Open,
@@ -28,7 +40,7 @@ pub(crate) enum Last {
 }
 
 /// Which of the three files have the new name, and what the journal has of the rename.
-#[derive(Clone, Copy, Debug, PartialEq, Eq)]
+#[derive(Clone, Copy)]
 pub(crate) struct Step {
     pub(crate) renamed: [bool; 3],
     pub(crate) last: Last,
@@ -84,30 +96,9 @@ impl Step {
     fn files(self) -> [(&'static str, &'static str); 3] {
         let [a, b, c] = self.renamed;
         [
-            (
-                "a.proto",
-                if a {
-                    "syntax = \"proto3\"; message N {}"
-                } else {
-                    "syntax = \"proto3\"; message M {}"
-                },
-            ),
-            (
-                "b.proto",
-                if b {
-                    "syntax = \"proto3\"; import \"a.proto\"; message B { N m = 1; }"
-                } else {
-                    "syntax = \"proto3\"; import \"a.proto\"; message B { M m = 1; }"
-                },
-            ),
-            (
-                "c.proto",
-                if c {
-                    "syntax = \"proto3\"; import \"a.proto\"; message C { N m = 1; }"
-                } else {
-                    "syntax = \"proto3\"; import \"a.proto\"; message C { M m = 1; }"
-                },
-            ),
+            ("a.proto", if a { A_RENAMED } else { A }),
+            ("b.proto", if b { B_RENAMED } else { B }),
+            ("c.proto", if c { C_RENAMED } else { C }),
         ]
     }
 
@@ -139,7 +130,7 @@ impl Step {
 }
 
 /// A change of the three files.
-#[derive(Clone, Copy, Debug, PartialEq, Eq)]
+#[derive(Clone, Copy)]
 pub(crate) enum Change {
     Edit,
     Undo,
@@ -147,10 +138,10 @@ pub(crate) enum Change {
 
 impl Change {
     /// The rename of `M` to `N`, or the undo of the last entry.
-    pub(crate) fn command(self, alloc: Global) -> Result<Command, NoMemory> {
+    pub(crate) fn asked(self) -> Asked {
         match self {
-            Change::Edit => rename(alloc, "M", "N"),
-            Change::Undo => Ok(Command::Undo),
+            Change::Edit => Asked::Edit(Kind::Rename, "M", "N"),
+            Change::Undo => Asked::Undo,
         }
     }
 
@@ -163,10 +154,10 @@ impl Change {
     }
 }
 
-/// The command ends with the failure of this call of the store, which may land, and writes nothing.
+/// What is asked ends with the failure of this call of the store, which may land, and writes nothing.
 pub(crate) fn expect_cut<R: AllocGlobal + Abort>(
     rt: &R,
-    command: Command,
+    asked: Asked,
     store: &mut MemoryStore,
     call: u64,
     lands: bool,
@@ -175,11 +166,8 @@ pub(crate) fn expect_cut<R: AllocGlobal + Abort>(
     let failures = store.failures();
     store.fail_at(call, lands);
     let mut writer = Pipe::new(rt.alloc(), 4096, 4096);
-    assert_eq!(rt;
-        run_into(rt, command, store, &mut writer),
-        Err(RunFault::Store),
-        "at {call}"
-    );
+    let ended = ask(rt, asked, store, &mut writer)?;
+    assert_eq!(rt; ended, Err(RunFault::Store), "at {call}");
     assert_eq!(rt; writer.taken.len(), 0, "at {call}");
     assert_eq!(rt; store.failures(), failures.saturating_add(1), "at {call}");
     Ok(())
@@ -194,14 +182,14 @@ pub(crate) fn expect_recovery<R: AllocGlobal + Abort>(
     older: &str,
 ) -> Result<(), Fail> {
     let mut after = step;
-    if step.last == Last::Open {
-        expect(rt, Command::Recover, store, "recovered\n", Status::Done)?;
+    if let Last::Open = step.last {
+        expect(rt, Asked::Recover, store, "recovered\n", Status::Done)?;
         after = Step::of_edit(0);
         after.expect(rt, store, older)?;
     }
     expect(
         rt,
-        Command::Recover,
+        Asked::Recover,
         store,
         "nothing to recover\n",
         Status::Done,
