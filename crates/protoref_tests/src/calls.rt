@@ -50,10 +50,20 @@ impl Write for Pipe {
 pub(crate) fn store_of(alloc: Global, files: &[(&str, &str)]) -> Result<MemoryStore, NoMemory> {
     let mut given = Vec::new(alloc);
     for (path, text) in files {
-        let bytes = text.as_bytes().to_vec(alloc)?;
-        given.push((String::from_str(alloc, path)?, bytes))?;
+        given.push(file_of(alloc, path, text)?)?;
     }
     MemoryStore::new(alloc, given, Vec::new(alloc))
+}
+
+/// A file as a store takes it.
+pub(crate) fn file_of(
+    alloc: Global,
+    path: &str,
+    text: &str,
+) -> Result<(String, Vec<u8>), NoMemory> {
+    let path = String::from_str(alloc, path)?;
+    let bytes = text.as_bytes().to_vec(alloc)?;
+    Ok((path, bytes))
 }
 
 /// Runs a command over a store of few failures.
@@ -65,4 +75,18 @@ pub(crate) fn run_into<S: Store, R: AllocGlobal + Abort>(
 ) -> Result<Status, RunFault> {
     assert!(rt; store.failures() < u64::MAX);
     run(rt.alloc(), command, store, writer)
+}
+
+/// The command prints this text, and ends so.
+pub(crate) fn expect<R: AllocGlobal + Abort>(
+    rt: &R,
+    command: Command,
+    store: &mut MemoryStore,
+    text: &str,
+    status: Status,
+) {
+    let mut writer = Pipe::new(rt.alloc(), 4096, 65536);
+    let ended = run_into(rt, command, store, &mut writer);
+    assert_eq!(rt; ended, Ok(status), "for {text}");
+    assert!(rt; writer.taken.as_slice() == text.as_bytes(), "for {text}");
 }

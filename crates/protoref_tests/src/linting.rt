@@ -1,8 +1,8 @@
 //! What `lint` prints.
 
-use crate::calls::{Pipe, run_into};
-use crate::lint_rows;
+use crate::calls::file_of;
 use crate::lint_rows::Row;
+use crate::{calls, lint_rows};
 use proto_faults::NoMemory;
 use proto_lint::{Rule, RuleSet};
 use proto_store::MemoryStore;
@@ -16,8 +16,7 @@ fn store_of(alloc: Global, files: &str) -> Result<MemoryStore, NoMemory> {
     let mut given = Vec::new(alloc);
     for file in files.split(" | ") {
         let (path, text) = file.split_once(' ').unwrap_or((file, ""));
-        let bytes = text.as_bytes().to_vec(alloc)?;
-        given.push((String::from_str(alloc, path)?, bytes))?;
+        given.push(file_of(alloc, path, text)?)?;
     }
     MemoryStore::new(alloc, given, Vec::new(alloc))
 }
@@ -29,20 +28,13 @@ fn expect<R: AllocGlobal + Abort>(
     files: &str,
     text: &str,
 ) -> Result<(), Fail> {
-    let mut store = store_of(rt.alloc(), files)?;
-    let mut writer = Pipe::new(rt.alloc(), 4096, 65536);
-    let status = run_into(rt, Command::Lint(rules), &mut store, &mut writer);
-    let printed = String::from_utf8(writer.taken);
-    match printed {
-        Ok(printed) => assert_eq!(rt; printed.as_str(), text),
-        Err(_) => panic!(rt; "for {text}"),
-    }
     let wanted = if text.is_empty() {
         Status::Done
     } else {
         Status::Problem
     };
-    assert_eq!(rt; status, Ok(wanted), "for {text}");
+    let mut store = store_of(rt.alloc(), files)?;
+    calls::expect(rt, Command::Lint(rules), &mut store, text, wanted);
     Ok(())
 }
 
@@ -116,25 +108,28 @@ fn prints_what_all_rules_find(rt: HostRuntime) -> Result<(), Fail> {
     Ok(())
 }
 
-#[test]
-fn counts_a_rule_once(rt: HostRuntime) -> Result<(), Fail> {
-    let files =
-        "b.proto syntax = \"proto3\"; | a.proto syntax = \"proto3\"; import \"b.proto\"; message A {}";
-    let rules = rules_named(&rt, &["IMPORT_USED", "IMPORT_USED"]);
-    expect(&rt, rules, files, "a.proto:1:20: IMPORT_USED b.proto\n")
-}
+/// Names of rules, files, and what is printed.
+const NAMED: &[(&[&str], &str, &str)] = &[
+    // A rule is counted once.
+    (
+        &["IMPORT_USED", "IMPORT_USED"],
+        "b.proto syntax = \"proto3\"; | a.proto syntax = \"proto3\"; import \"b.proto\"; message A {}",
+        "a.proto:1:20: IMPORT_USED b.proto\n",
+    ),
+    // No rule is asked that is not named.
+    (&[], "Bad.proto message bad {}", ""),
+    // Lines go on behind one another.
+    (
+        &["MESSAGE_PASCAL_CASE"],
+        "p/v1/b.proto syntax = \"proto3\"; package p.v1; message d {}\nmessage e {} | p/v1/a.proto syntax = \"proto3\";\npackage p.v1;\nmessage a {}\n  message b {} message c {}\n | p/v1/aa.proto syntax = \"proto3\"; package p.v1; message A { string b = 1; }",
+        "p/v1/a.proto:3:9: MESSAGE_PASCAL_CASE p.v1.a\np/v1/a.proto:4:11: MESSAGE_PASCAL_CASE p.v1.b\np/v1/a.proto:4:24: MESSAGE_PASCAL_CASE p.v1.c\np/v1/b.proto:1:42: MESSAGE_PASCAL_CASE p.v1.d\np/v1/b.proto:2:9: MESSAGE_PASCAL_CASE p.v1.e\n",
+    ),
+];
 
 #[test]
-fn asks_no_rule_that_is_not_named(rt: HostRuntime) -> Result<(), Fail> {
-    expect(&rt, RuleSet::none(), "Bad.proto message bad {}", "")
-}
-
-#[test]
-fn goes_on_from_line_to_line(rt: HostRuntime) -> Result<(), Fail> {
-    let files =
-        "p/v1/b.proto syntax = \"proto3\"; package p.v1; message d {}\nmessage e {} | p/v1/a.proto syntax = \"proto3\";\npackage p.v1;\nmessage a {}\n  message b {} message c {}\n | p/v1/aa.proto syntax = \"proto3\"; package p.v1; message A { string b = 1; }";
-    let lines =
-        "p/v1/a.proto:3:9: MESSAGE_PASCAL_CASE p.v1.a\np/v1/a.proto:4:11: MESSAGE_PASCAL_CASE p.v1.b\np/v1/a.proto:4:24: MESSAGE_PASCAL_CASE p.v1.c\np/v1/b.proto:1:42: MESSAGE_PASCAL_CASE p.v1.d\np/v1/b.proto:2:9: MESSAGE_PASCAL_CASE p.v1.e\n";
-    let rules = rules_named(&rt, &["MESSAGE_PASCAL_CASE"]);
-    expect(&rt, rules, files, lines)
+fn asks_the_rules_that_are_named(rt: HostRuntime) -> Result<(), Fail> {
+    for (names, files, lines) in NAMED {
+        expect(&rt, rules_named(&rt, names), files, lines)?;
+    }
+    Ok(())
 }
