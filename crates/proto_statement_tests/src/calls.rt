@@ -1,5 +1,4 @@
-//! Rows, their edits, one after another and as one run, and the way back. Where memory runs out in an edit or in an undo it has
-//! changed nothing, and the same call is made again.
+//! Rows, their edits, one after another and as one run, and the way back. A call that memory refused changed nothing, and is made again.
 
 use proto_edit::*;
 use proto_faults::{NoMemory, SchemaFault};

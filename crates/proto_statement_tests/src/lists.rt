@@ -74,8 +74,9 @@ const BACK: &[(&str, &str)] = &[
 #[test]
 fn are_undone_one_by_one(rt: HostRuntime) -> Result<(), Fail> {
     for row in LISTS {
-        let mut edited = begun(&rt, row.files)?;
-        expect_answers(&rt, &mut edited, row.steps)?;
+        let mut held = begun(&rt, row.files)?;
+        let edited = &mut held;
+        expect_answers(&rt, edited, row.steps)?;
         assert_eq!(rt; edited.entries.len(), BACK.len());
         for (entry, &(a, b)) in edited.entries.iter().rev().zip(BACK) {
             undone(&rt, &mut edited.workspace, entry)?;
