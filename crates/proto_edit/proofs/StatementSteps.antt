@@ -1,5 +1,5 @@
 -- A deletion, an added and a dropped import that no case refuses are mapped steps.
-use Rattle.std.proofs.Common.{◌≡◌, ℕ, ◌∙◌, List, [], refl, sym, ap}
+use Rattle.std.proofs.Common.{◌≡◌, ℕ, ◌∙◌, List, [], refl, sym}
 use Rattle.std.proofs.lemmas.List.Elements.{Contains-get_or}
 use Rattle.std.specs.Prelude.{Some}
 use Rattle.proto_files.specs.Faults.{FaultAt, HasNoFault}
@@ -20,7 +20,7 @@ use Rattle.proto_statement_imports.specs.Workspaces.{AreFaultless, IsMade}
 use Rattle.proto_statement_names.specs.Cases.{IsPlaceOf}
 use Rattle.proto_statement_deleted.specs.Workspace.{IsAllowed}
 use Rattle.proto_edit.specs.Compiled.{AreCompiled}
-use Rattle.proto_statement_edits.specs.Edits.{IsFieldNamed, RefusesAddition, RefusesDeletion, by_name, too_large}
+use Rattle.proto_statement_edits.specs.Edits.{IsFieldNamed, by_name, too_large}
 use Rattle.proto_edit.specs.StatementLaws.{StatementLaws}
 use Rattle.proto_edit.specs.Workspaces.{AreMapped, Asked, ChangesOf, IsAdmissible, IsMappedStep, add_import, delete_field, drop_import}
 

@@ -1,6 +1,6 @@
 //! Edits of a workspace, and the way back.
 
-ghost use Rattle.std.specs.Prelude.{◌≡◌, ◌↔◌, map, reverse, IfOk, IfErr};
+ghost use Rattle.std.specs.Prelude.{◌≡◌, map, reverse, IfOk, IfErr};
 ghost use Rattle.proto_edit.specs.Answers.{asked, IsUndoRefusal, IsReopened, IsUndoAllRefusal, LeadsBack};
 ghost use Rattle.proto_entries.specs.declared.refusal.Refusal.TheVariants as Refusal;
 ghost use Rattle.proto_entries.specs.Entries.{change_of, AreRising};
@@ -159,7 +159,8 @@ impl Workspace {
         }
     }
 
-    /// The run of the edits: the workspace after them, and what each of them is answered.
+    /// The run of the edits: the workspace after them, and what each of them is answered. Only want of memory is
+    /// refused, and it is no answer of an edit.
     pub fn apply_all(
         &self,
         alloc: Global,
@@ -186,7 +187,8 @@ impl Workspace {
         Ok((workspace, answers))
     }
 
-    /// Undoes the entries, from the last to the first.
+    /// Undoes the entries, which are given first to last, from the last to the first. Stale exactly where one of them
+    /// cannot be undone in what the ones after it left.
     pub fn undo_all(&self, alloc: Global, entries: &[Entry]) -> Result<Workspace, Refusal>
         ensures ok { IfOk result (Undone self.now (reverse entries.now)) }
         ensures err { IfErr result (IsUndoAllRefusal self.now (reverse entries.now)) }

@@ -11,9 +11,9 @@ use Rattle.proto_records.specs.declared.fault.JournalFault.TheVariants as fault
 use Rattle.proto_records.specs.declared.record.Record.{Record}
 use Rattle.proto_records.specs.FaultTable.{fault_of}
 use Rattle.proto_records.specs.RecordText.{record_text}
-use Rattle.proto_records.specs.Journals.{IsJournal, done, opened, journal_text}
+use Rattle.proto_records.specs.Journals.{IsJournal, done, journal_limit, opened, journal_text}
 use Rattle.proto_store.specs.Stores.{Held, HoldsJournal}
-use Rattle.proto_journal.specs.Commits.{journal_limit, IsCommitted, IsCommitCut, CommitOutcome, Stays}
+use Rattle.proto_journal.specs.Commits.{IsCommitted, IsCommitCut, CommitOutcome, Stays}
 use Rattle.proto_recovery.specs.ReadJournals.{IsReady, IsReadyWith}
 use Rattle.proto_recovery.specs.Known.{CountsFault, Over, OverBoth}
 use Rattle.proto_journal.specs.Loads.{IsUnready}

@@ -6,9 +6,8 @@ use Rattle.std.proofs.lemmas.List.Elements.{All-head, All-tail}
 use Rattle.proto_entries.specs.Entries.{ChangeOf}
 use Rattle.proto_records.specs.declared.record.Record.{Record}
 use Rattle.proto_records.specs.RecordText.{record_text}
-use Rattle.proto_records.specs.Journals.{IsJournal, IsRecord, done, opened, journal_text}
+use Rattle.proto_records.specs.Journals.{IsJournal, IsRecord, done, journal_limit, opened, journal_text}
 use Rattle.proto_records.specs.Laws.{JournalsGrow, JournalsShrink, StatesKeepLength}
-use Rattle.proto_journal.specs.Commits.{journal_limit}
 use Rattle.proto_journal.specs.Written.{AddsTo, Reopens, Shortens}
 use Rattle.proto_journal.proofs.Recorded.{text_more}
 

@@ -7,15 +7,11 @@ use Rattle.proto_edit.specs.Workspaces.{Asked, IsMappedStep, IsRefusal}
 use Rattle.proto_records.specs.declared.fault.JournalFault.{JournalFault}
 use Rattle.proto_records.specs.declared.fault.JournalFault.TheVariants as fault
 use Rattle.proto_records.specs.declared.record.Record.{Record}
-use Rattle.proto_records.specs.Journals.{done, journal_text}
+use Rattle.proto_records.specs.Journals.{done, journal_limit, journal_text}
 use Rattle.proto_store.specs.Stores.{Held}
 use Rattle.proto_recovery.specs.ReadJournals.{HasOpenEntry, IsReady, IsReadyWith, IsUnreadable}
 use Rattle.proto_recovery.specs.Known.{Over, OverBoth}
 use Rattle.proto_recovery.specs.Torn.{IsTornBetween, Keeps}
-
--- how many bytes a journal has at most
-abbrev pub journal_limit : ℕ
-journal_limit = 16777216
 
 -- the store and the workspace are as before
 pub record Stays (from to : List FileOf) (old new : Option Held) : Type 0 where

@@ -8,9 +8,8 @@ use Rattle.proto_records.specs.declared.fault.JournalFault.{JournalFault}
 use Rattle.proto_records.specs.declared.fault.JournalFault.TheVariants as fault
 use Rattle.proto_records.specs.declared.record.Record.{Record}
 use Rattle.proto_records.specs.RecordText.{record_text}
-use Rattle.proto_records.specs.Journals.{IsJournal, is_last_open, done, opened}
+use Rattle.proto_records.specs.Journals.{IsJournal, is_last_open, done, journal_limit, opened}
 use Rattle.proto_store.specs.Stores.{Held, with_file}
-use Rattle.proto_journal.specs.Commits.{journal_limit}
 use Rattle.proto_recovery.specs.Known.{OverBoth}
 use Rattle.proto_recovery.specs.Torn.{IsBetween}
 

@@ -21,6 +21,7 @@ pub enum LoadFault {
     /// A call of the store failed.
     #[error("the store failed")]
     Store,
+    /// A growth was refused.
     #[error("no memory")]
     NoMemory,
 }

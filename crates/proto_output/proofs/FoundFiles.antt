@@ -1,7 +1,5 @@
 -- The text of the file at a path.
-use Rattle.std.proofs.Common.{◌≡◌, ◌≢◌, ◌<◌, ◌≤◌, ℕ, zero, suc, Bool, true, false, cond, List, [], ◌∷◌, Option, Some, None, IfNone, IfSome, refl, sym, ap, ◌∙◌, subst, arith, length}
-use Rattle.std.proofs.Math.Dec.{ltb}
-use Rattle.std.proofs.lemmas.Bool.{ltb-true, ltb-false}
+use Rattle.std.proofs.Common.{◌≡◌, ◌≢◌, ◌<◌, ◌≤◌, ℕ, zero, suc, Bool, true, false, cond, List, [], ◌∷◌, Option, Some, refl, sym, ap, ◌∙◌, subst, arith, length}
 use Rattle.std.specs.List.{AllPairs}
 use Rattle.std.specs.Option.{unwrap_or}
 use Rattle.std.specs.Str.{bytes_eq}
@@ -23,7 +21,7 @@ text_of_file (file ∷ files) (suc k) path apart inside same =
     ∙ text_of_file files k path (λ i j d less within. apart (suc i) (suc j) d (omega (arith, less)) (omega (arith, within))) (omega (arith, inside)) same
 
 -- where no file has the path, none is found
-pub text_of_none : (files : List FileOf) (path : List ℕ) → ((k : ℕ) → k < length files → (file_at files k).path ≢ path) → text_at path files ≡ []
+text_of_none : (files : List FileOf) (path : List ℕ) → ((k : ℕ) → k < length files → (file_at files k).path ≢ path) → text_at path files ≡ []
 text_of_none [] path none = refl
 text_of_none (file ∷ files) path none = go (text_of_none files path (λ k inside. none (suc k) (omega (arith, inside)))) (bytes_eq path file.path) refl
   where
@@ -36,16 +34,8 @@ past_end [] k past = refl
 past_end (file ∷ files) zero past = absurd (omega (arith, past))
 past_end (file ∷ files) (suc k) past = past_end files k (omega (arith, past))
 
--- the file that was found from a number on or before it, or the count of the files
-pub text_of_named : (files : List FileOf) (path : List ℕ) (start count : ℕ) (found : Option ℕ) → count ≡ length files → AllPairs (λ f g. IsBefore f.path g.path) files
-    → IfSome found (λ k. k < length files) → IfSome found (λ k. (file_at files k).path ≡ path)
-    → IfNone found ((k : ℕ) → 0 ≤ k → k < start → (file_at files k).path ≢ path)
-    → ((k : ℕ) → start ≤ k → k < count → (file_at files k).path ≢ path)
-    → (file_at files (unwrap_or found count)).bytes ≡ text_at path files
-text_of_named files path start count (Some k) long apart inside same none behind = sym (text_of_file files k path apart inside same)
-text_of_named files path start count None long apart inside same none behind =
-    past_end files count (omega (arith, long)) ∙ sym (text_of_none files path (λ k within. go k within (ltb k start) refl))
-  where
-    go : (k : ℕ) → k < length files → (b : Bool) → ltb k start ≡ b → (file_at files k).path ≢ path
-    go k within true e = none k (omega arith) (ltb-true k start e)
-    go k within false e = behind k (ltb-false k start e) (omega (arith, within, long))
+-- behind the last file there is no text, and none is found where no file has the path
+pub text_of_none_named : (files : List FileOf) (path : List ℕ) (count : ℕ) → count ≡ length files
+    → ((k : ℕ) → k < length files → (file_at files k).path ≢ path)
+    → (file_at files count).bytes ≡ text_at path files
+text_of_none_named files path count long none = past_end files count (omega (arith, long)) ∙ sym (text_of_none files path none)

@@ -1,6 +1,6 @@
 //! The lines of what rules find.
 
-ghost use Rattle.std.specs.Prelude.{◌≡◌, ◌≢◌, ℕ, ◌<◌, ◌≤◌, ◌++◌, flat_map, length, map, IfNone, IfOk, IfSome, OnOk};
+ghost use Rattle.std.specs.Prelude.{◌≡◌, ◌++◌, flat_map, map, IfOk, OnOk};
 ghost use Rattle.std.specs.String.{string_bytes};
 ghost use Rattle.proto_files.specs.GivenFiles.{file_at};
 ghost use Rattle.proto_findings.specs.Views.{finding_of};
@@ -10,7 +10,7 @@ ghost use Rattle.proto_text.specs.Lines.{column_at, line_at};
 
 use crate::place::{Cursor, Place};
 use proto_faults::NoMemory;
-use proto_files::Files;
+use proto_files::{Files, file_named};
 use proto_findings::Finding;
 use std::alloc::Global;
 
@@ -70,7 +70,7 @@ impl Spot {
         ensures column { result.cursor.place.column
             ≡ column_at (text_at path.now files.now) offset }
     {
-        let file = file_named(files, self.file, path);
+        let file = number_of(files, self.file, path);
         let cursor = if file == self.file {
             self.cursor
         } else {
@@ -98,34 +98,17 @@ fn text_of(files: &Files, file: usize) -> &[u8]
 pub(crate) fn text_named<'a>(files: &'a Files, path: &str) -> &'a [u8]
     ensures { result.now ≡ text_at path.now files.now }
 {
-    text_of(files, file_named(files, 0, path))
+    text_of(files, number_of(files, 0, path))
 }
 
 // The number of the file at a path, which is looked for from a number on and then before it; the count of the files where
 // there is none.
-fn file_named(files: &Files, start: usize, path: &str) -> usize
+fn number_of(files: &Files, start: usize, path: &str) -> usize
     ensures { (file_at files.now result).bytes ≡ text_at path.now files.now }
 {
     let count = files.len();
-    let start = start.min(count);
-    match file_between(files, start, count, path) {
+    match file_named(files, start, path) {
         Some(file) => file,
-        None => file_between(files, 0, start, path).unwrap_or(count),
+        None => count,
     }
-}
-
-// The first file with the path among those with numbers from `start` to `end`.
-fn file_between(files: &Files, start: usize, end: usize, path: &str) -> Option<usize>
-    requires { end ≤ length files.now }
-    ensures within { IfSome result (λ file. file < length files.now) }
-    ensures path { IfSome result (λ file. (file_at files.now file).path ≡ path.now) }
-    ensures none { IfNone result ((file : ℕ)
-        → start ≤ file → file < end → (file_at files.now file).path ≢ path.now) }
-{
-    for file in start..end {
-        if files.path(file) == path {
-            return Some(file);
-        }
-    }
-    None
 }

@@ -1,11 +1,9 @@
 //! The changes that a rename makes of files.
 
-ghost use Rattle.std.specs.Prelude.{◌≡◌, ◌<◌, ◌++◌, List, length, map, option_map, IfOk, IfErr, OnOk};
+ghost use Rattle.std.specs.Prelude.{◌≡◌, ◌<◌, ◌++◌, length, map, option_map, IfOk, IfErr, OnOk};
 ghost use Rattle.proto_entries.specs.Entries.{change_of};
 ghost use Rattle.proto_files.specs.Faults.{HasNoFault};
-ghost use Rattle.proto_files.specs.FilesRead.{ReadOf, AreRead};
-ghost use Rattle.proto_imports.specs.Links.{LinkFaults, text_of};
-ghost use Rattle.proto_meaning.specs.Grown.{at};
+ghost use Rattle.proto_imports.specs.Links.{LinkFaults};
 ghost use Rattle.proto_names.specs.LinkOfFiles.{IsLinkOf};
 ghost use Rattle.proto_rename.specs.Changes.{AreChangesOf, IsChangesFault, IsValueOf, IsChangeIn, IsFaultIn};
 ghost use Rattle.proto_rewording.specs.StandingTokens.{listed};
@@ -14,7 +12,7 @@ ghost use Rattle.proto_targets.specs.Aims.{IsAimOf};
 use crate::places::places_in;
 use proto_entries::Change;
 use proto_faults::NoMemory;
-use proto_files::{Files, Words, are_read};
+use proto_files::{Files, Words};
 use proto_members::enum_name;
 use proto_names::Link;
 use proto_rewording::{RewordFault, change_of_file};

@@ -1,18 +1,15 @@
 //! The tokens of a file that a rename changes.
 
-ghost use Rattle.std.specs.Prelude.{◌≡◌, ◌<◌, ◌++◌, List, [], length, IfOk, OnOk, option_map, string_bytes};
+ghost use Rattle.std.specs.Prelude.{◌≡◌, ◌<◌, ◌++◌, length, IfOk, OnOk, option_map};
 ghost use Rattle.proto_files.specs.Faults.{HasNoFault};
-ghost use Rattle.proto_files.specs.FilesRead.{ReadOf, AreRead};
-ghost use Rattle.proto_imports.specs.Links.{LinkFaults, text_of};
+ghost use Rattle.proto_imports.specs.Links.{LinkFaults};
 ghost use Rattle.proto_meaning.specs.Grown.{at};
-ghost use Rattle.proto_meaning.specs.Joined.{joined};
 ghost use Rattle.proto_names.specs.LinkOfFiles.{IsLinkOf};
-ghost use Rattle.proto_rename_laws.specs.Targets.{Target};
 ghost use Rattle.proto_rename.specs.Changes.{ArePlacesIn, IsValueOf, HasDefaultsIn, or_own};
-ghost use Rattle.proto_targets.specs.Aims.{IsAimOf, IsAimedAt};
+ghost use Rattle.proto_targets.specs.Aims.{IsAimOf};
 
 use proto_faults::NoMemory;
-use proto_files::{Files, are_read};
+use proto_files::Files;
 use proto_members::renamed_defaults_in;
 use proto_names::Link;
 use proto_rewording::standing_in;

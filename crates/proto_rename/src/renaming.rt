@@ -1,6 +1,6 @@
 //! The rename of a name.
 
-ghost use Rattle.std.specs.Prelude.{◌≡◌, ◌<◌, List, length, map, IfOk, IfErr};
+ghost use Rattle.std.specs.Prelude.{◌<◌, length, map, IfOk, IfErr};
 ghost use Rattle.proto_entries.specs.Entries.{change_of};
 ghost use Rattle.proto_files.specs.Faults.{HasNoFault};
 ghost use Rattle.proto_imports.specs.Links.{LinkFaults};
@@ -83,7 +83,8 @@ fn renamed<'a>(
 }
 
 /// What the rename of a full name, without a leading dot, to a new simple name changes, file by file; or the least case
-/// that refuses it.
+/// that refuses it, by number: UnknownTarget, KindNotAllowed, NotAnIdentifier, KeywordName, SameName, Collision,
+/// Captured (with its place), NameReserved, JsonClash, TooLarge. `NoMemory` may come in place of any answer.
 pub fn rename(
     alloc: Global,
     files: &Files,

@@ -1,5 +1,5 @@
 -- What is told of a recovery, and what the command then answers.
-use Rattle.std.proofs.Common.{◌≡◌, Bool, Option, Result, Ok, Err}
+use Rattle.std.proofs.Common.{◌≡◌, Option, Result, Ok, Err}
 use Rattle.proto_entries.specs.declared.refusal.Refusal.TheVariants as refusal
 use Rattle.proto_output.specs.RecoveryLines.{plain_refused_line}
 use Rattle.proto_output.specs.declared.answer.Answer.{Answer}
