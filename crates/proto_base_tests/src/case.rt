@@ -1,6 +1,9 @@
 //! Names and versions, with answers worked out by hand.
 
-use proto_case::{is_lower_snake, is_pascal, is_upper_snake, is_version, upper};
+use crate::expect::expect;
+use proto_case::{
+    camel_from, entry_name, is_lower_snake, is_pascal, is_upper_snake, is_version, upper,
+};
 use proto_faults::NoMemory;
 use std::alloc::Global;
 use std::test::Fail;
@@ -13,82 +16,41 @@ enum Rule {
     Version,
 }
 
-/// A rule, whether it holds, and names of which it does so.
-type Names = (Rule, bool, &'static [&'static str]);
-
-const NAMES: &[Names] = &[
-    (
-        Rule::LowerSnake,
-        true,
-        &["a", "z9", "a1_b", "a_1", "foo_bar_baz"],
-    ),
+/// A rule, whether it holds, and names of which it does so, with `|` between them.
+const NAMES: &[(Rule, bool, &str)] = &[
+    (Rule::LowerSnake, true, "a|z9|a1_b|a_1|foo_bar_baz"),
     (
         Rule::LowerSnake,
         false,
-        &[
-            "", "_", "_a", "a_", "a__b", "A", "aB", "1a", "a-b", "a.b", "\u{e4}", "a\u{e4}",
-        ],
+        "|_|_a|a_|a__b|A|aB|1a|a-b|a.b|\u{e4}|a\u{e4}",
     ),
-    (
-        Rule::UpperSnake,
-        true,
-        &["A", "Z9", "A1_B", "A_1", "FOO_BAR_BAZ"],
-    ),
+    (Rule::UpperSnake, true, "A|Z9|A1_B|A_1|FOO_BAR_BAZ"),
     (
         Rule::UpperSnake,
         false,
-        &[
-            "", "_", "_A", "A_", "A__B", "a", "Ab", "1A", "A-B", "A.B", "\u{c4}", "A\u{c4}",
-        ],
+        "|_|_A|A_|A__B|a|Ab|1A|A-B|A.B|\u{c4}|A\u{c4}",
     ),
-    (
-        Rule::Pascal,
-        true,
-        &["Foo", "F", "F1", "FooBar", "HTTPCode", "A2b"],
-    ),
+    (Rule::Pascal, true, "Foo|F|F1|FooBar|HTTPCode|A2b"),
     (
         Rule::Pascal,
         false,
-        &[
-            "", "foo", "fooBar", "Foo_Bar", "Foo_", "_Foo", "1Foo", "Foo.Bar", "F\u{f6}o",
-        ],
+        "|foo|fooBar|Foo_Bar|Foo_|_Foo|1Foo|Foo.Bar|F\u{f6}o",
     ),
     (
         Rule::Version,
         true,
-        &[
-            "v1",
-            "v9",
-            "v10",
-            "v1alpha",
-            "v1alpha1",
-            "v1beta",
-            "v12beta3",
-            "v2alpha20",
-        ],
+        "v1|v9|v10|v1alpha|v1alpha1|v1beta|v12beta3|v2alpha20",
     ),
     (
         Rule::Version,
         false,
-        &[
-            "", "v", "V1", "1", "xv1", "v0", "v01", "v1gamma", "valpha", "v1alph",
-        ],
+        "|v|V1|1|xv1|v0|v01|v1gamma|valpha|v1alph",
     ),
     // Stages that are none.
     (
         Rule::Version,
         false,
-        &[
-            "v1Alpha",
-            "v1alpha0",
-            "v1alpha01",
-            "v1beta0",
-            "v1alphabeta",
-            "v1alpha1beta1",
-            "v1alpha1x",
-            "v1p1",
-            "v1 ",
-        ],
+        "v1Alpha|v1alpha0|v1alpha01|v1beta0|v1alphabeta|v1alpha1beta1|v1alpha1x|v1p1|v1 ",
     ),
 ];
 
@@ -104,39 +66,65 @@ fn holds(rule: &Rule, name: &str) -> bool {
 #[test]
 fn names_and_versions(rt: HostRuntime) {
     for (rule, wanted, names) in NAMES {
-        for name in *names {
+        for name in names.split('|') {
             assert!(rt; holds(rule, name) == *wanted, "{name}");
         }
     }
 }
 
-/// Names, each in upper snake.
-const UPPER: &[(&str, &str)] = &[
-    ("", ""),
-    ("A", "A"),
-    ("foo", "FOO"),
-    ("FooBar", "FOO_BAR"),
-    ("HTTPCode", "HTTP_CODE"),
-    ("fooBar", "FOO_BAR"),
-    ("Foo2Bar", "FOO2_BAR"),
-    ("Foo_Bar", "FOO_BAR"),
-    ("ABC", "ABC"),
-    ("ABc", "A_BC"),
-    ("aB1C", "A_B1_C"),
-    ("_Foo", "_FOO"),
-    ("AB_c", "AB_C"),
-    ("\u{e4}B", "\u{e4}B"),
-    ("\u{e4}Bc", "\u{e4}_BC"),
+/// What a name is turned into.
+enum Style {
+    Upper,
+    Camel,
+    /// Camel with its first letter in upper case.
+    Pascal,
+    Entry,
+}
+
+/// Names, each turned into another.
+const TURNED: &[(Style, &str, &str)] = &[
+    (Style::Upper, "", ""),
+    (Style::Upper, "A", "A"),
+    (Style::Upper, "foo", "FOO"),
+    (Style::Upper, "FooBar", "FOO_BAR"),
+    (Style::Upper, "HTTPCode", "HTTP_CODE"),
+    (Style::Upper, "fooBar", "FOO_BAR"),
+    (Style::Upper, "Foo2Bar", "FOO2_BAR"),
+    (Style::Upper, "Foo_Bar", "FOO_BAR"),
+    (Style::Upper, "ABC", "ABC"),
+    (Style::Upper, "ABc", "A_BC"),
+    (Style::Upper, "aB1C", "A_B1_C"),
+    (Style::Upper, "_Foo", "_FOO"),
+    (Style::Upper, "AB_c", "AB_C"),
+    (Style::Upper, "\u{e4}B", "\u{e4}B"),
+    (Style::Upper, "\u{e4}Bc", "\u{e4}_BC"),
+    (Style::Camel, "foo_bar", "fooBar"),
+    (Style::Camel, "_foo__Bar_", "FooBar"),
+    (Style::Camel, "a_\u{e4}", "a\u{e4}"),
+    (Style::Pascal, "foo_bar", "FooBar"),
+    (Style::Pascal, "\u{e4}_1a", "\u{e4}1a"),
+    (Style::Entry, "foo_bar", "FooBarEntry"),
+    (Style::Entry, "FooEntry", "FooEntryEntry"),
+    (Style::Entry, "_1", "1Entry"),
 ];
 
-fn is_upper(alloc: Global, name: &str, wanted: &str) -> Result<bool, NoMemory> {
-    Ok(upper(alloc, name)?.as_str() == wanted)
+fn turned(alloc: Global, style: &Style, name: &str) -> Result<String, NoMemory> {
+    match style {
+        Style::Upper => upper(alloc, name),
+        Style::Camel => camel_from(alloc, false, name),
+        Style::Pascal => camel_from(alloc, true, name),
+        Style::Entry => entry_name(alloc, name),
+    }
+}
+
+fn is_turned(alloc: Global, style: &Style, name: &str, wanted: &str) -> Result<bool, NoMemory> {
+    Ok(turned(alloc, style, name)?.as_str() == wanted)
 }
 
 #[test]
-fn names_in_upper_snake(rt: HostRuntime) -> Result<(), Fail> {
-    for (name, wanted) in UPPER {
-        assert!(rt; is_upper(rt.alloc(), name, wanted)?, "{name}");
+fn names_in_other_styles(rt: HostRuntime) -> Result<(), Fail> {
+    for (style, name, wanted) in TURNED {
+        expect(&rt, is_turned(rt.alloc(), style, name, wanted), name)?;
     }
     Ok(())
 }

@@ -4,7 +4,11 @@
 #[cfg(test)]
 mod case;
 #[cfg(test)]
+mod expect;
+#[cfg(test)]
 mod files;
+#[cfg(test)]
+mod repeated;
 #[cfg(test)]
 mod text;
 #[cfg(test)]

@@ -1,5 +1,7 @@
 //! Worked examples.
 
+use crate::expect::expect;
+use crate::repeated::repeated;
 use proto_faults::NoMemory;
 use proto_text::{
     Source, Splice, Splices, TextFault, TokenKind, apply_splices, invert, is_word, lex, stands_for,
@@ -7,15 +9,6 @@ use proto_text::{
 };
 use std::alloc::Global;
 use std::test::Fail;
-
-// The bytes, and so many spaces behind them.
-fn bytes_of(alloc: Global, front: &[u8], spaces: usize) -> Result<Vec<u8>, NoMemory> {
-    let mut bytes = Vec::from_slice(alloc, front)?;
-    for _ in 0..spaces {
-        bytes.push(b' ')?;
-    }
-    Ok(bytes)
-}
 
 fn put_token(alloc: Global, out: &mut String, kind: TokenKind, word: &str) -> Result<(), NoMemory> {
     let token = format!(in alloc; "{kind:?}<{word}>")?;
@@ -44,9 +37,9 @@ fn shown(alloc: Global, bytes: Vec<u8>) -> Result<String, NoMemory> {
     }
 }
 
-// Whether the bytes, with so many spaces behind them, have these tokens or this fault.
-fn is_shown(alloc: Global, front: &[u8], spaces: usize, said: &str) -> Result<bool, NoMemory> {
-    let bytes = bytes_of(alloc, front, spaces)?;
+// Whether the text, so many times, has these tokens or this fault.
+fn is_shown(alloc: Global, text: &[u8], count: usize, said: &str) -> Result<bool, NoMemory> {
+    let bytes = repeated(alloc, text, count)?;
     Ok(shown(alloc, bytes)?.as_str() == said)
 }
 
@@ -61,6 +54,12 @@ const TEXTS: &[(&str, &str)] = &[
         "Word<a>Word<b>Number<0x1F>Number<07>Number<0>Number<19>",
     ),
     ("1.5", "Number<1>Punctuation<.>Number<5>"),
+    ("0Xa", "Number<0Xa>"),
+    ("a\tb\u{c}c\rd", "Word<a>Word<b>Word<c>Word<d>"),
+    (
+        "{}[]()<>;,=.-",
+        "Punctuation<{>Punctuation<}>Punctuation<[>Punctuation<]>Punctuation<(>Punctuation<)>Punctuation<<>Punctuation<>>Punctuation<;>Punctuation<,>Punctuation<=>Punctuation<.>Punctuation<->",
+    ),
     ("_a1'x'2", "Word<_a1>Text<'x'>Number<2>"),
     ("/*é\u{feff}*/'\u{feff}'", "Text<'\u{feff}'>"),
     (
@@ -74,6 +73,7 @@ const TEXTS: &[(&str, &str)] = &[
     ("/*/", "4 OpenComment 0"),
     ("a /*/", "4 OpenComment 2"),
     ("\"abc", "5 OpenString 0"),
+    ("'a\n", "5 OpenString 0"),
     ("'a\u{0}'", "5 OpenString 0"),
     ("'\\'", "5 OpenString 0"),
     ("'\\\u{0}'", "5 OpenString 0"),
@@ -106,22 +106,22 @@ const TEXTS: &[(&str, &str)] = &[
 #[test]
 fn tokens(rt: HostRuntime) -> Result<(), Fail> {
     for (text, said) in TEXTS {
-        assert!(rt; is_shown(rt.alloc(), text.as_bytes(), 0, said)?, "{text}");
+        expect(&rt, is_shown(rt.alloc(), text.as_bytes(), 1, said), text)?;
     }
     Ok(())
 }
 
-/// Bytes, so many spaces behind them, and what is said of them.
+/// Texts, how often each stands in a file, and what is said of that.
 const LIMITS: &[(&[u8], usize, &str)] = &[
-    (b"", 1048576, ""),
-    (b"", 1048577, "1 TooLarge 0"),
-    (b"a\xff", 0, "2 NotUtf8 0"),
+    (b" ", 1048576, ""),
+    (b" ", 1048577, "1 TooLarge 0"),
+    (b"a\xff", 1, "2 NotUtf8 0"),
 ];
 
 #[test]
 fn limits(rt: HostRuntime) -> Result<(), Fail> {
-    for (front, spaces, said) in LIMITS {
-        assert!(rt; is_shown(rt.alloc(), front, *spaces, said)?, "{said}");
+    for (text, count, said) in LIMITS {
+        expect(&rt, is_shown(rt.alloc(), text, *count, said), said)?;
     }
     Ok(())
 }
@@ -168,8 +168,8 @@ fn values(alloc: Global, text: &str) -> Result<String, TextFault> {
 #[test]
 fn string_values(rt: HostRuntime) -> Result<(), Fail> {
     let text =
-        "'plain' '' \"proto\\x33\" '\\1234\\x414' '\\101\\x4\\n\\'' '\\0\\08' '\\303\\251é' '\\a\\b\\f\\r\\t\\v\\?\\\\\\\"'";
-    let want = "plainproto3S4A4A\u{4}\n'\u{0}\u{0}8éé\u{7}\u{8}\u{c}\r\t\u{b}?\\\"";
+        "'plain' '' \"proto\\x33\" '\\1234\\x414' '\\101\\x4\\n\\'' '\\0\\08' '\\303\\251é' '\\xC3\\xA9' '\\a\\b\\f\\r\\t\\v\\?\\\\\\\"'";
+    let want = "plainproto3S4A4A\u{4}\n'\u{0}\u{0}8ééé\u{7}\u{8}\u{c}\r\t\u{b}?\\\"";
     assert!(rt; values(rt.alloc(), text)?.as_str() == want);
     Ok(())
 }
@@ -205,57 +205,23 @@ fn words_and_other_values(rt: HostRuntime) {
     }
 }
 
-/// Splices, and a text that they are tried on.
-struct Trial {
-    /// Offset, old and new text each.
-    splices: &'static [(u32, &'static str, &'static str)],
-    /// Whether they are inverted first.
-    is_back: bool,
-    text: &'static [u8],
-    /// How many spaces stand behind the text.
-    spaces: usize,
-    /// The splices that are tried, and the text with them or the fault; or why the splices are none.
-    said: &'static str,
-}
+/// Splices: the offset, the old and the new text of each.
+type Rows = &'static [(u32, &'static str, &'static str)];
 
-const TWO: &[(u32, &str, &str)] = &[(0, "ab", "xyz"), (3, "cd", "")];
+const TWO: Rows = &[(0, "ab", "xyz"), (3, "cd", "")];
 
-const TRIALS: &[Trial] = &[
-    Trial {
-        splices: TWO,
-        is_back: false,
-        text: b"ab cd",
-        spaces: 0,
-        said: "(0 ab xyz)(3 cd )xyz ",
-    },
-    Trial {
-        splices: TWO,
-        is_back: false,
-        text: b"ab ce",
-        spaces: 0,
-        said: "(0 ab xyz)(3 cd )1 Stale",
-    },
-    Trial {
-        splices: TWO,
-        is_back: true,
-        text: b"xyz ",
-        spaces: 0,
-        said: "(0 xyz ab)(4  cd)ab cd",
-    },
-    Trial {
-        splices: &[(0, "", "b")],
-        is_back: false,
-        text: b"",
-        spaces: 1048576,
-        said: "(0  b)2 TooLarge",
-    },
-    Trial {
-        splices: &[(1, "ab", ""), (2, "c", "")],
-        is_back: false,
-        text: b"",
-        spaces: 0,
-        said: "Disorder",
-    },
+/// Splices; whether they are inverted first; a text, and how often it stands in the one that they are tried on; and what
+/// is said: the splices that are tried and the text with them or the fault, or why the splices are none.
+const TRIALS: &[(Rows, bool, &[u8], usize, &str)] = &[
+    (TWO, false, b"ab cd", 1, "(0 ab xyz)(3 cd )xyz "),
+    (TWO, false, b"ab ce", 1, "(0 ab xyz)(3 cd )1 Stale"),
+    (TWO, true, b"xyz ", 1, "(0 xyz ab)(4  cd)ab cd"),
+    (&[(0, "", "b")], false, b" ", 1048576, "(0  b)2 TooLarge"),
+    (&[(1, "ab", ""), (2, "c", "")], false, b"", 1, "Disorder"),
+    // None ends past the limit, in either text.
+    (&[(1048576, "a", "")], false, b"", 1, "Disorder"),
+    (&[(1048576, "", "a")], false, b"", 1, "Disorder"),
+    (&[(1048576, "", "")], false, b"", 1, "(1048576  )1 Stale"),
 ];
 
 fn splice_of(alloc: Global, at: u32, old: &str, new: &str) -> Result<Splice, NoMemory> {
@@ -266,7 +232,7 @@ fn splice_of(alloc: Global, at: u32, old: &str, new: &str) -> Result<Splice, NoM
     })
 }
 
-fn splices_of(alloc: Global, rows: &[(u32, &str, &str)]) -> Result<Vec<Splice>, NoMemory> {
+fn splices_of(alloc: Global, rows: Rows) -> Result<Vec<Splice>, NoMemory> {
     let mut splices = Vec::new(alloc);
     for (at, old, new) in rows {
         splices.push(splice_of(alloc, *at, old, new)?)?;
@@ -308,26 +274,29 @@ fn tried(alloc: Global, splices: &Splices, text: &[u8]) -> Result<Vec<u8>, NoMem
     Ok(out)
 }
 
-// Whether of the splices and the text is said what the trial says.
-fn is_said(alloc: Global, trial: &Trial) -> Result<bool, NoMemory> {
-    let text = bytes_of(alloc, trial.text, trial.spaces)?;
-    match Splices::new(splices_of(alloc, trial.splices)?) {
+// Whether this is said of the splices, inverted first or not, and the text.
+fn is_said(
+    alloc: Global,
+    rows: Rows,
+    is_back: bool,
+    text: &[u8],
+    said: &str,
+) -> Result<bool, NoMemory> {
+    match Splices::new(splices_of(alloc, rows)?) {
         Ok(splices) => {
-            let splices = if trial.is_back {
-                invert(splices)
-            } else {
-                splices
-            };
-            Ok(tried(alloc, &splices, text.as_slice())?.as_slice() == trial.said.as_bytes())
+            let splices = if is_back { invert(splices) } else { splices };
+            Ok(tried(alloc, &splices, text)?.as_slice() == said.as_bytes())
         }
-        Err(fault) => Ok(fault.name() == trial.said),
+        Err(fault) => Ok(fault.name() == said),
     }
 }
 
 #[test]
 fn splices(rt: HostRuntime) -> Result<(), Fail> {
-    for trial in TRIALS {
-        assert!(rt; is_said(rt.alloc(), trial)?, "{}", trial.said);
+    for (rows, is_back, text, count, said) in TRIALS {
+        let text = repeated(rt.alloc(), text, *count)?;
+        let is_answer = is_said(rt.alloc(), rows, *is_back, text.as_slice(), said);
+        expect(&rt, is_answer, said)?;
     }
     Ok(())
 }

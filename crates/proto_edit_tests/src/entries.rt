@@ -1,27 +1,29 @@
 //! Entries that are made by hand.
 
-use super::calls::*;
-use super::rows::{DONE, ONE, Step, Texts};
-use proto_edit::*;
-use proto_faults::NoMemory;
+use super::rows::{DONE, ONE};
+use proto_edit::{Change, Entry, Refusal, Workspace};
+use proto_edit_rows::{Said, Step, Texts, are_texts, edit_of, is_said, open};
+use proto_faults::{NoMemory, SchemaFault};
 use proto_text::{Splice, Splices};
 use std::alloc::Global;
 use std::process::Abort;
 use std::test::Fail;
 
-fn splice(alloc: Global, at: u32, old: &str, new: &str) -> Result<Splice, NoMemory> {
+fn add_splice(
+    alloc: Global,
+    splices: &mut Vec<Splice>,
+    (at, old, new): (u32, &str, &str),
+) -> Result<(), NoMemory> {
     let old = String::from_str(alloc, old)?;
     let new = String::from_str(alloc, new)?;
-    Ok(Splice { at, old, new })
+    splices.push(Splice { at, old, new })?;
+    Ok(())
 }
 
 // One splice.
-fn splices<R: AllocGlobal + Abort>(
-    rt: &R,
-    (at, old, new): (u32, &str, &str),
-) -> Result<Splices, NoMemory> {
+fn splices<R: AllocGlobal + Abort>(rt: &R, of: (u32, &str, &str)) -> Result<Splices, NoMemory> {
     let mut splices = Vec::new(rt.alloc());
-    splices.push(splice(rt.alloc(), at, old, new)?)?;
+    add_splice(rt.alloc(), &mut splices, of)?;
     match Splices::new(splices) {
         Ok(splices) => Ok(splices),
         Err(fault) => panic!(rt; "{}", fault.name()),
@@ -71,7 +73,7 @@ fn expect_made<R: AllocGlobal + Abort>(
 ) -> Result<(), NoMemory> {
     let mut changes = Vec::new(rt.alloc());
     add_change(rt, &mut changes, path, lengths, splice)?;
-    assert!(rt; Entry::new(changes).is_some() == is_entry, "{path}");
+    assert!(rt; Entry::new(changes).is_some() == is_entry);
     Ok(())
 }
 
@@ -86,35 +88,43 @@ fn have_rules(rt: HostRuntime) -> Result<(), Fail> {
 
 // ---- a workspace beside its edit
 
-fn edited(alloc: Global, workspace: &Workspace, step: Step) -> Result<(Workspace, Entry), Refusal> {
-    let edit = edit_of(alloc, step)?;
+const STEP: Step = ("rename", "A.b_c", "d_e", "");
+
+const STALE: Said = (17, "Stale");
+
+fn edited(alloc: Global, workspace: &Workspace) -> Result<(Workspace, Entry), Refusal> {
+    let edit = edit_of(alloc, STEP)?;
     workspace.with_edit(alloc, &edit)
 }
 
-fn without(alloc: Global, workspace: &Workspace, entry: &Entry) -> Result<Workspace, Refusal> {
-    workspace.without_entry(alloc, entry)
+fn leads_back(alloc: Global, edited: &Workspace, entry: &Entry) -> Result<bool, Refusal> {
+    let again = edited.without_entry(alloc, entry)?;
+    Ok(are_texts(&again, ONE))
 }
 
 // The entry leads from the edited workspace back to the first one, which it does not fit.
-fn expect_without<R: AllocGlobal + Abort>(
+fn expect_beside<R: AllocGlobal + Abort>(
     rt: &R,
     workspace: &Workspace,
     edited: &Workspace,
     entry: &Entry,
-) -> Result<(), NoMemory> {
-    let again = made(rt, without(rt.alloc(), edited, entry))?;
-    assert!(rt; are_texts(edited, DONE) && are_texts(&again, ONE));
-    assert!(rt; said(without(rt.alloc(), workspace, entry)) == (17, "Stale"));
+) -> Result<(), Refusal> {
+    assert!(rt; are_texts(workspace, ONE) && are_texts(edited, DONE));
+    assert!(rt; leads_back(rt.alloc(), edited, entry)?);
+    assert!(rt; is_said(workspace.without_entry(rt.alloc(), entry), STALE));
+    assert!(rt; are_texts(workspace, ONE) && are_texts(edited, DONE));
     Ok(())
+}
+
+fn expect_edited<R: AllocGlobal + Abort>(rt: &R, workspace: &Workspace) -> Result<(), Refusal> {
+    let (edited, entry) = edited(rt.alloc(), workspace)?;
+    expect_beside(rt, workspace, &edited, &entry)
 }
 
 #[test]
 fn leave_a_workspace_beside_its_edit(rt: HostRuntime) -> Result<(), Fail> {
-    let workspace = opened(&rt, ONE)?;
-    let (edited, entry) = made(&rt, edited(rt.alloc(), &workspace, ("A.b_c", "d_e", "")))?;
-    assert!(rt; are_texts(&workspace, ONE) && are_texts(&edited, DONE));
-    expect_without(&rt, &workspace, &edited, &entry)?;
-    Ok(())
+    let workspace = open(rt.alloc(), ONE)?;
+    Ok(expect_edited(&rt, &workspace)?)
 }
 
 // ---- the way back
@@ -141,17 +151,19 @@ const HAS_M: (&str, &str) = (
 const OTHER: (&str, &str) = ("0.proto", "package z;");
 
 /// Files, of how many the entry from `M` to `N` speaks, what its undoing answers, and the files afterwards.
-type Back = (Texts, usize, (u32, &'static str), Texts);
+type Back = (Texts, usize, Said, Texts);
+
+const UNDONE: Said = (0, "done");
 
 // One file more stays as it is; where one is absent or not as it was left, or `M` would be there twice or not be found, nothing
 // changes.
 const BACK: &[Back] = &[
-    (&[N, USES_N], 2, (0, "done"), &[M, USES_M]),
-    (&[OTHER, N, USES_N], 2, (0, "done"), &[OTHER, M, USES_M]),
-    (&[M, USES_M], 2, (17, "Stale"), &[M, USES_M]),
-    (&[N], 2, (17, "Stale"), &[N]),
-    (&[N, USES_N], 1, (17, "Stale"), &[N, USES_N]),
-    (&[N, USES_N, HAS_M], 2, (17, "Stale"), &[N, USES_N, HAS_M]),
+    (&[N, USES_N], 2, UNDONE, &[M, USES_M]),
+    (&[OTHER, N, USES_N], 2, UNDONE, &[OTHER, M, USES_M]),
+    (&[M, USES_M], 2, STALE, &[M, USES_M]),
+    (&[N], 2, STALE, &[N]),
+    (&[N, USES_N], 1, STALE, &[N, USES_N]),
+    (&[N, USES_N, HAS_M], 2, STALE, &[N, USES_N, HAS_M]),
 ];
 
 fn entry_of<R: AllocGlobal + Abort>(rt: &R, files: usize) -> Result<Option<Entry>, NoMemory> {
@@ -163,26 +175,23 @@ fn entry_of<R: AllocGlobal + Abort>(rt: &R, files: usize) -> Result<Option<Entry
     Ok(Entry::new(changes))
 }
 
-// What the undoing of the entry is answered.
-fn undoing<R: AllocGlobal + Abort>(
+fn expect_undone<R: AllocGlobal + Abort>(
     rt: &R,
     workspace: &mut Workspace,
-    files: usize,
-) -> Result<(u32, &'static str), NoMemory> {
-    match entry_of(rt, files)? {
-        Some(entry) => Ok(said(undo(rt.alloc(), workspace, &entry))),
+    (_, count, answer, after): Back,
+) -> Result<(), SchemaFault> {
+    match entry_of(rt, count)? {
+        Some(entry) => assert!(rt; is_said(workspace.undo(rt.alloc(), &entry), answer)),
         None => panic!(rt; "no entry"),
     }
+    assert!(rt; are_texts(workspace, after));
+    Ok(())
 }
 
-fn expect_back<R: AllocGlobal + Abort>(
-    rt: &R,
-    (files, count, answer, after): Back,
-) -> Result<(), NoMemory> {
-    let mut workspace = opened(rt, files)?;
-    assert!(rt; undoing(rt, &mut workspace, count)? == answer);
-    assert!(rt; are_texts(&workspace, after));
-    Ok(())
+fn expect_back<R: AllocGlobal + Abort>(rt: &R, back: Back) -> Result<(), SchemaFault> {
+    let (files, ..) = back;
+    let mut workspace = open(rt.alloc(), files)?;
+    expect_undone(rt, &mut workspace, back)
 }
 
 #[test]

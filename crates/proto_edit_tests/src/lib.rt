@@ -4,10 +4,6 @@
 #[cfg(test)]
 mod allocations;
 #[cfg(test)]
-mod calls;
-#[cfg(test)]
-mod edited;
-#[cfg(test)]
 mod entries;
 #[cfg(test)]
 mod opening;

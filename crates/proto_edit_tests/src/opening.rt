@@ -1,7 +1,7 @@
 //! What `Workspace::open` answers: descriptors, or the least fault.
 
-use super::calls::*;
-use super::rows::Texts;
+use proto_edit::to_json;
+use proto_edit_rows::{Texts, are_texts, open};
 use proto_faults::{Fault, NoMemory, SchemaFault};
 use std::alloc::Global;
 use std::process::Abort;
@@ -17,7 +17,7 @@ fn told_of_fault(alloc: Global, fault: &Fault) -> Result<String, NoMemory> {
 // The descriptors of files, or their fault.
 fn answer(alloc: Global, texts: &[(&str, &str)]) -> Result<String, NoMemory> {
     match open(alloc, texts) {
-        Ok(workspace) => json_of(alloc, &workspace),
+        Ok(workspace) => to_json(alloc, workspace.descriptors()),
         Err(SchemaFault::Schema(fault)) => told_of_fault(alloc, &fault),
         Err(SchemaFault::NoMemory) => Err(NoMemory),
     }
@@ -28,7 +28,8 @@ fn expect_answer<R: AllocGlobal + Abort>(
     texts: &[(&str, &str)],
     wanted: &str,
 ) -> Result<(), NoMemory> {
-    assert_eq!(rt; answer(rt.alloc(), texts)?.as_str(), wanted);
+    let answer = answer(rt.alloc(), texts)?;
+    assert!(rt; answer.as_str() == wanted, "{answer}");
     Ok(())
 }
 
@@ -72,9 +73,13 @@ fn tells_descriptors_or_the_least_fault(rt: HostRuntime) -> Result<(), Fail> {
     Ok(())
 }
 
+fn opens_as(alloc: Global, given: Texts, files: Texts) -> Result<bool, SchemaFault> {
+    let workspace = open(alloc, given)?;
+    Ok(are_texts(&workspace, files))
+}
+
 #[test]
 fn sorts_the_files_by_their_paths(rt: HostRuntime) -> Result<(), Fail> {
-    let workspace = opened(&rt, PACKAGES)?;
-    assert!(rt; are_texts(&workspace, SORTED));
+    assert!(rt; opens_as(rt.alloc(), PACKAGES, SORTED)?);
     Ok(())
 }

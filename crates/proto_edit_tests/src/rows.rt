@@ -1,20 +1,6 @@
 //! Renames with their answers by the rules of docs/edits.md. Places are counted in the texts.
 
-/// Files: paths and texts.
-pub(crate) type Texts = &'static [(&'static str, &'static str)];
-
-pub(crate) struct Row {
-    pub(crate) files: Texts,
-    pub(crate) steps: &'static [Step],
-    /// The files afterwards; none where they are as before.
-    pub(crate) after: Texts,
-    /// What stands in the descriptors afterwards.
-    pub(crate) json: &'static str,
-}
-
-/// What is renamed, its new name, and the answer: a refusal, or each changed file with its lengths before and after and with
-/// its splices by place, old and new text.
-pub(crate) type Step = (&'static str, &'static str, &'static str);
+use proto_edit_rows::{Row, Texts};
 
 /// The text of `ONE`.
 pub(crate) const TEXT: &str = "syntax = \"proto3\"; message A { string b_c = 1; }";
@@ -37,7 +23,7 @@ pub(crate) const VALUE: Row = Row {
         "a.proto",
         "message M { enum E { V = 0; } optional E e = 1 [default = V]; } message N { enum F { V = 0; } optional F f = 1 [default = V]; }",
     )],
-    steps: &[("M.V", "W", "a.proto 127 127 (21 V W) (58 V W);")],
+    steps: &[("rename", "M.V", "W", "a.proto 127 127 (21 V W) (58 V W);")],
     after: &[(
         "a.proto",
         "message M { enum E { W = 0; } optional E e = 1 [default = W]; } message N { enum F { V = 0; } optional F f = 1 [default = V]; }",
@@ -49,7 +35,7 @@ pub(crate) const VALUE: Row = Row {
 pub(crate) const MEMBERS: &[Row] = &[
     Row {
         files: ONE,
-        steps: &[("A.b_c", "d_e", "a.proto 48 48 (38 b_c d_e);")],
+        steps: &[("rename", "A.b_c", "d_e", "a.proto 48 48 (38 b_c d_e);")],
         after: DONE,
         json: "{\"file\":[{\"messageType\":[{\"field\":[{\"jsonName\":\"dE\",\"label\":\"LABEL_OPTIONAL\",\"name\":\"d_e\",\"number\":1,\"type\":\"TYPE_STRING\"}],\"name\":\"A\"}],\"name\":\"a.proto\",\"syntax\":\"proto3\"}]}",
     },
@@ -58,7 +44,7 @@ pub(crate) const MEMBERS: &[Row] = &[
             "a.proto",
             "syntax = \"proto3\"; message A { string b_c = 1 [json_name = \"q\"]; }",
         )],
-        steps: &[("A.b_c", "d_e", "a.proto 66 66 (38 b_c d_e);")],
+        steps: &[("rename", "A.b_c", "d_e", "a.proto 66 66 (38 b_c d_e);")],
         after: &[(
             "a.proto",
             "syntax = \"proto3\"; message A { string d_e = 1 [json_name = \"q\"]; }",
@@ -70,7 +56,7 @@ pub(crate) const MEMBERS: &[Row] = &[
             "a.proto",
             "message M { optional string fooBar = 1; optional string x = 2; }",
         )],
-        steps: &[("M.x", "foo_bar", "a.proto 64 70 (56 x foo_bar);")],
+        steps: &[("rename", "M.x", "foo_bar", "a.proto 64 70 (56 x foo_bar);")],
         after: &[(
             "a.proto",
             "message M { optional string fooBar = 1; optional string foo_bar = 2; }",
@@ -83,7 +69,7 @@ pub(crate) const MEMBERS: &[Row] = &[
             "a.proto",
             "message M {} service S { rpc Get(M) returns (M); }",
         )],
-        steps: &[("S.Get", "M", "a.proto 50 48 (29 Get M);")],
+        steps: &[("rename", "S.Get", "M", "a.proto 50 48 (29 Get M);")],
         after: &[(
             "a.proto",
             "message M {} service S { rpc M(M) returns (M); }",
@@ -106,6 +92,7 @@ pub(crate) const WIDE: Row = Row {
         ),
     ],
     steps: &[(
+        "rename",
         "M",
         "N",
         "a.proto 31 31 (27 M N);b.proto 59 59 (49 M N);c.proto 59 59 (49 M N);",
@@ -131,7 +118,7 @@ pub(crate) const TYPES: &[Row] = &[
             "a.proto",
             "syntax = \"proto3\"; package p; message Inner {} message A { message B {} .p.Inner x = 1; }",
         )],
-        steps: &[("p.A.B", "Inner", "a.proto 89 93 (67 B Inner);")],
+        steps: &[("rename", "p.A.B", "Inner", "a.proto 89 93 (67 B Inner);")],
         after: &[(
             "a.proto",
             "syntax = \"proto3\"; package p; message Inner {} message A { message Inner {} .p.Inner x = 1; }",
@@ -143,7 +130,7 @@ pub(crate) const TYPES: &[Row] = &[
             "a.proto",
             "syntax = \"proto3\"; package p; message M {} message A { p . /* x */ M f = 1; }",
         )],
-        steps: &[("p.M", "N", "a.proto 77 77 (38 M N) (67 M N);")],
+        steps: &[("rename", "p.M", "N", "a.proto 77 77 (38 M N) (67 M N);")],
         after: &[(
             "a.proto",
             "syntax = \"proto3\"; package p; message N {} message A { p . /* x */ N f = 1; }",
@@ -155,7 +142,7 @@ pub(crate) const TYPES: &[Row] = &[
             "a.proto",
             "syntax = \"proto3\"; package p; message A { message B { message C {} } A.B.C c = 1; }",
         )],
-        steps: &[("p.A.B", "X", "a.proto 83 83 (50 B X) (71 B X);")],
+        steps: &[("rename", "p.A.B", "X", "a.proto 83 83 (50 B X) (71 B X);")],
         after: &[(
             "a.proto",
             "syntax = \"proto3\"; package p; message A { message X { message C {} } A.X.C c = 1; }",
@@ -173,6 +160,7 @@ pub(crate) const TYPES: &[Row] = &[
             ),
         ],
         steps: &[(
+            "rename",
             "p.E",
             "Kind",
             "a.proto 28 31 (16 E Kind);c.proto 88 94 (43 E Kind) (64 E Kind);",
@@ -195,7 +183,12 @@ pub(crate) const FIRST_MAP: Row = Row {
         "a.proto",
         "syntax = \"proto3\"; message M { map<string,int32> foo = 1; }",
     )],
-    steps: &[("M.foo", "FooEntry", "a.proto 59 64 (49 foo FooEntry);")],
+    steps: &[(
+        "rename",
+        "M.foo",
+        "FooEntry",
+        "a.proto 59 64 (49 foo FooEntry);",
+    )],
     after: &[(
         "a.proto",
         "syntax = \"proto3\"; message M { map<string,int32> FooEntry = 1; }",
@@ -208,19 +201,24 @@ pub(crate) const MAPS: &[Row] = &[
     FIRST_MAP,
     Row {
         files: &[("a.proto", "message M { map<int32,int32> FooEntry = 1; }")],
-        steps: &[("M.FooEntry", "foo", "a.proto 44 39 (29 FooEntry foo);")],
+        steps: &[(
+            "rename",
+            "M.FooEntry",
+            "foo",
+            "a.proto 44 39 (29 FooEntry foo);",
+        )],
         after: &[("a.proto", "message M { map<int32,int32> foo = 1; }")],
         json: "\"name\":\"foo\",\"number\":1,\"type\":\"TYPE_MESSAGE\",\"typeName\":\".M.FooEntry\"}",
     },
     Row {
         files: &[("a.proto", "message M { map<int32,int32> foo = 1; }")],
-        steps: &[("M.foo", "f_oo", "a.proto 39 40 (29 foo f_oo);")],
+        steps: &[("rename", "M.foo", "f_oo", "a.proto 39 40 (29 foo f_oo);")],
         after: &[("a.proto", "message M { map<int32,int32> f_oo = 1; }")],
         json: "\"jsonName\":\"fOo\",\"label\":\"LABEL_REPEATED\",\"name\":\"f_oo\",\"number\":1,\"type\":\"TYPE_MESSAGE\",\"typeName\":\".M.FOoEntry\"}",
     },
     Row {
         files: &[("a.proto", "message M { map<int32,int32> foo = 1; }")],
-        steps: &[("M.foo", "Foo", "a.proto 39 39 (29 foo Foo);")],
+        steps: &[("rename", "M.foo", "Foo", "a.proto 39 39 (29 foo Foo);")],
         after: &[("a.proto", "message M { map<int32,int32> Foo = 1; }")],
         json: "\"typeName\":\".M.FooEntry\"}",
     },
@@ -231,13 +229,18 @@ pub(crate) const NAMES: &[Row] = &[
     Row {
         files: ONE,
         steps: &[
-            ("A.q", "r", "1 UnknownTarget"),
-            (".A.b_c", "r", "1 UnknownTarget"),
-            ("A.b_c", "9x", "3 NotAnIdentifier"),
-            ("A.b_c", "", "3 NotAnIdentifier"),
-            ("A", "message", "4 KeywordName"),
-            ("A", "A", "5 SameName"),
-            ("A.b_c", "message", "a.proto 48 52 (38 b_c message);"),
+            ("rename", "A.q", "r", "1 UnknownTarget"),
+            ("rename", ".A.b_c", "r", "1 UnknownTarget"),
+            ("rename", "A.b_c", "9x", "3 NotAnIdentifier"),
+            ("rename", "A.b_c", "", "3 NotAnIdentifier"),
+            ("rename", "A", "message", "4 KeywordName"),
+            ("rename", "A", "A", "5 SameName"),
+            (
+                "rename",
+                "A.b_c",
+                "message",
+                "a.proto 48 52 (38 b_c message);",
+            ),
         ],
         after: &[(
             "a.proto",
@@ -251,14 +254,14 @@ pub(crate) const NAMES: &[Row] = &[
             "syntax = \"proto3\"; package p; message M { reserved \"q\"; map<string,int32> b = 1; oneof o { M c = 2; } }",
         )],
         steps: &[
-            ("p", "q", "2 KindNotAllowed"),
-            ("p.M.o", "9x", "2 KindNotAllowed"),
-            ("p.M.BEntry", "q", "2 KindNotAllowed"),
-            ("p.M.BEntry.key", "q", "2 KindNotAllowed"),
-            ("p.M.c", "b", "6 Collision"),
-            ("p.M.c", "BEntry", "6 Collision"),
-            ("p.M.b", "q", "8 NameReserved"),
-            ("p.M.c", "q", "8 NameReserved"),
+            ("rename", "p", "q", "2 KindNotAllowed"),
+            ("rename", "p.M.o", "9x", "2 KindNotAllowed"),
+            ("rename", "p.M.BEntry", "q", "2 KindNotAllowed"),
+            ("rename", "p.M.BEntry.key", "q", "2 KindNotAllowed"),
+            ("rename", "p.M.c", "b", "6 Collision"),
+            ("rename", "p.M.c", "BEntry", "6 Collision"),
+            ("rename", "p.M.b", "q", "8 NameReserved"),
+            ("rename", "p.M.c", "q", "8 NameReserved"),
         ],
         after: &[],
         json: "",
@@ -266,10 +269,10 @@ pub(crate) const NAMES: &[Row] = &[
     Row {
         files: &[("a.proto", "enum E { V = 0; reserved \"W\"; } service S {}")],
         steps: &[
-            ("V", "option", "4 KeywordName"),
-            ("S", "max", "4 KeywordName"),
-            ("V", "S", "6 Collision"),
-            ("V", "W", "8 NameReserved"),
+            ("rename", "V", "option", "4 KeywordName"),
+            ("rename", "S", "max", "4 KeywordName"),
+            ("rename", "V", "S", "6 Collision"),
+            ("rename", "V", "W", "8 NameReserved"),
         ],
         after: &[],
         json: "",
@@ -280,8 +283,8 @@ pub(crate) const NAMES: &[Row] = &[
             "syntax = \"proto3\"; message M { string fooBar = 1; string x = 2; }",
         )],
         steps: &[
-            ("M.x", "fooBar", "6 Collision"),
-            ("M.x", "foo_bar", "9 JsonClash"),
+            ("rename", "M.x", "fooBar", "6 Collision"),
+            ("rename", "M.x", "foo_bar", "9 JsonClash"),
         ],
         after: &[],
         json: "",
@@ -291,7 +294,7 @@ pub(crate) const NAMES: &[Row] = &[
             ("a.proto", "package p; message A {}"),
             ("b.proto", "package p.q;"),
         ],
-        steps: &[("p.A", "q", "6 Collision")],
+        steps: &[("rename", "p.A", "q", "6 Collision")],
         after: &[],
         json: "",
     },
@@ -304,7 +307,7 @@ pub(crate) const CAPTURES: &[Row] = &[
             "a.proto",
             "syntax = \"proto3\"; package p; message Inner {} message A { message B {} Inner x = 1; }",
         )],
-        steps: &[("p.A.B", "Inner", "7 Captured a.proto 72")],
+        steps: &[("rename", "p.A.B", "Inner", "7 Captured a.proto 72")],
         after: &[],
         json: "",
     },
@@ -313,7 +316,7 @@ pub(crate) const CAPTURES: &[Row] = &[
             "a.proto",
             "syntax = \"proto3\"; package p; message M {} message Q { message N {} M x = 1; }",
         )],
-        steps: &[("p.M", "N", "7 Captured a.proto 68")],
+        steps: &[("rename", "p.M", "N", "7 Captured a.proto 68")],
         after: &[],
         json: "",
     },
@@ -325,7 +328,7 @@ pub(crate) const CAPTURES: &[Row] = &[
             ),
             ("c.proto", "syntax = \"proto3\"; package a.c; message X {}"),
         ],
-        steps: &[("a.b.S", "c", "7 Captured a.proto 62")],
+        steps: &[("rename", "a.b.S", "c", "7 Captured a.proto 62")],
         after: &[],
         json: "",
     },
@@ -334,7 +337,7 @@ pub(crate) const CAPTURES: &[Row] = &[
             "a.proto",
             "message BarEntry {} message M { map<string,int32> foo = 1; optional BarEntry x = 2; }",
         )],
-        steps: &[("M.foo", "bar", "7 Captured a.proto 68")],
+        steps: &[("rename", "M.foo", "bar", "7 Captured a.proto 68")],
         after: &[],
         json: "",
     },
@@ -345,9 +348,9 @@ pub(crate) const RUNS: &[Row] = &[
     Row {
         files: ONE,
         steps: &[
-            ("A.b_c", "d_e", "a.proto 48 48 (38 b_c d_e);"),
-            ("A.b_c", "x", "1 UnknownTarget"),
-            ("A.d_e", "f", "a.proto 48 46 (38 d_e f);"),
+            ("rename", "A.b_c", "d_e", "a.proto 48 48 (38 b_c d_e);"),
+            ("rename", "A.b_c", "x", "1 UnknownTarget"),
+            ("rename", "A.d_e", "f", "a.proto 48 46 (38 d_e f);"),
         ],
         after: LAST,
         json: "\"jsonName\":\"f\"",
@@ -365,26 +368,29 @@ pub(crate) const RUNS: &[Row] = &[
         ],
         steps: &[
             (
+                "rename",
                 "p.M",
                 "N",
                 "a.proto 77 77 (38 M N);b.proto 132 132 (41 M N) (108 M N);",
             ),
-            ("p.M", "X", "1 UnknownTarget"),
-            ("p.N.b_c", "dEf", "a.proto 77 77 (49 b_c dEf);"),
+            ("rename", "p.M", "X", "1 UnknownTarget"),
+            ("rename", "p.N.b_c", "dEf", "a.proto 77 77 (49 b_c dEf);"),
             (
+                "rename",
                 "p.V",
                 "NONE",
                 "a.proto 77 80 (69 V NONE);b.proto 132 135 (80 V NONE);",
             ),
             (
+                "rename",
                 "p.E",
                 "Kind",
                 "a.proto 80 83 (65 E Kind);b.proto 135 138 (61 E Kind);",
             ),
-            ("p.Kind", "N", "6 Collision"),
-            ("S", "T", "b.proto 138 138 (100 S T);"),
-            ("T.Get", "Put", "b.proto 138 138 (108 Get Put);"),
-            ("B", "message", "4 KeywordName"),
+            ("rename", "p.Kind", "N", "6 Collision"),
+            ("rename", "S", "T", "b.proto 138 138 (100 S T);"),
+            ("rename", "T.Get", "Put", "b.proto 138 138 (108 Get Put);"),
+            ("rename", "B", "message", "4 KeywordName"),
         ],
         after: &[
             (

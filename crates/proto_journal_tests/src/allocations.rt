@@ -59,10 +59,28 @@ fn is_left_so<R: AllocGlobal + Abort>(
     }
 }
 
+// Nothing is refused any more, so the same call is made.
+fn expect_made<R: AllocGlobal + Abort>(rt: &R, store: &mut MemoryStore) -> Result<(), LoadFault> {
+    let answer = called(rt, store, RENAME)?;
+    assert!(rt; answer == MADE, "again");
+    Ok(())
+}
+
+fn expect_one<R: AllocGlobal + Abort>(rt: &R, store: &mut MemoryStore) -> Result<(), LoadFault> {
+    let (said, text) = answered(rt, store)?;
+    let is_so = is_left_so(rt, store, said)?;
+    let (number, name, _) = said;
+    let wanted = if number == 0 { AFTER } else { BEFORE };
+    assert!(rt; is_so && text == wanted, "after {number} {name}");
+    if number == 6 {
+        expect_made(rt, store)?;
+    }
+    Ok(())
+}
+
 #[test]
 fn one_is_refused(rt: HostRuntime) -> Result<(), Fail> {
     let mut store = made_store(&rt)?;
-    let (said, _) = answered(&rt, &mut store)?;
-    assert!(rt; is_left_so(&rt, &mut store, said)?, "{said:?}");
+    expect_one(&rt, &mut store)?;
     Ok(())
 }

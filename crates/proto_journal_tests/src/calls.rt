@@ -1,11 +1,12 @@
 //! Each public call once, with what tests say of its answer.
 
-ghost use Rattle.std.specs.Prelude.{◌≡◌};
+ghost use Rattle.std.specs.Prelude.{◌≡◌, ◌-◌, ◌^◌, ◌<◌};
 
 use proto_faults::NoMemory;
 use proto_journal::*;
 use std::alloc::Global;
 use std::process::Abort;
+use std::test::Fail;
 
 pub(crate) const BEFORE: &str = "syntax = \"proto3\"; message A { string b_c = 1; }";
 
@@ -33,6 +34,8 @@ pub(crate) type Left = (&'static str, &'static str);
 pub(crate) const RENAME: Call = ("A.b_c", 0, false);
 
 pub(crate) const UNDO: Call = ("", 0, false);
+
+pub(crate) const READY: Said = (0, "done", 0);
 
 pub(crate) const MADE: Answer = ((0, "done", 0), AFTER);
 
@@ -87,49 +90,40 @@ fn text_of(workspace: &Workspace) -> &'static str {
     }
 }
 
-fn committed<R: AllocGlobal + Abort>(
+// Commits a rename of this name, or undoes the last entry where there is none.
+fn answered<R: AllocGlobal>(
     rt: &R,
     store: &mut MemoryStore,
-    (name, number, lands): Call,
-) -> Result<Answer, LoadFault> {
-    assert!(rt; store.failures() < u64::MAX);
-    let Ok(edit) = rename(rt.alloc(), name, "d_e") else {
-        return Err(LoadFault::NoMemory);
-    };
-    let mut workspace = load(rt.alloc(), store)?;
-    plan(store, number, lands);
-    let answer = commit(rt.alloc(), store, &mut workspace, edit);
-    Ok((said(answer), text_of(&workspace)))
-}
-
-fn undone<R: AllocGlobal + Abort>(
-    rt: &R,
-    store: &mut MemoryStore,
-    (_, number, lands): Call,
-) -> Result<Answer, LoadFault> {
-    assert!(rt; store.failures() < u64::MAX);
-    let mut workspace = load(rt.alloc(), store)?;
-    plan(store, number, lands);
-    let answer = undo_last(rt.alloc(), store, &mut workspace);
-    Ok((said(answer), text_of(&workspace)))
+    workspace: &mut Workspace,
+    name: &str,
+) -> Result<Said, NoMemory>
+    requires room { store.old.failures < 2 ^ 64 - 1 }
+    requires loaded { workspace.old ≡ store.old.held.files }
+{
+    if name.is_empty() {
+        return Ok(said(undo_last(rt.alloc(), store, workspace)));
+    }
+    let edit = rename(rt.alloc(), name, "d_e")?;
+    Ok(said(commit(rt.alloc(), store, workspace, edit)))
 }
 
 /// Commits a rename, or undoes the last entry, over a workspace that is loaded from the store.
 pub(crate) fn called<R: AllocGlobal + Abort>(
     rt: &R,
     store: &mut MemoryStore,
-    call: Call,
+    (name, number, lands): Call,
 ) -> Result<Answer, LoadFault> {
-    let (name, _, _) = call;
-    if name.is_empty() {
-        undone(rt, store, call)
-    } else {
-        committed(rt, store, call)
+    assert!(rt; store.failures() < u64::MAX);
+    let mut workspace = load(rt.alloc(), store)?;
+    plan(store, number, lands);
+    match answered(rt, store, &mut workspace, name) {
+        Ok(said) => Ok((said, text_of(&workspace))),
+        Err(NoMemory) => Err(LoadFault::NoMemory),
     }
 }
 
-/// What `ready` answers.
-pub(crate) fn said_ready<R: AllocGlobal + Abort>(rt: &R, store: &mut MemoryStore) -> Said {
+// What `ready` answers.
+fn said_ready<R: AllocGlobal + Abort>(rt: &R, store: &mut MemoryStore) -> Said {
     assert!(rt; store.failures() < u64::MAX);
     said(ready(rt.alloc(), store))
 }
@@ -151,7 +145,7 @@ fn has_file<R: AllocGlobal + Abort>(
     Ok(is_one(&files, text))
 }
 
-fn has_journal<R: AllocGlobal + Abort>(
+fn has_journal<R: Abort>(
     rt: &R,
     store: &mut MemoryStore,
     journal: &str,
@@ -170,23 +164,45 @@ pub(crate) fn is_left<R: AllocGlobal + Abort>(
     Ok(has_file(rt, store, text)? && has_journal(rt, store, journal)?)
 }
 
-/// The call is answered so, and the store is then left so.
-pub(crate) fn expect_call<R: AllocGlobal + Abort>(
+/// A call that is answered so, and how the store is then left.
+pub(crate) type Turn = (Call, Answer, Left);
+
+/// A store, what `ready` answers, and the calls that come then, one behind the other.
+pub(crate) type Row<'a> = (Left, Said, &'a [Turn]);
+
+/// The row holds over a store of its own.
+pub(crate) fn expect_row<R: AllocGlobal + Abort>(
+    rt: &R,
+    (left, ready, turns): Row,
+) -> Result<(), Fail> {
+    let mut store = store_of(rt.alloc(), left)?;
+    expect_turns(rt, &mut store, ready, turns)
+}
+
+fn expect_turns<R: AllocGlobal + Abort>(
     rt: &R,
     store: &mut MemoryStore,
-    call: Call,
-    answer: Answer,
-    left: Left,
+    ready: Said,
+    turns: &[Turn],
+) -> Result<(), Fail> {
+    assert!(rt; said_ready(rt, store) == ready, "ready");
+    for turn in turns {
+        expect_turn(rt, store, *turn)?;
+    }
+    Ok(())
+}
+
+fn expect_turn<R: AllocGlobal + Abort>(
+    rt: &R,
+    store: &mut MemoryStore,
+    (call, answer, left): Turn,
 ) -> Result<(), LoadFault> {
     let (name, number, lands) = call;
-    assert_eq!(rt;
-        called(rt, store, call)?,
-        answer,
-        "{name}, call {number}, {lands}"
-    );
-    assert!(rt;
-        is_left(rt, store, left)?,
-        "the store, {name}, call {number}, {lands}"
-    );
+    let answered = called(rt, store, call)?;
+    assert!(rt; answered == answer, "{name}, call {number}, {lands}");
+    // A failure that did not come is not to come now.
+    plan(store, u64::MAX, false);
+    let is_left = is_left(rt, store, left)?;
+    assert!(rt; is_left, "the store, {name}, call {number}, {lands}");
     Ok(())
 }

@@ -1,66 +1,53 @@
-//! Each store call of a commit and of an undo fails in turn, with old and with new bytes.
+//! Each store call of a commit and of an undo fails in turn, with old and with new bytes; there is no fifth call.
 
 use super::calls::*;
 use std::test::Fail;
 
-/// The number of the call that fails, whether the new bytes land, and the text and the journal that the store then has.
-type Cut = (u64, bool, &'static str, &'static str);
+const FAILED: Said = (4, "Store", 0);
+
+// The commit fails, and the workspace is as before.
+const CUT: Answer = (FAILED, BEFORE);
 
 // The calls are: read the journal, replace it, replace the file, replace the journal.
-const COMMITS: &[Cut] = &[
-    (1, false, BEFORE, ""),
-    (1, true, BEFORE, ""),
-    (2, false, BEFORE, ""),
-    (2, true, BEFORE, OPEN),
-    (3, false, BEFORE, OPEN),
-    (3, true, AFTER, OPEN),
-    (4, false, AFTER, OPEN),
-    (4, true, AFTER, DONE),
+const COMMITS: &[Turn] = &[
+    (("A.b_c", 1, false), CUT, (BEFORE, "")),
+    (("A.b_c", 1, true), CUT, (BEFORE, "")),
+    (("A.b_c", 2, false), CUT, (BEFORE, "")),
+    (("A.b_c", 2, true), CUT, (BEFORE, OPEN)),
+    (("A.b_c", 3, false), CUT, (BEFORE, OPEN)),
+    (("A.b_c", 3, true), CUT, (AFTER, OPEN)),
+    (("A.b_c", 4, false), CUT, (AFTER, OPEN)),
+    (("A.b_c", 4, true), CUT, (AFTER, DONE)),
+    (("A.b_c", 5, false), MADE, (AFTER, DONE)),
 ];
 
-const UNDOS: &[Cut] = &[
-    (1, false, AFTER, DONE),
-    (1, true, AFTER, DONE),
-    (2, false, AFTER, DONE),
-    (2, true, AFTER, OPEN),
-    (3, false, AFTER, OPEN),
-    (3, true, BEFORE, OPEN),
-    (4, false, BEFORE, OPEN),
-    (4, true, BEFORE, ""),
-];
+// The undo fails, and the workspace is as before.
+const UNDO_CUT: Answer = (FAILED, AFTER);
 
-const CUT: Said = (4, "Store", 0);
+const UNDOS: &[Turn] = &[
+    (("", 1, false), UNDO_CUT, (AFTER, DONE)),
+    (("", 1, true), UNDO_CUT, (AFTER, DONE)),
+    (("", 2, false), UNDO_CUT, (AFTER, DONE)),
+    (("", 2, true), UNDO_CUT, (AFTER, OPEN)),
+    (("", 3, false), UNDO_CUT, (AFTER, OPEN)),
+    (("", 3, true), UNDO_CUT, (BEFORE, OPEN)),
+    (("", 4, false), UNDO_CUT, (BEFORE, OPEN)),
+    (("", 4, true), UNDO_CUT, (BEFORE, "")),
+    (("", 5, false), TAKEN_BACK, (BEFORE, "")),
+];
 
 #[test]
 fn commits_are_cut(rt: HostRuntime) -> Result<(), Fail> {
-    for &(number, lands, text, journal) in COMMITS {
-        let mut store = store_of(rt.alloc(), (BEFORE, ""))?;
-        let call = ("A.b_c", number, lands);
-        expect_call(&rt, &mut store, call, (CUT, BEFORE), (text, journal))?;
+    for turn in COMMITS {
+        expect_row(&rt, ((BEFORE, ""), READY, &[*turn]))?;
     }
     Ok(())
 }
 
 #[test]
 fn undos_are_cut(rt: HostRuntime) -> Result<(), Fail> {
-    for &(number, lands, text, journal) in UNDOS {
-        let mut store = store_of(rt.alloc(), (AFTER, DONE))?;
-        let call = ("", number, lands);
-        expect_call(&rt, &mut store, call, (CUT, AFTER), (text, journal))?;
+    for turn in UNDOS {
+        expect_row(&rt, ((AFTER, DONE), READY, &[*turn]))?;
     }
-    Ok(())
-}
-
-#[test]
-fn no_fifth_call_fails(rt: HostRuntime) -> Result<(), Fail> {
-    let mut store = store_of(rt.alloc(), (BEFORE, ""))?;
-    assert_eq!(rt; called(&rt, &mut store, ("A.b_c", 5, false))?, MADE);
-    Ok(())
-}
-
-#[test]
-fn no_fifth_call_of_an_undo_fails(rt: HostRuntime) -> Result<(), Fail> {
-    let mut store = store_of(rt.alloc(), (AFTER, DONE))?;
-    assert_eq!(rt; called(&rt, &mut store, ("", 5, false))?, TAKEN_BACK);
     Ok(())
 }

@@ -11,26 +11,38 @@ const UNKNOWN: Answer = ((0, "UnknownTarget", 1), BEFORE);
 const TWICE: &str =
     "{\"files\":[{\"after\":48,\"before\":48,\"path\":\"a.proto\",\"splices\":[{\"at\":38,\"new\":\"d_e\",\"old\":\"b_c\"}]}],\"state\":\"done\",\"version\":1}\n{\"files\":[{\"after\":48,\"before\":48,\"path\":\"a.proto\",\"splices\":[{\"at\":38,\"new\":\"d_e\",\"old\":\"b_c\"}]}],\"state\":\"done\",\"version\":1}\n";
 
-#[test]
-fn a_rename_and_the_way_back(rt: HostRuntime) -> Result<(), Fail> {
-    let mut store = store_of(rt.alloc(), (BEFORE, ""))?;
-    expect_call(&rt, &mut store, RENAME, MADE, (AFTER, DONE))?;
-    expect_call(&rt, &mut store, UNDO, TAKEN_BACK, (BEFORE, ""))?;
-    expect_call(&rt, &mut store, UNDO, NOTHING, (BEFORE, ""))?;
-    Ok(())
-}
+const ROWS: &[Row] = &[
+    // A rename and the way back.
+    (
+        (BEFORE, ""),
+        READY,
+        &[
+            (RENAME, MADE, (AFTER, DONE)),
+            (UNDO, TAKEN_BACK, (BEFORE, "")),
+            (UNDO, NOTHING, (BEFORE, "")),
+        ],
+    ),
+    // A rename that is refused.
+    (
+        (BEFORE, ""),
+        READY,
+        &[(("A.q", 0, false), UNKNOWN, (BEFORE, ""))],
+    ),
+    // Older entries stay.
+    (
+        (BEFORE, DONE),
+        READY,
+        &[
+            (RENAME, MADE, (AFTER, TWICE)),
+            (UNDO, TAKEN_BACK, (BEFORE, DONE)),
+        ],
+    ),
+];
 
 #[test]
-fn a_refused_rename(rt: HostRuntime) -> Result<(), Fail> {
-    let mut store = store_of(rt.alloc(), (BEFORE, ""))?;
-    expect_call(&rt, &mut store, ("A.q", 0, false), UNKNOWN, (BEFORE, ""))?;
-    Ok(())
-}
-
-#[test]
-fn older_entries_stay(rt: HostRuntime) -> Result<(), Fail> {
-    let mut store = store_of(rt.alloc(), (BEFORE, DONE))?;
-    expect_call(&rt, &mut store, RENAME, MADE, (AFTER, TWICE))?;
-    expect_call(&rt, &mut store, UNDO, TAKEN_BACK, (BEFORE, DONE))?;
+fn renames_are_committed_and_undone(rt: HostRuntime) -> Result<(), Fail> {
+    for row in ROWS {
+        expect_row(&rt, *row)?;
+    }
     Ok(())
 }

@@ -2,10 +2,33 @@
 
 use proto_faults::{Fault, NoMemory, SchemaFault};
 use proto_files::{Files, Paths};
-use proto_names::{Kind, Link, SymbolId};
+use proto_names::{Kind, Link, RefId, SymbolId};
 use std::alloc::Global;
+use std::fmt::Write;
 use std::process::Abort;
-use std::test::Fail;
+
+/// Puts a file behind others.
+pub(crate) fn add(
+    alloc: Global,
+    files: &mut Vec<(String, Vec<u8>)>,
+    path: &str,
+    text: &str,
+) -> Result<(), NoMemory> {
+    let path = String::from_str(alloc, path)?;
+    files.push((path, Vec::from_slice(alloc, text.as_bytes())?))?;
+    Ok(())
+}
+
+fn add_all(
+    alloc: Global,
+    files: &mut Vec<(String, Vec<u8>)>,
+    texts: &[(&str, &str)],
+) -> Result<(), NoMemory> {
+    for &(path, text) in texts {
+        add(alloc, files, path, text)?;
+    }
+    Ok(())
+}
 
 /// Files for a workspace: paths and texts.
 pub(crate) fn given(
@@ -13,10 +36,7 @@ pub(crate) fn given(
     texts: &[(&str, &str)],
 ) -> Result<Vec<(String, Vec<u8>)>, NoMemory> {
     let mut files = Vec::new(alloc);
-    for &(path, text) in texts {
-        let path = String::from_str(alloc, path)?;
-        files.push((path, Vec::from_slice(alloc, text.as_bytes())?))?;
-    }
+    add_all(alloc, &mut files, texts)?;
     Ok(files)
 }
 
@@ -26,6 +46,35 @@ pub(crate) fn read(alloc: Global, given: Vec<(String, Vec<u8>)>) -> Result<Files
     Files::read(alloc, paths)
 }
 
+// The link of the files tells each row.
+fn expect_link<R: AllocGlobal + Abort>(
+    rt: &R,
+    files: &Files,
+    rows: &[Told],
+) -> Result<(), SchemaFault> {
+    let link = Link::new(rt.alloc(), files)?;
+    expect_rows(rt, &link, files, rows)
+}
+
+/// Links the files, and asks for each row.
+pub(crate) fn expect_linked<R: AllocGlobal + Abort>(
+    rt: &R,
+    given: Vec<(String, Vec<u8>)>,
+    rows: &[Told],
+) -> Result<(), SchemaFault> {
+    let files = read(rt.alloc(), given)?;
+    expect_link(rt, &files, rows)
+}
+
+/// The same of files by paths and texts.
+pub(crate) fn expect_told<R: AllocGlobal + Abort>(
+    rt: &R,
+    texts: &[(&str, &str)],
+    rows: &[Told],
+) -> Result<(), SchemaFault> {
+    expect_linked(rt, given(rt.alloc(), texts)?, rows)
+}
+
 // A fault as `path:offset: number name`.
 fn fault_text(alloc: Global, fault: &Fault) -> Result<String, NoMemory> {
     let (offset, number, name) = (fault.offset, fault.number(), fault.name());
@@ -33,47 +82,40 @@ fn fault_text(alloc: Global, fault: &Fault) -> Result<String, NoMemory> {
     Ok(format!(in alloc; "{path}:{offset}: {number} {name}")?)
 }
 
-fn told_of_fault(alloc: Global, fault: &SchemaFault) -> Result<String, NoMemory> {
-    match fault {
-        SchemaFault::Schema(fault) => fault_text(alloc, fault),
-        SchemaFault::NoMemory => Ok(String::from_str(alloc, "no memory")?),
+// `links`, or the fault.
+fn answer<R: AllocGlobal + Abort>(
+    rt: &R,
+    given: Vec<(String, Vec<u8>)>,
+) -> Result<String, NoMemory> {
+    match expect_linked(rt, given, &[]) {
+        Ok(()) => Ok(String::from_str(rt.alloc(), "links")?),
+        Err(SchemaFault::Schema(fault)) => fault_text(rt.alloc(), &fault),
+        Err(SchemaFault::NoMemory) => Err(NoMemory),
     }
 }
 
-// The files of a workspace, linked.
-fn linked(alloc: Global, given: Vec<(String, Vec<u8>)>) -> Result<Link, SchemaFault> {
-    let files = read(alloc, given)?;
-    Link::new(alloc, &files)
-}
-
-/// `links`, or the fault.
-pub(crate) fn answer_of(alloc: Global, given: Vec<(String, Vec<u8>)>) -> Result<String, NoMemory> {
-    match linked(alloc, given) {
-        Ok(_) => Ok(String::from_str(alloc, "links")?),
-        Err(fault) => told_of_fault(alloc, &fault),
-    }
-}
-
-pub(crate) fn answer(alloc: Global, texts: &[(&str, &str)]) -> Result<String, NoMemory> {
-    answer_of(alloc, given(alloc, texts)?)
+/// The files link, or have this fault.
+pub(crate) fn expect<R: AllocGlobal + Abort>(
+    rt: &R,
+    given: Vec<(String, Vec<u8>)>,
+    said: &str,
+) -> Result<(), NoMemory> {
+    let found = answer(rt, given)?;
+    assert_eq!(rt; found.as_str(), said);
+    Ok(())
 }
 
 /// Files, and what is answered for them.
 pub(crate) type Answer = (&'static [(&'static str, &'static str)], &'static str);
 
-pub(crate) fn expect_answers<R: AllocGlobal + Abort>(rt: &R, rows: &[Answer]) -> Result<(), Fail> {
-    for (texts, said) in rows {
-        assert_eq!(rt; answer(rt.alloc(), texts)?.as_str(), *said);
+pub(crate) fn expect_answers<R: AllocGlobal + Abort>(
+    rt: &R,
+    rows: &[Answer],
+) -> Result<(), NoMemory> {
+    for &(texts, said) in rows {
+        expect(rt, given(rt.alloc(), texts)?, said)?;
     }
     Ok(())
-}
-
-pub(crate) fn read_texts(alloc: Global, texts: &[(&str, &str)]) -> Result<Files, Fail> {
-    Ok(read(alloc, given(alloc, texts)?)?)
-}
-
-pub(crate) fn link(alloc: Global, files: &Files) -> Result<Link, Fail> {
-    Ok(Link::new(alloc, files)?)
 }
 
 fn kind_name(kind: Kind) -> &'static str {
@@ -91,102 +133,115 @@ fn kind_name(kind: Kind) -> &'static str {
     }
 }
 
-fn place_text(alloc: Global, link: &Link, files: &Files, id: SymbolId) -> Result<String, NoMemory> {
-    match (link.file_of(id), link.token_of(id)) {
-        (Some(file), Some(token)) => place_of_token(alloc, files, file, token),
-        (None, None) => Ok(String::from_str(alloc, "nowhere")?),
-        _ => Ok(String::from_str(alloc, "half a place")?),
-    }
-}
-
-fn place_of_token(alloc: Global, files: &Files, file: u32, token: u32) -> Result<String, NoMemory> {
+// A place as `path:offset`.
+fn tell_token(out: &mut String, files: &Files, file: u32, token: u32) -> Result<(), NoMemory> {
     let file = file as usize;
     if file >= files.len() {
-        return Ok(String::from_str(alloc, "no file")?);
+        return Ok(out.push_str("no file")?);
     }
     let path = files.path(file);
     match files.tokens(file).get(token as usize) {
-        Some(token) => {
-            let offset = token.span.start;
-            Ok(format!(in alloc; "{path}:{offset}")?)
-        }
-        None => Ok(String::from_str(alloc, "no token")?),
+        Some(token) => Ok(write!(out, "{path}:{}", token.span.start)?),
+        None => Ok(out.push_str("no token")?),
     }
 }
 
 // What a link says of a name: `name kind path:offset`.
-fn told_of_name(alloc: Global, link: &Link, files: &Files, name: &str) -> Result<String, NoMemory> {
-    match link.symbol(name) {
-        Some(id) => told_of_id(alloc, link, files, id),
-        None => Ok(String::from_str(alloc, "unknown")?),
-    }
-}
-
-fn told_of_id(alloc: Global, link: &Link, files: &Files, id: SymbolId) -> Result<String, NoMemory> {
+fn tell_id(out: &mut String, link: &Link, files: &Files, id: SymbolId) -> Result<(), NoMemory> {
     let name = link.name_of(id).unwrap_or("no name");
     let kind = match link.kind_of(id) {
         Some(kind) => kind_name(kind),
         None => "no kind",
     };
-    let place = place_text(alloc, link, files, id)?;
-    let place = place.as_str();
-    Ok(format!(in alloc; "{name} {kind} {place}")?)
+    write!(out, "{name} {kind} ")?;
+    match (link.file_of(id), link.token_of(id)) {
+        (Some(file), Some(token)) => tell_token(out, files, file, token),
+        (None, None) => Ok(out.push_str("nowhere")?),
+        _ => Ok(out.push_str("half a place")?),
+    }
 }
 
-// The references of a name: `path:offset` each, joined by commas.
-fn references_of(
-    alloc: Global,
-    link: &Link,
-    files: &Files,
-    name: &str,
-) -> Result<String, NoMemory> {
-    let mut out = String::new(alloc);
-    let Some(id) = link.symbol(name) else {
-        return Ok(String::from_str(alloc, "unknown")?);
-    };
-    for reference in link.references(id) {
-        let place = place_of_token(alloc, files, reference.file, reference.token)?;
+// References: `path:offset` each, joined by commas.
+fn tell_references(out: &mut String, files: &Files, references: &[RefId]) -> Result<(), NoMemory> {
+    for reference in references {
         if !out.is_empty() {
             out.push_str(",")?;
         }
-        out.push_str(place.as_str())?;
+        tell_token(out, files, reference.file, reference.token)?;
     }
-    Ok(out)
+    Ok(())
 }
 
-/// What a link is asked of a name.
+// What the references of a file mean: `path:offset name` each, joined by commas.
+fn tell_meant(out: &mut String, link: &Link, files: &Files, file: u32) -> Result<(), NoMemory> {
+    for meant in link.meant_in(file) {
+        if !out.is_empty() {
+            out.push_str(",")?;
+        }
+        tell_token(out, files, file, meant.token())?;
+        let name = link.name_of(meant.symbol()).unwrap_or("no name");
+        write!(out, " {name}")?;
+    }
+    Ok(())
+}
+
+/// What a link is asked.
 #[derive(Clone, Copy)]
 pub(crate) enum Ask {
-    /// What it is.
+    /// What the name is.
     Name,
-    /// Where it is referred to.
+    /// Where the name is referred to.
     References,
-    /// Whether a file sees it.
+    /// Whether a file sees the name.
     Seen(u32),
+    /// The name that is meant at a token of a file.
+    Meant(u32, u32),
+    /// Each reference of a file, and the name that it means.
+    MeantIn(u32),
+    /// What the name is that another link calls so.
+    Other(SymbolId),
+    /// Where that is referred to.
+    OtherReferences(SymbolId),
 }
 
 /// What is asked, of which name, and the answer.
 pub(crate) type Told = (Ask, &'static str, &'static str);
 
-fn told(
-    alloc: Global,
+fn tell(
+    out: &mut String,
     link: &Link,
     files: &Files,
     ask: Ask,
     name: &str,
-) -> Result<String, NoMemory> {
-    match ask {
-        Ask::Name => told_of_name(alloc, link, files, name),
-        Ask::References => references_of(alloc, link, files, name),
-        Ask::Seen(file) => {
-            let said = if link.visible(file, name) {
-                "seen"
-            } else {
-                "not seen"
-            };
-            Ok(String::from_str(alloc, said)?)
+) -> Result<(), NoMemory> {
+    match (ask, link.symbol(name)) {
+        (Ask::Name, Some(id)) | (Ask::Other(id), _) => tell_id(out, link, files, id),
+        (Ask::References, Some(id)) | (Ask::OtherReferences(id), _) => {
+            tell_references(out, files, link.references(id))
+        }
+        (Ask::Name | Ask::References, None) => Ok(out.push_str("unknown")?),
+        (Ask::MeantIn(file), _) => tell_meant(out, link, files, file),
+        (Ask::Seen(file), _) if link.visible(file, name) => Ok(out.push_str("seen")?),
+        (Ask::Seen(_), _) => Ok(out.push_str("not seen")?),
+        (Ask::Meant(file, token), _) => {
+            let meant = link.meant(file, token);
+            let name = meant.and_then(|id| link.name_of(id));
+            Ok(out.push_str(name.unwrap_or("nothing"))?)
         }
     }
+}
+
+fn expect_row<R: AllocGlobal + Abort>(
+    rt: &R,
+    link: &Link,
+    files: &Files,
+    row: &Told,
+) -> Result<(), NoMemory> {
+    let (ask, name, said) = *row;
+    let mut found = String::new(rt.alloc());
+    tell(&mut found, link, files, ask, name)?;
+    assert_eq!(rt; found.as_str(), said, "{name}");
+    Ok(())
 }
 
 fn expect_rows<R: AllocGlobal + Abort>(
@@ -194,21 +249,9 @@ fn expect_rows<R: AllocGlobal + Abort>(
     link: &Link,
     files: &Files,
     rows: &[Told],
-) -> Result<(), Fail> {
-    for (ask, name, said) in rows {
-        let found = told(rt.alloc(), link, files, *ask, name)?;
-        assert_eq!(rt; found.as_str(), *said, "{name}");
+) -> Result<(), SchemaFault> {
+    for row in rows {
+        expect_row(rt, link, files, row)?;
     }
     Ok(())
-}
-
-/// Links the files, and asks for each row.
-pub(crate) fn expect_told<R: AllocGlobal + Abort>(
-    rt: &R,
-    texts: &[(&str, &str)],
-    rows: &[Told],
-) -> Result<(), Fail> {
-    let files = read_texts(rt.alloc(), texts)?;
-    let link = link(rt.alloc(), &files)?;
-    expect_rows(rt, &link, &files, rows)
 }

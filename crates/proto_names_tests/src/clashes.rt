@@ -133,5 +133,5 @@ const ROWS: &[Answer] = &[
 
 #[test]
 fn names_that_clash(rt: HostRuntime) -> Result<(), Fail> {
-    expect_answers(&rt, ROWS)
+    Ok(expect_answers(&rt, ROWS)?)
 }

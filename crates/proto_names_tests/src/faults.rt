@@ -133,5 +133,5 @@ const ROWS: &[Answer] = &[
 
 #[test]
 fn files_that_do_not_link(rt: HostRuntime) -> Result<(), Fail> {
-    expect_answers(&rt, ROWS)
+    Ok(expect_answers(&rt, ROWS)?)
 }

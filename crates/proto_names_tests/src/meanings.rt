@@ -1,6 +1,6 @@
 //! What references mean, and those that mean nothing.
 
-use super::calls::{Answer, Ask, Told, expect_answers, expect_told};
+use super::calls::{Answer, Ask, expect_answers, expect_told};
 use std::test::Fail;
 
 const B: (&str, &str) = ("b.proto", "syntax = \"proto3\"; package b; message X {}");
@@ -175,7 +175,7 @@ const ROWS: &[Answer] = &[
 
 #[test]
 fn what_references_mean(rt: HostRuntime) -> Result<(), Fail> {
-    expect_answers(&rt, ROWS)
+    Ok(expect_answers(&rt, ROWS)?)
 }
 
 const FIELD: &str =
@@ -183,7 +183,7 @@ const FIELD: &str =
 
 #[test]
 fn a_field_does_not_fit(rt: HostRuntime) -> Result<(), Fail> {
-    expect_told(
+    Ok(expect_told(
         &rt,
         &[("a.proto", FIELD)],
         &[
@@ -193,7 +193,7 @@ fn a_field_does_not_fit(rt: HostRuntime) -> Result<(), Fail> {
             (Ask::References, "p", ""),
             (Ask::References, "foo", "unknown"),
         ],
-    )
+    )?)
 }
 
 const TEXTS: &[(&str, &str)] = &[
@@ -213,7 +213,7 @@ const TEXTS: &[(&str, &str)] = &[
 
 #[test]
 fn references_by_file_and_place(rt: HostRuntime) -> Result<(), Fail> {
-    expect_told(
+    Ok(expect_told(
         &rt,
         TEXTS,
         &[
@@ -224,6 +224,26 @@ fn references_by_file_and_place(rt: HostRuntime) -> Result<(), Fail> {
             ),
             (Ask::References, "M.N", "a.proto:39,c.proto:57"),
             (Ask::References, "M.o", ""),
+            (Ask::MeantIn(0), "", "a.proto:39 M.N,a.proto:61 M"),
+            (
+                Ask::MeantIn(1),
+                "",
+                "b.proto:21 M,b.proto:51 M,b.proto:73 M",
+            ),
+            (
+                Ask::MeantIn(2),
+                "",
+                "c.proto:37 M,c.proto:57 M.N,c.proto:88 M",
+            ),
+            (Ask::MeantIn(3), "", ""),
+            // The first tokens of the references of `a.proto`, and other tokens.
+            (Ask::Meant(0, 7), "", "M.N"),
+            (Ask::Meant(0, 15), "", "M"),
+            (Ask::Meant(0, 6), "", "nothing"),
+            (Ask::Meant(0, 9), "", "nothing"),
+            (Ask::Meant(0, 16), "", "nothing"),
+            (Ask::Meant(3, 7), "", "nothing"),
+            (Ask::Meant(4_294_967_295, 4_294_967_295), "", "nothing"),
         ],
-    )
+    )?)
 }

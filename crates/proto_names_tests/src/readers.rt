@@ -1,9 +1,10 @@
 //! What a link says of names.
 
-use super::calls::{Ask, Told, expect_told, link, read_texts};
+use super::calls::{Ask, Told, expect_told, given, read};
+use proto_faults::SchemaFault;
+use proto_files::Files;
 use proto_names::{Link, SymbolId};
 use std::alloc::Global;
-use std::process::Abort;
 use std::test::Fail;
 
 const SCHEMA: &str =
@@ -61,31 +62,31 @@ const NAMES: &[Told] = &[
 
 #[test]
 fn names_of_a_schema(rt: HostRuntime) -> Result<(), Fail> {
-    expect_told(&rt, &[("a.proto", SCHEMA)], NAMES)
+    Ok(expect_told(&rt, &[("a.proto", SCHEMA)], NAMES)?)
 }
 
-// The last name of the schema, in its link.
-fn last_name(alloc: Global) -> Result<SymbolId, Fail> {
-    let files = read_texts(alloc, &[("a.proto", SCHEMA)])?;
-    let link = link(alloc, &files)?;
-    Ok(link.symbol("p.q.W").ok_or("no name")?)
+// The last name of the schema, in the link of these files.
+fn last_in(alloc: Global, files: &Files) -> Result<Option<SymbolId>, SchemaFault> {
+    let link = Link::new(alloc, files)?;
+    Ok(link.symbol("p.q.W"))
 }
 
-fn expect_unknown<R: Abort>(rt: &R, link: &Link, id: SymbolId) {
-    assert!(rt; link.name_of(id).is_none());
-    assert!(rt; link.kind_of(id).is_none());
-    assert!(rt; link.file_of(id).is_none());
-    assert!(rt; link.token_of(id).is_none());
-    assert!(rt; link.references(id).is_empty());
+fn last_name(alloc: Global) -> Result<Option<SymbolId>, SchemaFault> {
+    let files = read(alloc, given(alloc, &[("a.proto", SCHEMA)])?)?;
+    last_in(alloc, &files)
 }
 
 #[test]
 fn names_of_another_link(rt: HostRuntime) -> Result<(), Fail> {
-    let id = last_name(rt.alloc())?;
-    let files = read_texts(rt.alloc(), &[("a.proto", "message M {}")])?;
-    let link = link(rt.alloc(), &files)?;
-    expect_unknown(&rt, &link, id);
-    Ok(())
+    let id = last_name(rt.alloc())?.ok_or("no name")?;
+    Ok(expect_told(
+        &rt,
+        &[("a.proto", "message M {}")],
+        &[
+            (Ask::Other(id), "", "no name no kind nowhere"),
+            (Ask::OtherReferences(id), "", ""),
+        ],
+    )?)
 }
 
 const MAPS: &str =
@@ -93,7 +94,7 @@ const MAPS: &str =
 
 #[test]
 fn names_of_maps(rt: HostRuntime) -> Result<(), Fail> {
-    expect_told(
+    Ok(expect_told(
         &rt,
         &[("a.proto", MAPS)],
         &[
@@ -112,7 +113,7 @@ fn names_of_maps(rt: HostRuntime) -> Result<(), Fail> {
                 "M.Entry.value entry field a.proto:114",
             ),
         ],
-    )
+    )?)
 }
 
 const PACKAGES: &[(&str, &str)] = &[
@@ -123,7 +124,7 @@ const PACKAGES: &[(&str, &str)] = &[
 
 #[test]
 fn packages_of_many_files(rt: HostRuntime) -> Result<(), Fail> {
-    expect_told(
+    Ok(expect_told(
         &rt,
         PACKAGES,
         &[
@@ -135,5 +136,5 @@ fn packages_of_many_files(rt: HostRuntime) -> Result<(), Fail> {
             (Ask::Name, "C", "C message a/c.proto:8"),
             (Ask::Name, "p.q.A", "unknown"),
         ],
-    )
+    )?)
 }

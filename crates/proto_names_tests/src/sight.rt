@@ -67,5 +67,5 @@ const ROWS: &[Told] = &[
 
 #[test]
 fn seen_names(rt: HostRuntime) -> Result<(), Fail> {
-    expect_told(&rt, &TEXTS, ROWS)
+    Ok(expect_told(&rt, &TEXTS, ROWS)?)
 }

@@ -1,10 +1,9 @@
-//! Each public call once, with what tests say of its answer.
+//! The calls of these tests, and what each says of the answer.
 
-use proto_entries::{Change, Entry};
+use proto_entries::{Change, Entry, one_splice};
 use proto_faults::NoMemory;
 use proto_records::{JournalFault, Record, entry_text, read_entry, read_records};
-use proto_text::{Splice, Splices};
-use std::alloc::Global;
+use std::process::Abort;
 
 /// The line of a rename of `b_c` to `d_e` in a file of 48 bytes.
 pub(crate) const LINE: &str =
@@ -13,93 +12,87 @@ pub(crate) const LINE: &str =
 pub(crate) const OPEN_LINE: &str =
     "{\"files\":[{\"after\":48,\"before\":48,\"path\":\"a.proto\",\"splices\":[{\"at\":38,\"new\":\"d_e\",\"old\":\"b_c\"}]}],\"state\":\"open\",\"version\":1}\n";
 
-/// The entry of one splice at byte 38 of a file of 48 bytes, if there is one.
-pub(crate) fn entry_of(
-    alloc: Global,
-    old: &str,
+/// The entry of one splice in place of `b_c` at byte 38 of a file of 48 bytes, if there is one.
+pub(crate) fn entry_of<R: AllocGlobal + Abort>(
+    rt: &R,
     new: &str,
     after: u32,
 ) -> Result<Option<Entry>, NoMemory> {
-    let mut list = Vec::new(alloc);
-    list.push(Splice {
-        at: 38,
-        old: String::from_str(alloc, old)?,
-        new: String::from_str(alloc, new)?,
-    })?;
-    let Ok(splices) = Splices::new(list) else {
-        return Ok(None);
-    };
-    let mut changes = Vec::new(alloc);
+    let mut changes = Vec::new(rt.alloc());
+    add_change(rt, &mut changes, new, after)?;
+    Ok(Entry::new(changes))
+}
+
+fn add_change<R: AllocGlobal + Abort>(
+    rt: &R,
+    changes: &mut Vec<Change>,
+    new: &str,
+    after: u32,
+) -> Result<(), NoMemory> {
+    assert!(rt; new.len() <= 100);
+    let path = String::from_str(rt.alloc(), "a.proto")?;
+    let splices = one_splice(rt.alloc(), 38, "b_c", new)?;
     changes.push(Change {
-        path: String::from_str(alloc, "a.proto")?,
+        path,
         before: 48,
         after,
         splices,
     })?;
-    Ok(Entry::new(changes))
+    Ok(())
 }
 
-// The texts of records, one behind the other.
-fn texts_of(alloc: Global, records: &[Record]) -> Result<String, NoMemory> {
-    let mut texts = String::new(alloc);
-    for noted in records {
-        let text = entry_text(alloc, noted)?;
-        texts.push_str(text.as_str())?;
-    }
-    Ok(texts)
+/// Sees that a fault has this number and name.
+pub(crate) fn expect_fault<R: Abort>(rt: &R, fault: JournalFault, number: u32, name: &str) {
+    assert!(rt; fault.number() == number && fault.name() == name);
 }
 
-/// The texts of the records that are read.
-pub(crate) fn reread(alloc: Global, bytes: &[u8]) -> Result<String, JournalFault> {
-    let records = read_records(alloc, bytes)?;
-    Ok(texts_of(alloc, records.as_slice())?)
+// The record has this text.
+fn expect_text<R: AllocGlobal + Abort>(rt: &R, noted: &Record, line: &str) {
+    let text = entry_text(rt.alloc(), noted).expect(rt, "memory");
+    assert!(rt; text.as_str() == line);
 }
 
-/// The text of the record that is read.
-pub(crate) fn reread_entry(alloc: Global, bytes: &[u8]) -> Result<String, JournalFault> {
-    let noted = read_entry(alloc, bytes)?;
-    Ok(entry_text(alloc, &noted)?)
-}
-
-/// The text that was read, or the number and the name of the fault.
-pub(crate) fn said(
-    alloc: Global,
-    answer: Result<String, JournalFault>,
-) -> Result<String, NoMemory> {
-    match answer {
-        Ok(text) => Ok(text),
+/// Whether a line is the text of a record. It then is read as one, and else BadJournal is answered.
+pub(crate) fn is_record<R: AllocGlobal + Abort>(rt: &R, line: &str) -> bool {
+    match read_entry(rt.alloc(), line.as_bytes()) {
+        Ok(noted) => {
+            expect_text(rt, &noted, line);
+            true
+        }
         Err(fault) => {
-            let number = fault.number();
-            let name = fault.name();
-            Ok(format!(in alloc; "{number} {name}")?)
+            expect_fault(rt, fault, 1, "BadJournal");
+            false
         }
     }
 }
 
-/// Whether a record is read of the line whose text is the line.
-pub(crate) fn is_line(alloc: Global, line: &str) -> Result<bool, NoMemory> {
-    let answer = said(alloc, reread_entry(alloc, line.as_bytes()))?;
-    Ok(answer.as_str() == line)
+// The records have this for their texts, one behind the other.
+fn expect_texts<R: AllocGlobal + Abort>(rt: &R, records: &[Record], bytes: &[u8]) {
+    let mut texts = String::new(rt.alloc());
+    for noted in records {
+        let text = entry_text(rt.alloc(), noted).expect(rt, "memory");
+        texts.push_str(text.as_str()).expect(rt, "memory");
+    }
+    assert!(rt; texts.as_bytes() == bytes);
 }
 
-/// Whether a line is no record's text.
-pub(crate) fn is_bad(alloc: Global, line: &str) -> Result<bool, NoMemory> {
-    let answer = said(alloc, reread_entry(alloc, line.as_bytes()))?;
-    Ok(answer.as_str() == "1 BadJournal")
-}
-
-/// The line with a part replaced where it stands first, or the empty text where it does not stand.
-pub(crate) fn with_part(alloc: Global, from: &str, to: &str) -> Result<String, NoMemory> {
-    match LINE.split_once(from) {
-        Some((front, back)) => Ok(format!(in alloc; "{front}{to}{back}")?),
-        None => Ok(String::new(alloc)),
+/// Whether the bytes are a journal. Its records then are read, and else BadJournal is answered.
+pub(crate) fn is_journal<R: AllocGlobal + Abort>(rt: &R, bytes: &[u8]) -> bool {
+    match read_records(rt.alloc(), bytes) {
+        Ok(records) => {
+            expect_texts(rt, records.as_slice(), bytes);
+            true
+        }
+        Err(fault) => {
+            expect_fault(rt, fault, 1, "BadJournal");
+            false
+        }
     }
 }
 
-/// The line of these changes, done.
-pub(crate) fn with_files(alloc: Global, files: &str) -> Result<String, NoMemory> {
-    let mut line = String::from_str(alloc, "{\"files\":[")?;
-    line.push_str(files)?;
-    line.push_str("],\"state\":\"done\",\"version\":1}\n")?;
-    Ok(line)
+/// One text behind another.
+pub(crate) fn joined<R: AllocGlobal + Abort>(rt: &R, first: &str, second: &str) -> String {
+    let mut text = String::from_str(rt.alloc(), first).expect(rt, "memory");
+    text.push_str(second).expect(rt, "memory");
+    text
 }

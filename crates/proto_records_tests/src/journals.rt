@@ -1,36 +1,27 @@
 //! Journals: which bytes are one, and one record more or less.
 
 use super::calls::*;
-use proto_faults::NoMemory;
+use proto_entries::Entry;
 use proto_records::{State, last_is_open, read_records, with_record, without_last};
-use std::alloc::Global;
-use std::test::Fail;
+use std::process::Abort;
 
 #[test]
-fn no_front_of_a_line_is_a_journal(rt: HostRuntime) -> Result<(), Fail> {
-    let alloc = rt.alloc();
+fn no_front_of_a_line_is_a_journal(rt: HostRuntime) {
     let bytes = LINE.as_bytes();
-    assert_eq!(rt; bytes.len(), 127);
-    assert_eq!(rt; said(alloc, reread(alloc, &[]))?.as_str(), "");
+    assert!(rt; bytes.len() == 127);
     for len in 1..127usize {
-        let mut front = Vec::from_slice(alloc, bytes)?;
-        front.truncate(len);
-        assert_eq!(rt;
-            said(alloc, reread(alloc, front.as_slice()))?.as_str(),
-            "1 BadJournal"
-        );
+        assert!(rt; !is_journal(&rt, bytes.split_at(len).0));
     }
-    assert_eq!(rt; said(alloc, reread(alloc, bytes))?.as_str(), LINE);
-    Ok(())
+    assert!(rt; is_journal(&rt, &[]) && is_journal(&rt, bytes));
 }
 
 // The line with this byte at this place.
-fn with_byte(alloc: Global, place: usize, byte: u8) -> Result<Vec<u8>, NoMemory> {
-    let mut bytes = Vec::from_slice(alloc, LINE.as_bytes())?;
+fn with_byte<R: AllocGlobal + Abort>(rt: &R, place: usize, byte: u8) -> Vec<u8> {
+    let mut bytes = Vec::from_slice(rt.alloc(), LINE.as_bytes()).expect(rt, "memory");
     if let Some(there) = bytes.get_mut(place) {
         *there = byte;
     }
-    Ok(bytes)
+    bytes
 }
 
 // Whether the line with this byte at this place is a record's text, by the rules of docs/journal.md: the path may begin with
@@ -46,112 +37,110 @@ fn is_spelled(place: usize, byte: u8) -> bool {
     }
 }
 
-// Whether the line with this byte at this place is read exactly where it is a record's text, and then as that record.
-fn is_exact(alloc: Global, place: usize, byte: u8) -> Result<bool, Fail> {
-    let bytes = with_byte(alloc, place, byte)?;
-    let answer = said(alloc, reread(alloc, bytes.as_slice()))?;
-    if is_spelled(place, byte) {
-        return Ok(answer.as_bytes() == bytes.as_slice());
-    }
-    Ok(answer.as_str() == "1 BadJournal")
+// Whether the line with this byte at this place is read exactly where it is a record's text.
+fn is_exact<R: AllocGlobal + Abort>(rt: &R, place: usize, byte: u8) -> bool {
+    let bytes = with_byte(rt, place, byte);
+    is_journal(rt, bytes.as_slice()) == is_spelled(place, byte)
 }
 
 #[test]
-fn every_change_of_one_byte(rt: HostRuntime) -> Result<(), Fail> {
+fn every_change_of_one_byte(rt: HostRuntime) {
     let mut spelled: usize = 0;
     for place in 0..127usize {
         for byte in 0..=255u8 {
-            assert!(rt; is_exact(rt.alloc(), place, byte)?, "{byte} at {place}");
+            assert!(rt; is_exact(&rt, place, byte), "{byte} at {place}");
             if is_spelled(place, byte) {
                 spelled = spelled.saturating_add(1);
             }
         }
     }
     // The line itself at each place, and 633 others.
-    assert_eq!(rt; spelled, 127 + 633);
-    Ok(())
+    assert!(rt; spelled == 127 + 633);
 }
+
+// Two texts one behind the other, and whether they are a journal.
+const PAIRS: &[(&str, &str, bool)] = &[
+    (LINE, LINE, true),
+    (LINE, OPEN_LINE, true),
+    (OPEN_LINE, "", true),
+    (OPEN_LINE, LINE, false),
+    (OPEN_LINE, OPEN_LINE, false),
+    (LINE, "\n", false),
+    ("\n", LINE, false),
+    (LINE, "x", false),
+    (LINE, " ", false),
+];
 
 #[test]
-fn several_lines(rt: HostRuntime) -> Result<(), Fail> {
-    let alloc = rt.alloc();
-    for (first, second, is_read) in [
-        (LINE, LINE, true),
-        (LINE, OPEN_LINE, true),
-        (OPEN_LINE, "", true),
-        (OPEN_LINE, LINE, false),
-        (OPEN_LINE, OPEN_LINE, false),
-        (LINE, "\n", false),
-        ("\n", LINE, false),
-        (LINE, "x", false),
-        (LINE, " ", false),
-    ] {
-        let journal = format!(in alloc; "{first}{second}")?;
-        let answer = said(alloc, reread(alloc, journal.as_bytes()))?;
-        assert_eq!(rt; answer.as_str() == journal.as_str(), is_read);
-        assert_eq!(rt; answer.as_str() == "1 BadJournal", !is_read);
-    }
-    Ok(())
-}
-
-// Whether the last record of a journal is open; not where it is none.
-fn is_open(alloc: Global, journal: &str) -> bool {
-    match read_records(alloc, journal.as_bytes()) {
-        Ok(records) => last_is_open(records.as_slice()),
-        Err(_) => false,
+fn several_lines(rt: HostRuntime) {
+    for (first, second, is_read) in PAIRS {
+        let journal = joined(&rt, first, second);
+        assert!(rt;
+            is_journal(&rt, journal.as_bytes()) == *is_read,
+            "{first}{second}"
+        );
     }
 }
 
-#[test]
-fn the_last_record(rt: HostRuntime) -> Result<(), Fail> {
-    let alloc = rt.alloc();
-    let both = format!(in alloc; "{LINE}{OPEN_LINE}")?;
-    let twice = format!(in alloc; "{LINE}{LINE}")?;
-    assert!(rt; !is_open(alloc, ""));
-    assert!(rt; !is_open(alloc, LINE));
-    assert!(rt; !is_open(alloc, twice.as_str()));
-    assert!(rt; is_open(alloc, OPEN_LINE));
-    assert!(rt; is_open(alloc, both.as_str()));
-    assert_eq!(rt; without_last(both.as_bytes()), LINE.as_bytes());
-    assert_eq!(rt; without_last(twice.as_bytes()), LINE.as_bytes());
-    assert_eq!(rt; without_last(LINE.as_bytes()).len(), 0);
-    Ok(())
+// Whether the last record of a journal is open.
+fn is_open<R: AllocGlobal + Abort>(rt: &R, journal: &[u8]) -> bool {
+    let records = read_records(rt.alloc(), journal).expect(rt, "a journal");
+    last_is_open(records.as_slice())
+}
+
+// The last line of a journal, which is open or is not, and what stands before it.
+fn expect_last<R: AllocGlobal + Abort>(rt: &R, front: &str, last: &str, open: bool) {
+    let journal = joined(rt, front, last);
+    assert!(rt; is_open(rt, journal.as_bytes()) == open);
+    assert!(rt; without_last(journal.as_bytes()) == front.as_bytes());
 }
 
 #[test]
-fn one_record_more(rt: HostRuntime) -> Result<(), Fail> {
-    let alloc = rt.alloc();
-    let Some(entry) = entry_of(alloc, "b_c", "d_e", 48)? else {
-        return Err(Fail::from("no entry"));
-    };
-    let opened = with_record(alloc, LINE.as_bytes(), State::Open, &entry)?;
-    let done = with_record(alloc, &[], State::Done, &entry)?;
-    let both = format!(in alloc; "{LINE}{OPEN_LINE}")?;
-    assert_eq!(rt; opened.as_slice(), both.as_bytes());
-    assert_eq!(rt; done.as_slice(), LINE.as_bytes());
-    Ok(())
+fn the_last_record(rt: HostRuntime) {
+    assert!(rt; !is_open(&rt, &[]));
+    expect_last(&rt, "", LINE, false);
+    expect_last(&rt, "", OPEN_LINE, true);
+    expect_last(&rt, LINE, LINE, false);
+    expect_last(&rt, LINE, OPEN_LINE, true);
+}
+
+// This line stands behind the journal when the entry was added in this state.
+fn expect_more<R: AllocGlobal + Abort>(
+    rt: &R,
+    journal: &str,
+    state: State,
+    entry: &Entry,
+    line: &str,
+) {
+    let longer = with_record(rt.alloc(), journal.as_bytes(), state, entry).expect(rt, "memory");
+    assert!(rt; longer.as_slice() == joined(rt, journal, line).as_bytes());
+}
+
+#[test]
+fn one_record_more(rt: HostRuntime) {
+    let made = entry_of(&rt, "d_e", 48).expect(&rt, "memory");
+    let entry = made.expect(&rt, "an entry");
+    expect_more(&rt, LINE, State::Open, &entry, OPEN_LINE);
+    expect_more(&rt, "", State::Done, &entry, LINE);
 }
 
 // So many copies of the line.
-fn copies(alloc: Global, count: usize) -> Result<Vec<u8>, Fail> {
-    let mut bytes = Vec::new(alloc);
+fn copies<R: AllocGlobal + Abort>(rt: &R, count: usize) -> Vec<u8> {
+    let mut bytes = Vec::new(rt.alloc());
     for _ in 0..count {
-        bytes.extend_from_slice(LINE.as_bytes())?;
+        bytes
+            .extend_from_slice(LINE.as_bytes())
+            .expect(rt, "memory");
     }
-    Ok(bytes)
+    bytes
 }
 
 #[test]
-fn the_largest_journal(rt: HostRuntime) -> Result<(), Fail> {
-    let alloc = rt.alloc();
-    let bytes = copies(alloc, 132_104)?;
-    assert_eq!(rt; bytes.len(), 16_777_208);
-    let records = read_records(alloc, bytes.as_slice())?;
-    assert_eq!(rt; records.len(), 132_104);
-    let longer = copies(alloc, 132_105)?;
-    assert_eq!(rt;
-        said(alloc, reread(alloc, longer.as_slice()))?.as_str(),
-        "1 BadJournal"
-    );
-    Ok(())
+fn the_largest_journal(rt: HostRuntime) {
+    let bytes = copies(&rt, 132_104);
+    assert!(rt; bytes.len() == 16_777_208);
+    let records = read_records(rt.alloc(), bytes.as_slice()).expect(&rt, "a journal");
+    assert!(rt; records.len() == 132_104);
+    let longer = copies(&rt, 132_105);
+    assert!(rt; !is_journal(&rt, longer.as_slice()));
 }

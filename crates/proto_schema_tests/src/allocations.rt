@@ -5,7 +5,6 @@ use crate::calls::*;
 use proto_faults::{NoMemory, SchemaFault};
 use proto_schema::Schema;
 use std::alloc::Global;
-use std::process::Abort;
 use std::test::Fail;
 
 /// Files, their descriptors, and what all rules find in them.
@@ -46,66 +45,62 @@ const ROWS: [Row; 3] = [
     },
 ];
 
-// Opened, at the second call if there is no memory for the first.
-fn opened_twice(alloc: Global, files: Texts) -> Result<Schema, SchemaFault> {
-    match opened(alloc, files) {
-        Err(SchemaFault::NoMemory) => opened(alloc, files),
-        answer => answer,
-    }
-}
-
 // Whether files and descriptors, asked twice if need be, are those of the row.
 fn is_row(alloc: Global, schema: &Schema, row: &Row) -> bool {
-    let json = match json_of(alloc, schema) {
-        Ok(json) => Ok(json),
-        Err(NoMemory) => json_of(alloc, schema),
+    let has_json = match has_json(alloc, schema, row.json) {
+        Err(NoMemory) => has_json(alloc, schema, row.json),
+        answer => answer,
     };
-    match json {
-        Ok(json) => json.as_str() == row.json && are_texts(schema, row.files),
-        Err(NoMemory) => false,
-    }
+    matches!(has_json, Ok(true)) && are_texts(schema, row.files)
 }
 
 // Whether lint finds what the row says; and where there is no memory for it, that all is as before, and that the next call
 // finds it.
-fn is_found(alloc: Global, schema: &Schema, row: &Row) -> Result<bool, NoMemory> {
-    match found_in(alloc, schema) {
-        Ok(found) => Ok(found.as_str() == row.found),
+fn is_found(alloc: Global, schema: &Schema, row: &Row) -> bool {
+    match finds(alloc, schema, row.found) {
+        Ok(finds) => finds,
         Err(NoMemory) => {
-            let is_kept = is_row(alloc, schema, row);
-            Ok(is_kept && found_in(alloc, schema)?.as_str() == row.found)
+            is_row(alloc, schema, row) && matches!(finds(alloc, schema, row.found), Ok(true))
         }
     }
 }
 
-fn expect_row<R: AllocGlobal + Abort>(rt: &R, row: &Row) -> Result<(), Fail> {
-    let alloc = rt.alloc();
-    let schema = opened_twice(alloc, row.files)?;
-    assert!(rt; is_row(alloc, &schema, row), "opened: {}", row.json);
-    assert!(rt; is_found(alloc, &schema, row)?, "linted: {}", row.found);
-    assert!(rt; is_row(alloc, &schema, row), "kept: {}", row.json);
-    Ok(())
+fn is_kept(alloc: Global, schema: &Schema, row: &Row) -> bool {
+    is_row(alloc, schema, row) && is_found(alloc, schema, row) && is_row(alloc, schema, row)
 }
 
+// Whether the files, once they are opened, are what the row says, before lint and behind it.
+fn is_opened(alloc: Global, row: &Row) -> Result<bool, SchemaFault> {
+    let schema = Schema::open(alloc, given(alloc, row.files)?)?;
+    Ok(is_kept(alloc, &schema, row))
+}
+
+// The files are opened at the second call if there is no memory for the first.
 #[test]
 fn one_is_refused(rt: HostRuntime) -> Result<(), Fail> {
     for row in &ROWS {
-        expect_row(&rt, row)?;
+        let is_opened = match is_opened(rt.alloc(), row) {
+            Err(SchemaFault::NoMemory) => is_opened(rt.alloc(), row),
+            answer => answer,
+        };
+        assert!(rt; matches!(is_opened, Ok(true)), "{}", row.json);
     }
     Ok(())
 }
 
 const FAULTY: &str = "syntax = \"proto3\"; message A { string b = 19000; }";
 
+fn is_faulty(alloc: Global) -> Result<bool, NoMemory> {
+    let files = given(alloc, &[("a.proto", FAULTY)])?;
+    Ok(answer(alloc, files)?.as_str() == "a.proto:42: 17 NumberRange")
+}
+
 // A fault that was found and could not be told is found again.
 #[test]
-fn one_is_refused_before_a_fault(rt: HostRuntime) -> Result<(), Fail> {
-    let alloc = rt.alloc();
-    let fault = "a.proto:42: 17 NumberRange";
-    let is_told = match answer_to(alloc, FAULTY) {
-        Ok(said) => said.as_str() == fault || said.as_str() == "no memory",
-        Err(NoMemory) => answer_to(alloc, FAULTY)?.as_str() == fault,
+fn one_is_refused_before_a_fault(rt: HostRuntime) {
+    let is_faulty = match is_faulty(rt.alloc()) {
+        Err(NoMemory) => is_faulty(rt.alloc()),
+        answer => answer,
     };
-    assert!(rt; is_told, "{fault}");
-    Ok(())
+    assert!(rt; matches!(is_faulty, Ok(true)));
 }

@@ -1,6 +1,6 @@
 //! One schema and more for each fault of the checks, with the place of the fault.
 
-use crate::calls::{answer, answer_to};
+use crate::calls::{Texts, expect_answer, expect_answers};
 use std::test::Fail;
 
 const FAULTS: &[(&str, &str)] = &[
@@ -23,6 +23,10 @@ const FAULTS: &[(&str, &str)] = &[
     (
         "message M { optional int32 a = 9; extensions 2, 0 to 1; }",
         "a.proto:48: 17 NumberRange",
+    ),
+    (
+        "message M { optional int32 a = 3; reserved 5 to 1; }",
+        "a.proto:43: 17 NumberRange",
     ),
     (
         "message M { reserved 1 to 536870912; }",
@@ -164,6 +168,10 @@ const FAULTS: &[(&str, &str)] = &[
         "a.proto:55: 27 BadOption",
     ),
     (
+        "syntax = \"proto3\"; message M { string q = 1; string b = 2 [json_name = 3, json_name = \"q\"]; }",
+        "a.proto:59: 27 BadOption",
+    ),
+    (
         "enum E { option allow_alias = false; A = 0; B = 0; option allow_alias = true; }",
         "a.proto:58: 27 BadOption",
     ),
@@ -259,19 +267,12 @@ const FAULTS: &[(&str, &str)] = &[
 
 #[test]
 fn each_fault_stands_at_its_place(rt: HostRuntime) -> Result<(), Fail> {
-    let alloc = rt.alloc();
-    for &(text, expected) in FAULTS {
-        let found = answer_to(alloc, text)?;
-        assert_eq!(rt; found.as_str(), expected);
-    }
-    Ok(())
+    Ok(expect_answers(&rt, FAULTS)?)
 }
 
-#[test]
-fn an_enum_of_proto2_is_closed(rt: HostRuntime) -> Result<(), Fail> {
-    let alloc = rt.alloc();
-    let found = answer(
-        alloc,
+const FAULTS_OF_TWO: &[(Texts, &str)] = &[
+    // An enum of a proto2 file is closed.
+    (
         &[
             ("a.proto", "enum E { V = 0; }"),
             (
@@ -279,43 +280,47 @@ fn an_enum_of_proto2_is_closed(rt: HostRuntime) -> Result<(), Fail> {
                 "syntax = \"proto3\"; import \"a.proto\"; message M { repeated int32 a = 1; E e = 2; }",
             ),
         ],
-    )?;
-    assert_eq!(rt; found.as_str(), "b.proto:71: 24 ClosedEnum");
-    Ok(())
-}
-
-#[test]
-fn an_earlier_phase_comes_first(rt: HostRuntime) -> Result<(), Fail> {
-    let alloc = rt.alloc();
-    let found = answer(
-        alloc,
+        "b.proto:71: 24 ClosedEnum",
+    ),
+    (
+        &[
+            ("a.proto", "enum E { V = 0; }"),
+            (
+                "b.proto",
+                "syntax = \"proto3\"; import \"a.proto\"; message M { map<int32,E> m = 1; }",
+            ),
+        ],
+        "b.proto:59: 24 ClosedEnum",
+    ),
+    // An earlier phase comes first.
+    (
         &[
             ("a.proto", "message M { int32 a = 0; }"),
             ("b.proto", "message N { optional X x = 1; }"),
         ],
-    )?;
-    assert_eq!(rt; found.as_str(), "b.proto:21: 14 Unresolved");
-    let found = answer(
-        alloc,
+        "b.proto:21: 14 Unresolved",
+    ),
+    (
         &[
             ("a.proto", "message {"),
             ("b.proto", "message N { optional int32 x = 1x; }"),
         ],
-    )?;
-    assert_eq!(rt; found.as_str(), "b.proto:31: 7 BadNumber");
-    Ok(())
-}
-
-#[test]
-fn the_first_path_comes_first(rt: HostRuntime) -> Result<(), Fail> {
-    let alloc = rt.alloc();
-    let found = answer(
-        alloc,
+        "b.proto:31: 7 BadNumber",
+    ),
+    // In one phase, the first path.
+    (
         &[
             ("b.proto", "enum E {}"),
             ("a.proto", "message M { optional int32 a = 1; oneof o {} }"),
         ],
-    )?;
-    assert_eq!(rt; found.as_str(), "a.proto:40: 29 EmptyOneof");
+        "a.proto:40: 29 EmptyOneof",
+    ),
+];
+
+#[test]
+fn the_least_fault_of_two_files(rt: HostRuntime) -> Result<(), Fail> {
+    for &(texts, wanted) in FAULTS_OF_TWO {
+        expect_answer(&rt, texts, wanted)?;
+    }
     Ok(())
 }

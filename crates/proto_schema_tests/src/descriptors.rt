@@ -1,6 +1,6 @@
 //! Descriptors as they are printed.
 
-use crate::calls::{answer, answer_to};
+use crate::calls::{Texts, expect, expect_answers, expect_parts};
 use std::test::Fail;
 
 const ROWS: &[(&str, &str)] = &[
@@ -25,36 +25,57 @@ const ROWS: &[(&str, &str)] = &[
         "syntax = \"proto3\"; message M { map<string,int32> FooEntry = 1; }",
         "{\"file\":[{\"messageType\":[{\"field\":[{\"jsonName\":\"FooEntry\",\"label\":\"LABEL_REPEATED\",\"name\":\"FooEntry\",\"number\":1,\"type\":\"TYPE_MESSAGE\",\"typeName\":\".M.FooEntryEntry\"}],\"name\":\"M\",\"nestedType\":[{\"field\":[{\"jsonName\":\"key\",\"label\":\"LABEL_OPTIONAL\",\"name\":\"key\",\"number\":1,\"type\":\"TYPE_STRING\"},{\"jsonName\":\"value\",\"label\":\"LABEL_OPTIONAL\",\"name\":\"value\",\"number\":2,\"type\":\"TYPE_INT32\"}],\"name\":\"FooEntryEntry\",\"options\":{\"mapEntry\":true}}]}],\"name\":\"a.proto\",\"syntax\":\"proto3\"}]}",
     ),
+    (
+        "message M { optional uint32 a = 1 [default = -0]; }",
+        "{\"file\":[{\"messageType\":[{\"field\":[{\"defaultValue\":\"0\",\"jsonName\":\"a\",\"label\":\"LABEL_OPTIONAL\",\"name\":\"a\",\"number\":1,\"type\":\"TYPE_UINT32\"}],\"name\":\"M\"}],\"name\":\"a.proto\"}]}",
+    ),
+    (
+        "message M { optional string a = 1 [default = \"\"]; }",
+        "{\"file\":[{\"messageType\":[{\"field\":[{\"defaultValue\":\"\",\"jsonName\":\"a\",\"label\":\"LABEL_OPTIONAL\",\"name\":\"a\",\"number\":1,\"type\":\"TYPE_STRING\"}],\"name\":\"M\"}],\"name\":\"a.proto\"}]}",
+    ),
+    (
+        "message M { optional int32 a = 1 [json_name = \"\"]; }",
+        "{\"file\":[{\"messageType\":[{\"field\":[{\"jsonName\":\"\",\"label\":\"LABEL_OPTIONAL\",\"name\":\"a\",\"number\":1,\"type\":\"TYPE_INT32\"}],\"name\":\"M\"}],\"name\":\"a.proto\"}]}",
+    ),
+    (
+        "message M { optional int32 _1 = 1; }",
+        "{\"file\":[{\"messageType\":[{\"field\":[{\"jsonName\":\"1\",\"label\":\"LABEL_OPTIONAL\",\"name\":\"_1\",\"number\":1,\"type\":\"TYPE_INT32\"}],\"name\":\"M\"}],\"name\":\"a.proto\"}]}",
+    ),
 ];
 
 #[test]
 fn descriptors_are_printed(rt: HostRuntime) -> Result<(), Fail> {
-    let alloc = rt.alloc();
-    for &(text, expected) in ROWS {
-        let found = answer_to(alloc, text)?;
-        assert_eq!(rt; found.as_str(), expected);
-    }
-    Ok(())
-}
-
-#[test]
-fn no_file_has_no_descriptor(rt: HostRuntime) -> Result<(), Fail> {
-    let found = answer(rt.alloc(), &[])?;
-    assert_eq!(rt; found.as_str(), "{}");
-    Ok(())
+    expect_answers(&rt, ROWS)?;
+    // No file has no descriptor.
+    Ok(expect(&rt, Vec::new(rt.alloc()), "{}")?)
 }
 
 // Numbers at the edges of their limits, and `0` with octal digits.
+const NUMBERS: &[(Texts, &str)] = &[
+    (
+        &[(
+            "a.proto",
+            "syntax = \"proto3\"; message A { string b_c = 536870911; }",
+        )],
+        "\"number\":536870911,",
+    ),
+    (
+        &[(
+            "a.proto",
+            "syntax = \"proto3\"; message A { string b_c = 18999; }",
+        )],
+        "\"number\":18999,",
+    ),
+    (
+        &[(
+            "a.proto",
+            "syntax = \"proto3\"; message A { string b_c = 010; }",
+        )],
+        "\"number\":8,",
+    ),
+];
+
 #[test]
 fn numbers_in_their_limits_compile(rt: HostRuntime) -> Result<(), Fail> {
-    let alloc = rt.alloc();
-    for &(text, number) in &[("536870911", "536870911"), ("18999", "18999"), ("010", "8")] {
-        let schema = format!(in alloc;
-            "syntax = \"proto3\"; message A {{ string b_c = {text}; }}"
-        )?;
-        let found = answer_to(alloc, schema.as_str())?;
-        let part = format!(in alloc; "\"number\":{number},")?;
-        assert!(rt; found.as_str().contains(part.as_str()), "{text}");
-    }
-    Ok(())
+    Ok(expect_parts(&rt, NUMBERS)?)
 }

@@ -2,7 +2,6 @@
 
 use crate::calls::*;
 use proto_faults::{NoMemory, SchemaFault};
-use proto_schema::Schema;
 use std::alloc::Global;
 use std::process::Abort;
 use std::test::Fail;
@@ -35,14 +34,18 @@ const FRONTS: [Fronts; 12] = [
     (48, 48, COMPILED),
 ];
 
+fn expect_fronts<R: AllocGlobal + Abort>(rt: &R, fronts: &Fronts) -> Result<(), NoMemory> {
+    let (least, greatest, wanted) = *fronts;
+    for count in least..=greatest {
+        expect(rt, front(rt.alloc(), WHOLE, count)?, wanted)?;
+    }
+    Ok(())
+}
+
 #[test]
 fn fronts_of_a_file(rt: HostRuntime) -> Result<(), Fail> {
-    let alloc = rt.alloc();
-    for (least, greatest, wanted) in FRONTS {
-        for count in least..=greatest {
-            let found = answer_of(alloc, front(alloc, WHOLE, count)?)?;
-            assert_eq!(rt; found.as_str(), wanted, "{count} bytes");
-        }
+    for fronts in &FRONTS {
+        expect_fronts(&rt, fronts)?;
     }
     Ok(())
 }
@@ -55,8 +58,8 @@ const CUT: [&str; 3] = [
 
 // Whether a front compiles, or has a fault that stands inside it or at its end.
 fn is_placed(alloc: Global, text: &str, count: usize) -> Result<bool, NoMemory> {
-    match Schema::open(alloc, front(alloc, text, count)?) {
-        Ok(_) => Ok(true),
+    match compiled(alloc, front(alloc, text, count)?) {
+        Ok(_json) => Ok(true),
         Err(SchemaFault::Schema(fault)) => {
             Ok(fault.path.as_str() == "a.proto" && fault.offset as usize <= count)
         }
@@ -64,15 +67,20 @@ fn is_placed(alloc: Global, text: &str, count: usize) -> Result<bool, NoMemory> 
     }
 }
 
+fn expect_placed<R: AllocGlobal + Abort>(rt: &R, text: &str) -> Result<(), NoMemory> {
+    for count in 0..=text.len() {
+        assert!(rt;
+            is_placed(rt.alloc(), text, count)?,
+            "{count} bytes of {text}"
+        );
+    }
+    Ok(())
+}
+
 #[test]
 fn faults_stand_inside_what_is_left(rt: HostRuntime) -> Result<(), Fail> {
     for text in CUT {
-        for count in 0..=text.len() {
-            assert!(rt;
-                is_placed(rt.alloc(), text, count)?,
-                "{count} bytes of {text}"
-            );
-        }
+        expect_placed(&rt, text)?;
     }
     Ok(())
 }
@@ -86,14 +94,19 @@ fn filled(alloc: Global, text: &str, length: usize) -> Result<String, NoMemory> 
     Ok(filled)
 }
 
+fn expect_filled<R: AllocGlobal + Abort>(
+    rt: &R,
+    length: usize,
+    wanted: &str,
+) -> Result<(), NoMemory> {
+    let text = filled(rt.alloc(), WHOLE, length)?;
+    expect_answer(rt, &[("a.proto", text.as_str())], wanted)
+}
+
 #[test]
 fn the_largest_file(rt: HostRuntime) -> Result<(), Fail> {
-    let alloc = rt.alloc();
-    for (length, wanted) in [(1048576, COMPILED), (1048577, "a.proto:0: 1 TooLarge")] {
-        let found = answer_to(alloc, filled(alloc, WHOLE, length)?.as_str())?;
-        assert_eq!(rt; found.as_str(), wanted, "{length} bytes");
-    }
-    Ok(())
+    expect_filled(&rt, 1048576, COMPILED)?;
+    Ok(expect_filled(&rt, 1048577, "a.proto:0: 1 TooLarge")?)
 }
 
 // A path of so many letters before its end.
@@ -106,19 +119,24 @@ fn path_of(alloc: Global, letters: usize) -> Result<String, NoMemory> {
     Ok(path)
 }
 
+// An empty file with this path is answered so: what stands before the path, and behind it.
+fn expect_path<R: AllocGlobal + Abort>(
+    rt: &R,
+    path: &str,
+    before: &str,
+    behind: &str,
+) -> Result<(), NoMemory> {
+    let wanted = format!(in rt.alloc(); "{before}{path}{behind}")?;
+    expect_answer(rt, &[(path, "")], wanted.as_str())
+}
+
 #[test]
 fn the_longest_path(rt: HostRuntime) -> Result<(), Fail> {
-    let alloc = rt.alloc();
-    let path = path_of(alloc, 249)?;
+    let path = path_of(rt.alloc(), 249)?;
     assert_eq!(rt; path.len(), 255);
-    let found = answer(alloc, &[(path.as_str(), "")])?;
-    let wanted = format!(in alloc; "{{\"file\":[{{\"name\":\"{path}\"}}]}}")?;
-    assert_eq!(rt; found.as_str(), wanted.as_str());
-    let longer = path_of(alloc, 250)?;
-    let found = answer(alloc, &[(longer.as_str(), "")])?;
-    let wanted = format!(in alloc; "{longer}:0: 33 BadPath")?;
-    assert_eq!(rt; found.as_str(), wanted.as_str());
-    Ok(())
+    expect_path(&rt, path.as_str(), "{\"file\":[{\"name\":\"", "\"}]}")?;
+    let longer = path_of(rt.alloc(), 250)?;
+    Ok(expect_path(&rt, longer.as_str(), "", ":0: 33 BadPath")?)
 }
 
 // Messages within one another, so many.
@@ -134,19 +152,16 @@ fn nested(alloc: Global, depth: usize) -> Result<String, NoMemory> {
 }
 
 // Each `{` stands behind nine bytes; the 33rd is one too many.
-fn expect_nested<R: AllocGlobal + Abort>(rt: &R) -> Result<(), Fail> {
-    let alloc = rt.alloc();
-    let found = answer_to(alloc, nested(alloc, 32)?.as_str())?;
-    assert!(rt;
-        found.as_str().starts_with("{\"file\":[{\"messageType\":"),
-        "{found}"
-    );
-    let deeper = answer_to(alloc, nested(alloc, 33)?.as_str())?;
-    assert_eq!(rt; deeper.as_str(), "a.proto:329: 9 TooDeep");
-    Ok(())
-}
-
 #[test]
 fn the_deepest_messages(rt: HostRuntime) -> Result<(), Fail> {
-    expect_nested(&rt)
+    let text = nested(rt.alloc(), 32)?;
+    expect_ends(
+        &rt,
+        given(rt.alloc(), &[("a.proto", text.as_str())])?,
+        "{\"file\":[{\"messageType\":",
+        "}],\"name\":\"a.proto\"}]}",
+    )?;
+    let deeper = nested(rt.alloc(), 33)?;
+    let deeper = ("a.proto", deeper.as_str());
+    Ok(expect_answer(&rt, &[deeper], "a.proto:329: 9 TooDeep")?)
 }

@@ -1,6 +1,10 @@
 //! Deleted fields with their answers by the rules of docs/edits.md. Places are counted in the texts.
 
-use super::calls::{Deletion, Row};
+use proto_edit_rows::Row;
+
+/// A field of `a.proto`, the only file, is deleted: its text, the name, the answer, the text afterwards, and what stands in
+/// the descriptors then.
+pub(crate) type Deletion = [&'static str; 5];
 
 /// Fields right in messages: one is deleted.
 pub(crate) const FIELDS: &[Deletion] = &[

@@ -1,6 +1,10 @@
 //! Added and dropped imports with their answers by the rules of docs/edits.md. Places are counted in the texts.
 
-use super::calls::{Place, Row};
+use proto_edit_rows::Row;
+
+/// `a.proto` gets an import of `b.proto`, which is empty as `c.proto` is: its text, the answer, the text afterwards, and what
+/// stands in the descriptors then.
+pub(crate) type Place = [&'static str; 4];
 
 /// An import added and dropped, with what refuses others between.
 pub(crate) const IMPORT: &[Row] = &[Row {

@@ -4,8 +4,6 @@
 #[cfg(test)]
 mod allocations;
 #[cfg(test)]
-mod calls;
-#[cfg(test)]
 mod deletions;
 #[cfg(test)]
 mod imports;

@@ -1,6 +1,6 @@
 //! Edits of all kinds one after another, with refused ones among them. Places are counted in the texts.
 
-use super::calls::*;
+use proto_edit_rows::{Row, Said, Undo, difference_of_undos};
 use std::test::Fail;
 
 pub(crate) const LISTS: &[Row] = &[Row {
@@ -51,38 +51,66 @@ pub(crate) const LISTS: &[Row] = &[Row {
     json: "{\"file\":[{\"dependency\":[\"c.proto\"],\"messageType\":[{\"field\":[{\"jsonName\":\"y\",\"label\":\"LABEL_OPTIONAL\",\"name\":\"y\",\"number\":2,\"oneofIndex\":0,\"type\":\"TYPE_INT32\"},{\"jsonName\":\"bC\",\"label\":\"LABEL_OPTIONAL\",\"name\":\"b_c\",\"number\":3,\"type\":\"TYPE_STRING\"}],\"name\":\"A\",\"oneofDecl\":[{\"name\":\"o\"}],\"reservedName\":[\"x\"],\"reservedRange\":[{\"end\":2,\"start\":1}]}],\"name\":\"a.proto\",\"syntax\":\"proto3\"},{\"messageType\":[{\"name\":\"Node\"}],\"name\":\"b.proto\",\"syntax\":\"proto3\"},{\"name\":\"c.proto\"}]}",
 }];
 
-// The texts of `a.proto` and `b.proto` after each undo, from the last entry to the first.
-const BACK: &[(&str, &str)] = &[
+const DONE: Said = (0, "done");
+
+// The entries from the last to the first, with the files after each undo.
+const BACK: &[Undo] = &[
     (
-        "syntax = \"proto3\"; import \"b.proto\";\nimport \"c.proto\"; message A { oneof o {  int32 y = 2; } reserved 1; reserved \"x\"; string b_c = 3; }",
-        "syntax = \"proto3\"; message Node {}",
+        3,
+        DONE,
+        &[
+            (
+                "a.proto",
+                "syntax = \"proto3\"; import \"b.proto\";\nimport \"c.proto\"; message A { oneof o {  int32 y = 2; } reserved 1; reserved \"x\"; string b_c = 3; }",
+            ),
+            ("b.proto", "syntax = \"proto3\"; message Node {}"),
+            ("c.proto", ""),
+        ],
     ),
     (
-        "syntax = \"proto3\"; import \"b.proto\"; message A { oneof o {  int32 y = 2; } reserved 1; reserved \"x\"; string b_c = 3; }",
-        "syntax = \"proto3\"; message Node {}",
+        2,
+        DONE,
+        &[
+            (
+                "a.proto",
+                "syntax = \"proto3\"; import \"b.proto\"; message A { oneof o {  int32 y = 2; } reserved 1; reserved \"x\"; string b_c = 3; }",
+            ),
+            ("b.proto", "syntax = \"proto3\"; message Node {}"),
+            ("c.proto", ""),
+        ],
     ),
     (
-        "syntax = \"proto3\"; import \"b.proto\"; message A { oneof o { Node x = 1; int32 y = 2; } string b_c = 3; }",
-        "syntax = \"proto3\"; message Node {}",
+        1,
+        DONE,
+        &[
+            (
+                "a.proto",
+                "syntax = \"proto3\"; import \"b.proto\"; message A { oneof o { Node x = 1; int32 y = 2; } string b_c = 3; }",
+            ),
+            ("b.proto", "syntax = \"proto3\"; message Node {}"),
+            ("c.proto", ""),
+        ],
     ),
     (
-        "syntax = \"proto3\"; import \"b.proto\"; message A { oneof o { B x = 1; int32 y = 2; } string b_c = 3; }",
-        "syntax = \"proto3\"; message B {}",
+        0,
+        DONE,
+        &[
+            (
+                "a.proto",
+                "syntax = \"proto3\"; import \"b.proto\"; message A { oneof o { B x = 1; int32 y = 2; } string b_c = 3; }",
+            ),
+            ("b.proto", "syntax = \"proto3\"; message B {}"),
+            ("c.proto", ""),
+        ],
     ),
 ];
 
+// There are as many entries as undos: from the last one on they lead to the first files.
 #[test]
 fn are_undone_one_by_one(rt: HostRuntime) -> Result<(), Fail> {
     for row in LISTS {
-        let mut held = begun(&rt, row.files)?;
-        let edited = &mut held;
-        expect_answers(&rt, edited, row.steps)?;
-        assert_eq!(rt; edited.entries.len(), BACK.len());
-        for (entry, &(a, b)) in edited.entries.iter().rev().zip(BACK) {
-            undone(&rt, &mut edited.workspace, entry)?;
-            let files = [("a.proto", a), ("b.proto", b), ("c.proto", "")];
-            assert!(rt; are_texts(&edited.workspace, &files), "not {a}");
-        }
+        let told = difference_of_undos(rt.alloc(), row, BACK)?;
+        assert!(rt; told.is_empty(), "{told}");
     }
     Ok(())
 }

@@ -1,77 +1,82 @@
 //! Each row as a run and step by step, and the way back; full files.
 
-use super::calls::*;
-use super::deletions::{DELETIONS, FIELDS, MEMBERS, ONEOF};
-use super::imports::{ADDED, DROPPED, IMPORT, MORE_PLACES, NEEDED, OVERTAKEN, PLACES};
+use super::deletions::{DELETIONS, Deletion, FIELDS, MEMBERS, ONEOF};
+use super::imports::{ADDED, DROPPED, IMPORT, MORE_PLACES, NEEDED, OVERTAKEN, PLACES, Place};
 use super::lists::LISTS;
+use proto_edit_rows::{Row, Step, difference, difference_of_answers, filled};
 use proto_faults::NoMemory;
 use std::process::Abort;
 use std::test::Fail;
 
-fn expect_rows<R: AllocGlobal + Abort>(rt: &R, rows: &[Row]) -> Result<(), NoMemory> {
-    for row in rows {
-        expect_row(rt, row)?;
-    }
+pub(crate) fn expect_rows<R: AllocGlobal + Abort>(rt: &R, rows: &[Row]) -> Result<(), NoMemory> {
+    let told = difference(rt.alloc(), rows)?;
+    assert!(rt; told.is_empty(), "{told}");
     Ok(())
 }
 
 fn expect_deletion<R: AllocGlobal + Abort>(rt: &R, row: &Deletion) -> Result<(), NoMemory> {
     let [text, name, answer, after, json] = *row;
-    let row = &Row {
+    let rows = &[Row {
         files: &[("a.proto", text)],
         steps: &[("delete", name, "", answer)],
         after: &[("a.proto", after)],
         json,
-    };
-    expect_row(rt, row)
+    }];
+    expect_rows(rt, rows)
+}
+
+fn expect_deletions<R: AllocGlobal + Abort>(rt: &R, rows: &[Deletion]) -> Result<(), NoMemory> {
+    for row in rows {
+        expect_deletion(rt, row)?;
+    }
+    Ok(())
 }
 
 fn expect_place<R: AllocGlobal + Abort>(rt: &R, row: &Place) -> Result<(), NoMemory> {
     let [text, answer, after, json] = *row;
     let (b, c) = (("b.proto", ""), ("c.proto", ""));
-    let row = &Row {
+    let rows = &[Row {
         files: &[("a.proto", text), b, c],
         steps: &[("add", "a.proto", "b.proto", answer)],
         after: &[("a.proto", after), b, c],
         json,
-    };
-    expect_row(rt, row)
+    }];
+    expect_rows(rt, rows)
+}
+
+fn expect_places<R: AllocGlobal + Abort>(rt: &R, rows: &[Place]) -> Result<(), NoMemory> {
+    for row in rows {
+        expect_place(rt, row)?;
+    }
+    Ok(())
 }
 
 #[test]
 fn delete_a_field(rt: HostRuntime) -> Result<(), Fail> {
-    for rows in [FIELDS, MEMBERS] {
-        for row in rows {
-            expect_deletion(&rt, row)?;
-        }
-    }
-    Ok(())
+    expect_deletions(&rt, FIELDS)?;
+    Ok(expect_deletions(&rt, MEMBERS)?)
 }
 
 #[test]
 fn add_an_import(rt: HostRuntime) -> Result<(), Fail> {
-    for rows in [PLACES, MORE_PLACES] {
-        for row in rows {
-            expect_place(&rt, row)?;
-        }
+    expect_places(&rt, PLACES)?;
+    Ok(expect_places(&rt, MORE_PLACES)?)
+}
+
+#[test]
+fn delete_fields_and_add_imports(rt: HostRuntime) -> Result<(), Fail> {
+    for rows in [ONEOF, DELETIONS, IMPORT, ADDED, OVERTAKEN] {
+        expect_rows(&rt, rows)?;
     }
     Ok(())
 }
 
 #[test]
-fn delete_fields_and_add_imports(rt: HostRuntime) -> Result<(), Fail> {
-    expect_rows(&rt, ONEOF)?;
-    expect_rows(&rt, DELETIONS)?;
-    expect_rows(&rt, IMPORT)?;
-    expect_rows(&rt, ADDED)?;
-    Ok(expect_rows(&rt, OVERTAKEN)?)
-}
-
-#[test]
 fn drop_imports(rt: HostRuntime) -> Result<(), Fail> {
-    expect_rows(&rt, DROPPED)?;
-    expect_rows(&rt, NEEDED)?;
-    Ok(expect_rows(&rt, LISTS)?)
+    for rows in [DROPPED, NEEDED, LISTS] {
+        expect_rows(&rt, rows)?;
+    }
+    Ok(())
 }
 
 // The length of a file, and what is asked: the file becomes as long as it may be, or a byte longer.
@@ -98,16 +103,19 @@ const FULL: &[(usize, Step)] = &[
     ),
 ];
 
+fn expect_step<R: AllocGlobal + Abort>(rt: &R, text: &str, step: Step) -> Result<(), NoMemory> {
+    let files = [("a.proto", text), ("b.proto", "")];
+    let told = difference_of_answers(rt.alloc(), &files, &[step])?;
+    assert!(rt; told.is_empty(), "{told}");
+    Ok(())
+}
+
 #[test]
 fn fill_a_file_and_do_not_fit_it(rt: HostRuntime) -> Result<(), Fail> {
     let text = "syntax = \"proto3\"; message A { string b_c = 1; }";
     for &(length, step) in FULL {
-        let mut text = String::from_str(rt.alloc(), text)?;
-        for _ in text.len()..length {
-            text.push(' ')?;
-        }
-        let mut edited = begun(&rt, &[("a.proto", text.as_str()), ("b.proto", "")])?;
-        expect_answers(&rt, &mut edited, &[step])?;
+        let text = filled(rt.alloc(), text, length)?;
+        expect_step(&rt, text.as_str(), step)?;
     }
     Ok(())
 }

@@ -1,5 +1,7 @@
 //! Stores, and what the tests ask them.
 
+ghost use Rattle.std.specs.Prelude.{◌<◌, length};
+
 use proto_faults::NoMemory;
 use proto_store::{MemoryStore, Store, StoreFault};
 use std::alloc::Global;
@@ -11,22 +13,38 @@ pub(crate) fn store_of(
     files: &[(&str, &str)],
     journal: &str,
 ) -> Result<MemoryStore, NoMemory> {
+    let journal = journal.as_bytes().to_vec(alloc)?;
     let mut given = Vec::new(alloc);
-    for (path, text) in files {
-        given.push(file_of(alloc, path, text)?)?;
-    }
-    MemoryStore::new(alloc, given, journal.as_bytes().to_vec(alloc)?)
+    give(alloc, &mut given, files)?;
+    MemoryStore::new(alloc, given, journal)
 }
 
-fn file_of(alloc: Global, path: &str, text: &str) -> Result<(String, Vec<u8>), NoMemory> {
-    let path = String::from_str(alloc, path)?;
-    Ok((path, text.as_bytes().to_vec(alloc)?))
+fn give(
+    alloc: Global,
+    given: &mut Vec<(String, Vec<u8>)>,
+    files: &[(&str, &str)],
+) -> Result<(), NoMemory> {
+    for (path, text) in files {
+        let bytes = text.as_bytes().to_vec(alloc)?;
+        given.push((String::from_str(alloc, path)?, bytes))?;
+    }
+    Ok(())
 }
 
 /// The paths that the store lists.
 pub(crate) fn list<S: Store, R: Abort>(rt: &R, store: &mut S) -> Result<Vec<String>, StoreFault> {
     assert!(rt; store.failures() < u64::MAX);
     store.list()
+}
+
+// Where the path stands among those that are listed.
+fn place_of<R: Abort>(rt: &R, paths: &[String], path: &str) -> usize
+    ensures { result < length paths.now }
+{
+    match paths.iter().position(|listed| listed.as_str() == path) {
+        Some(place) => place,
+        None => panic!(rt; "{path} is not listed"),
+    }
 }
 
 /// The bytes at a path. This is two calls of the store: its list has to have the path.
@@ -37,10 +55,8 @@ pub(crate) fn read<S: Store, R: Abort>(
 ) -> Result<Vec<u8>, StoreFault> {
     assert!(rt; store.failures() < u64::MAX);
     let paths = store.list()?;
-    match paths.iter().position(|listed| listed.as_str() == path) {
-        Some(place) => store.read(paths[place].as_str()),
-        None => panic!(rt; "{path} is not listed"),
-    }
+    let place = place_of(rt, paths.as_slice(), path);
+    store.read(paths[place].as_str())
 }
 
 /// Replaces the file at a path. This is two calls of the store: its list has to have the path.
@@ -52,10 +68,8 @@ pub(crate) fn replace<S: Store, R: Abort>(
 ) -> Result<(), StoreFault> {
     assert!(rt; store.failures() < u64::MAX);
     let paths = store.list()?;
-    match paths.iter().position(|listed| listed.as_str() == path) {
-        Some(place) => store.replace(paths[place].as_str(), text.as_bytes()),
-        None => panic!(rt; "{path} is not listed"),
-    }
+    let place = place_of(rt, paths.as_slice(), path);
+    store.replace(paths[place].as_str(), text.as_bytes())
 }
 
 pub(crate) fn read_journal<S: Store, R: Abort>(
@@ -75,20 +89,36 @@ pub(crate) fn replace_journal<S: Store, R: Abort>(
     store.replace_journal(text.as_bytes())
 }
 
-/// Sees that the store holds exactly these files and this journal.
-pub(crate) fn expect_held<S: Store, R: Abort>(
+/// Whether the store answers at all.
+pub(crate) fn works<T: Drop>(answer: Result<T, StoreFault>) -> bool {
+    answer.is_ok()
+}
+
+fn is_text(answer: Result<Vec<u8>, StoreFault>, text: &str) -> bool {
+    match answer {
+        Ok(bytes) => bytes.as_slice() == text.as_bytes(),
+        Err(_) => false,
+    }
+}
+
+fn is_count(answer: Result<Vec<String>, StoreFault>, count: usize) -> bool {
+    match answer {
+        Ok(paths) => paths.len() == count,
+        Err(_) => false,
+    }
+}
+
+/// Whether the store answers that it holds exactly these files and this journal.
+pub(crate) fn is_held<S: Store, R: Abort>(
     rt: &R,
     store: &mut S,
     files: &[(&str, &str)],
     journal: &str,
-) -> Result<(), StoreFault> {
-    let count = list(rt, store)?.len();
-    assert_eq!(rt; count, files.len());
+) -> bool {
     for (path, text) in files {
-        let bytes = read(rt, store, path)?;
-        assert_eq!(rt; bytes.as_slice(), text.as_bytes(), "in {path}");
+        if !is_text(read(rt, store, path), text) {
+            return false;
+        }
     }
-    let bytes = read_journal(rt, store)?;
-    assert_eq!(rt; bytes.as_slice(), journal.as_bytes(), "in the journal");
-    Ok(())
+    is_count(list(rt, store), files.len()) && is_text(read_journal(rt, store), journal)
 }

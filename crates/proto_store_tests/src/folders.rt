@@ -1,12 +1,10 @@
 //! The folder store over folders that are there.
 
-use crate::calls::{expect_held, list};
-use crate::steps::{Ask, Change, Holds, Made, Seen, Step, in_new_folder, root_of, take_all};
+use crate::calls::{is_held, list, works};
+use crate::steps::{Ask, Change, Holds, LAST, Made, Seen, Step, in_new_folder, root_of, take_all};
 use proto_store::{FolderStore, Store};
-use std::fs;
 use std::process::Abort;
 use std::rt::Files;
-use std::test::Fail;
 
 const SCHEMA: &str = "p/a.proto";
 
@@ -19,32 +17,29 @@ const WRITTEN: &[Step] = &[
 const GONE: &[(&str, &str)] = &[(SCHEMA, "syntax = \"proto3\";")];
 
 #[test]
-fn fails_once_its_folder_is_gone(rt: HostRuntime) -> Result<(), Fail> {
-    let root = root_of(&rt, "gone")?;
-    take_all(&rt, root.as_str(), WRITTEN)?;
-    expect_failures(&rt, root.as_str());
-    Ok(())
+fn fails_once_its_folder_is_gone(rt: HostRuntime) {
+    let root = root_of(&rt, &rt, "gone");
+    let mut store = FolderStore::new(&rt, root.as_str());
+    take_all(&rt, &rt, root.as_str(), WRITTEN);
+    assert!(rt; is_held(&rt, &mut store, GONE, "") && store.failures() == 0);
+    take_all(&rt, &rt, root.as_str(), LAST);
+    expect_failures(&rt, &mut store);
 }
 
-fn expect_failures<R: Files + AllocGlobal + Abort>(rt: &R, root: &str) {
-    let mut store = FolderStore::new(rt, root);
-    assert!(rt; store.failures() == 0);
-    assert!(rt; expect_held(rt, &mut store, GONE, "").is_ok());
-    assert!(rt; fs::remove_dir_all(rt, root).is_ok());
-    assert!(rt; list(rt, &mut store).is_err(), "of a folder that is gone");
+fn expect_failures<R: Files + AllocGlobal>(rt: &impl Abort, store: &mut FolderStore<'_, R>) {
+    let lists = works(list(rt, store));
     assert!(rt; store.failures() < u64::MAX);
-    assert!(rt; store.read(SCHEMA).is_err(), "of a file that is gone");
-    assert_eq!(rt; store.failures(), 2);
+    let reads = works(store.read(SCHEMA));
+    assert!(rt; !lists && !reads && store.failures() == 2);
 }
 
 #[test]
-fn replaces_files(rt: HostRuntime) -> Result<(), Fail> {
+fn replaces_files(rt: HostRuntime) {
     for bits in [0o600, 0o644, 0o755, 0o444] {
         let mode = [(SCHEMA, Holds::Made(Made::Mode(bits)))];
         let kept = [(SCHEMA, Holds::Seen(Seen::Mode(0o777, bits)))];
-        in_new_folder(&rt, "files", &[&mode, REPLACED, &kept, NOT_MADE])?;
+        in_new_folder(&rt, &rt, "files", &[&mode, REPLACED, &kept, NOT_MADE]);
     }
-    Ok(())
 }
 
 const REPLACED: &[Step] = &[
@@ -66,8 +61,11 @@ const NOT_MADE: &[Step] = &[
 ];
 
 #[test]
-fn clears_what_was_left(rt: HostRuntime) -> Result<(), Fail> {
-    in_new_folder(&rt, "left", &[LEFT])
+fn clears_what_was_left(rt: HostRuntime) {
+    in_new_folder(&rt, &rt, "left", &[LEFT]);
+    // The second time nothing is left to remove.
+    in_new_folder(&rt, &rt, "leftovers", &[LEFTOVERS, CLEARED, CLEARED]);
+    in_new_folder(&rt, &rt, "unclear", &[UNCLEAR]);
 }
 
 const LEFT: &[Step] = &[
@@ -85,12 +83,6 @@ const LEFT: &[Step] = &[
     ("p/other.txt", Holds::Seen(Seen::Text("other"))),
     ("p/.protoref-new", Holds::Seen(Seen::Nothing)),
 ];
-
-#[test]
-fn removes_what_was_left(rt: HostRuntime) -> Result<(), Fail> {
-    // The second time nothing is left to remove.
-    in_new_folder(&rt, "leftovers", &[LEFTOVERS, CLEARED, CLEARED])
-}
 
 const LEFTOVERS: &[Step] = &[
     ("p/q", Holds::Made(Made::Folder)),
@@ -125,11 +117,7 @@ const CLEARED: &[Step] = &[
     ("", Holds::Asked(Ask::OnePath(SCHEMA))),
 ];
 
-#[test]
-fn clears_no_folder_that_is_not_there(rt: HostRuntime) -> Result<(), Fail> {
-    in_new_folder(&rt, "unclear", &[UNCLEAR])
-}
-
+// No folder is there that could be cleared.
 const UNCLEAR: &[Step] = &[
     ("gone", Holds::Asked(Ask::NoFolder)),
     (SCHEMA, Holds::Asked(Ask::NoFolder)),
@@ -138,8 +126,8 @@ const UNCLEAR: &[Step] = &[
 ];
 
 #[test]
-fn follows_no_link(rt: HostRuntime) -> Result<(), Fail> {
-    in_new_folder(&rt, "links", &[LINKS])
+fn follows_no_link(rt: HostRuntime) {
+    in_new_folder(&rt, &rt, "links", &[LINKS]);
 }
 
 const LINKS: &[Step] = &[
@@ -159,8 +147,10 @@ const LINKS: &[Step] = &[
 ];
 
 #[test]
-fn keeps_a_journal(rt: HostRuntime) -> Result<(), Fail> {
-    in_new_folder(&rt, "journal", &[JOURNALS])
+fn keeps_a_journal_that_is_a_file(rt: HostRuntime) {
+    in_new_folder(&rt, &rt, "journal", &[JOURNALS]);
+    in_new_folder(&rt, &rt, "no-journal", &[NO_JOURNAL]);
+    in_new_folder(&rt, &rt, "long", &[LONG]);
 }
 
 const JOURNALS: &[Step] = &[
@@ -176,11 +166,7 @@ const JOURNALS: &[Step] = &[
     (".protoref-new", Holds::Seen(Seen::Nothing)),
 ];
 
-#[test]
-fn fails_without_a_journal_that_is_a_file(rt: HostRuntime) -> Result<(), Fail> {
-    in_new_folder(&rt, "no-journal", &[NO_JOURNAL])
-}
-
+// The journal is no file.
 const NO_JOURNAL: &[Step] = &[
     (".protoref-journal", Holds::Made(Made::Link(SCHEMA))),
     ("", Holds::Asked(Ask::NoJournal)),
@@ -192,11 +178,7 @@ const NO_JOURNAL: &[Step] = &[
     ("", Holds::AskedNowhere(Ask::NoJournal)),
 ];
 
-#[test]
-fn tells_a_journal_that_is_too_long(rt: HostRuntime) -> Result<(), Fail> {
-    in_new_folder(&rt, "long", &[LONG])
-}
-
+// A journal that is too long.
 const LONG: &[Step] = &[
     (".protoref-journal", Holds::Made(Made::Length(16_777_216))),
     ("", Holds::Asked(Ask::JournalLength(16_777_216))),

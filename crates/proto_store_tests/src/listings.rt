@@ -1,6 +1,7 @@
 //! What the folder store lists, over folders that a test makes up.
 
-use proto_store::{FolderStore, Store, StoreFault};
+use crate::calls::works;
+use proto_store::{FolderStore, Store};
 use std::alloc::{Allocator, Global};
 use std::fs::{File, Metadata, OpenOptions};
 use std::io;
@@ -58,8 +59,10 @@ impl<'a> Files for Tree<'a> {
         if self.links.contains(&path) {
             return Ok(Metadata::of_symlink(0));
         }
-        if self.folders.iter().any(|folder| folder.0 == path) {
-            return Ok(Metadata::of_dir());
+        for (folder, _) in self.folders {
+            if *folder == path {
+                return Ok(Metadata::of_dir());
+            }
         }
         absent()
     }
@@ -89,28 +92,26 @@ impl<'a> Files for Tree<'a> {
     }
 }
 
-// The paths that a store of a folder lists, in order, or none where it fails.
-fn listed(rt: &impl Abort, tree: &Tree<'_>, root: &str) -> Option<Vec<String>> {
+// The store of a folder lists these paths, a line each, in some order.
+fn expect_listed(rt: &impl Abort, tree: &Tree<'_>, root: &str, wanted: &str) {
     let mut store = FolderStore::new(tree, root);
     assert!(rt; store.failures() == 0);
-    match store.list() {
-        Ok(mut paths) => {
-            paths.sort_unstable();
-            Some(paths)
-        }
-        Err(StoreFault::Failed) => {
-            assert_eq!(rt; store.failures(), 1);
-            None
-        }
+    let mut paths = store.list().expect(rt, "the paths");
+    paths.sort_unstable();
+    let mut lines = String::new(tree.alloc);
+    for path in paths.iter() {
+        lines.push_str(path.as_str()).expect(rt, "memory");
+        lines.push('\n').expect(rt, "memory");
     }
+    assert!(rt; lines.as_str() == wanted);
 }
 
-fn expect_listed(rt: &impl Abort, tree: &Tree<'_>, root: &str, wanted: &[&str]) {
-    let paths = listed(rt, tree, root).expect(rt, "the paths");
-    assert_eq!(rt; paths.len(), wanted.len());
-    for (path, wanted) in paths.iter().zip(wanted) {
-        assert_eq!(rt; path.as_str(), *wanted);
-    }
+// The store of a folder lists nothing, and counts that.
+fn expect_failed(rt: &impl Abort, tree: &Tree<'_>, root: &str) {
+    let mut store = FolderStore::new(tree, root);
+    let is_new = store.failures() == 0;
+    let lists = works(store.list());
+    assert!(rt; is_new && !lists && store.failures() == 1);
 }
 
 // Each folder, and its names, each ended by a zero byte.
@@ -144,8 +145,8 @@ fn lists_schema_files(rt: HostRuntime) {
         files: SCHEMA_FILES,
         links: &["r/link.proto", "r/linked"],
     };
-    let wanted = ["b.proto", "d.proto/e.proto", "p/a.proto", "p/v1/c.proto"];
-    expect_listed(&rt, &tree, "r", &wanted);
+    let wanted = "b.proto\nd.proto/e.proto\np/a.proto\np/v1/c.proto\n";
+    expect_listed(&rt, &tree, "r", wanted);
 }
 
 const UNREADABLE: &[Folders] = &[
@@ -167,7 +168,7 @@ fn fails_at_what_it_cannot_read(rt: HostRuntime) {
             files: &["r/a.proto"],
             links: &[],
         };
-        assert!(rt; listed(&rt, &tree, "r").is_none());
+        expect_failed(&rt, &tree, "r");
     }
 }
 
@@ -182,6 +183,6 @@ fn takes_an_empty_root_for_missing(rt: HostRuntime) {
         files: &["a.proto", "./a.proto"],
         links: &[],
     };
-    assert!(rt; listed(&rt, &tree, ".").is_some());
-    assert!(rt; listed(&rt, &tree, "").is_none());
+    expect_listed(&rt, &tree, ".", "a.proto\n");
+    expect_failed(&rt, &tree, "");
 }

@@ -1,20 +1,18 @@
 //! The memory store: what it holds after each call, and the call that is to fail.
 
-use crate::calls::{expect_held, list, read, read_journal, replace, replace_journal, store_of};
-use proto_store::{MemoryStore, Store, StoreFault};
-use std::alloc::Global;
+use crate::calls::{is_held, list, read, read_journal, replace, replace_journal, store_of, works};
+use proto_store::{MemoryStore, Store};
 use std::process::Abort;
-use std::test::Fail;
 
-type Files = &'static [(&'static str, &'static str)];
+pub(crate) type Files = &'static [(&'static str, &'static str)];
 
-const FILES: Files = &[("a.proto", "A"), ("p/b.proto", "B")];
+pub(crate) const FILES: Files = &[("a.proto", "A"), ("p/b.proto", "B")];
 
 /// What a test does with a store.
 #[derive(Clone, Copy)]
-enum Step {
-    /// This call from now on is to fail.
-    FailAt(u64),
+pub(crate) enum Step {
+    /// This call from now on is to fail, and if it is a replace, leaves the new bytes or does not.
+    FailAt(u64, bool),
     List,
     Read(&'static str),
     ReadJournal,
@@ -22,77 +20,56 @@ enum Step {
     Note(&'static str),
     /// It holds these files and this journal.
     Held(Files, &'static str),
+    /// So many calls have failed.
+    Failures(u64),
 }
 
-// The call that is to fail leaves new bytes where it lands.
-fn take(
-    rt: &impl Abort,
-    store: &mut MemoryStore,
-    lands: bool,
-    step: Step,
-) -> Result<(), StoreFault> {
+/// Whether the step works.
+pub(crate) fn take(rt: &impl Abort, store: &mut MemoryStore, step: Step) -> bool {
     match step {
-        Step::FailAt(call) => {
+        Step::FailAt(call, lands) => {
             assert!(rt; call > 0);
             store.fail_at(call, lands);
-            Ok(())
+            true
         }
-        Step::List => done(list(rt, store)),
-        Step::Read(path) => done(read(rt, store, path)),
-        Step::ReadJournal => done(read_journal(rt, store)),
-        Step::Replace(path, text) => replace(rt, store, path, text),
-        Step::Note(text) => replace_journal(rt, store, text),
-        Step::Held(files, journal) => expect_held(rt, store, files, journal),
+        Step::List => works(list(rt, store)),
+        Step::Read(path) => works(read(rt, store, path)),
+        Step::ReadJournal => works(read_journal(rt, store)),
+        Step::Replace(path, text) => works(replace(rt, store, path, text)),
+        Step::Note(text) => works(replace_journal(rt, store, text)),
+        Step::Held(files, journal) => is_held(rt, store, files, journal),
+        Step::Failures(count) => store.failures() == count,
     }
 }
 
-fn done<T: Drop>(answer: Result<Vec<T>, StoreFault>) -> Result<(), StoreFault> {
-    match answer {
-        Ok(_) => Ok(()),
-        Err(fault) => Err(fault),
-    }
-}
-
-// Takes steps, each of which works, or does not. So many calls have failed then.
-fn take_all(
-    rt: &impl Abort,
-    store: &mut MemoryStore,
-    lands: bool,
-    steps: &[(Step, bool)],
-    failures: u64,
-) {
+// Takes steps, each of which works, or does not.
+fn take_all(rt: &impl Abort, store: &mut MemoryStore, steps: &[(Step, bool)]) {
     for (place, (step, works)) in steps.iter().enumerate() {
-        let is_taken = take(rt, store, lands, *step).is_ok();
-        assert_eq!(rt; is_taken, *works, "at step {place} from 0");
+        assert!(rt; take(rt, store, *step) == *works, "at step {place} from 0");
     }
-    assert_eq!(rt; store.failures(), failures);
+}
+
+// Takes steps with a store of these files and this journal.
+fn expect<R: AllocGlobal + Abort>(rt: &R, files: Files, journal: &str, steps: &[(Step, bool)]) {
+    let mut store = store_of(rt.alloc(), files, journal).expect(rt, "a store");
+    take_all(rt, &mut store, steps);
 }
 
 #[test]
-fn keeps_what_was_given_last(rt: HostRuntime) -> Result<(), Fail> {
-    let given = [("p/b.proto", "b"), ("a.proto", "A"), ("p/b.proto", "B")];
-    keeps(&rt, rt.alloc(), &given, "J", FILES)?;
-    keeps(&rt, rt.alloc(), &[], "", &[])
+fn keeps_what_was_given_last(rt: HostRuntime) {
+    expect(&rt, GIVEN, "J", KEPT);
+    expect(&rt, &[], "", NONE_KEPT);
 }
 
-fn keeps(
-    rt: &impl Abort,
-    alloc: Global,
-    given: &[(&str, &str)],
-    journal: &str,
-    kept: &[(&str, &str)],
-) -> Result<(), Fail> {
-    let mut store = store_of(alloc, given, journal)?;
-    expect_held(rt, &mut store, kept, journal)?;
-    assert_eq!(rt; store.failures(), 0);
-    Ok(())
-}
+const GIVEN: Files = &[("p/b.proto", "b"), ("a.proto", "A"), ("p/b.proto", "B")];
+
+const KEPT: &[(Step, bool)] = &[(Step::Held(FILES, "J"), true), (Step::Failures(0), true)];
+
+const NONE_KEPT: &[(Step, bool)] = &[(Step::Held(&[], ""), true), (Step::Failures(0), true)];
 
 #[test]
-fn replaces_one_thing(rt: HostRuntime) -> Result<(), Fail> {
-    let mut store = store_of(rt.alloc(), FILES, "J")?;
-    take_all(&rt, &mut store, false, REPLACES, 0);
-    Ok(())
+fn replaces_one_thing(rt: HostRuntime) {
+    expect(&rt, FILES, "J", REPLACES);
 }
 
 const LONGER: Files = &[("a.proto", "A"), ("p/b.proto", "longer than before")];
@@ -107,75 +84,70 @@ const REPLACES: &[(Step, bool)] = &[
     (Step::Replace("a.proto", ""), true),
     (Step::Note(""), true),
     (Step::Held(EMPTIED, ""), true),
+    (Step::Failures(0), true),
 ];
 
 // Calls 1 and 2 replace a file, call 3 replaces the journal, and calls 4 and 5 read a file.
 #[test]
-fn fails_where_it_is_told_to(rt: HostRuntime) -> Result<(), Fail> {
-    for lands in [false, true] {
-        for call in [2, 3, 4, 5] {
-            let mut store = store_of(rt.alloc(), FILES, "J")?;
-            fails_at(&rt, &mut store, call, lands)?;
-        }
+fn fails_where_it_is_told_to(rt: HostRuntime) {
+    for (call, lands, files, journal) in TOLD {
+        let steps = [
+            (Step::FailAt(*call, *lands), true),
+            (Step::Replace("a.proto", "C"), *call != 2),
+            (Step::Note("K"), *call != 3),
+            (Step::Read("a.proto"), *call <= 3),
+            (Step::Failures(1), true),
+            (Step::Held(files, journal), true),
+            (Step::Failures(1), true),
+        ];
+        expect(&rt, FILES, "J", &steps);
     }
-    Ok(())
 }
 
-fn fails_at(
-    rt: &impl Abort,
-    store: &mut MemoryStore,
-    call: u64,
-    lands: bool,
-) -> Result<(), StoreFault> {
-    take(rt, store, lands, Step::FailAt(call))?;
-    let replaces = replace(rt, store, "a.proto", "C").is_ok();
-    let notes = replace_journal(rt, store, "K").is_ok();
-    let reads = read(rt, store, "a.proto").is_ok();
-    assert!(rt;
-        replaces == (call != 2) && notes == (call != 3),
-        "at {call}"
-    );
-    assert!(rt; reads == (call <= 3) && store.failures() == 1, "at {call}");
-    let text = if call == 2 && !lands { "A" } else { "C" };
-    let journal = if call == 3 && !lands { "J" } else { "K" };
-    expect_held(rt, store, &[("a.proto", text), ("p/b.proto", "B")], journal)?;
-    assert_eq!(rt; store.failures(), 1, "after {call}");
-    Ok(())
-}
+const CHANGED: Files = &[("a.proto", "C"), ("p/b.proto", "B")];
 
-#[test]
-fn changes_nothing_at_a_call_that_only_asks(rt: HostRuntime) -> Result<(), Fail> {
-    for lands in [false, true] {
-        let mut store = store_of(rt.alloc(), FILES, "J")?;
-        take_all(&rt, &mut store, lands, ASKS, 4);
-    }
-    Ok(())
-}
-
-const ASKS: &[(Step, bool)] = &[
-    (Step::FailAt(1), true),
-    (Step::List, false),
-    (Step::FailAt(2), true),
-    (Step::Read("a.proto"), false),
-    (Step::FailAt(1), true),
-    (Step::ReadJournal, false),
-    (Step::FailAt(1), true),
-    (Step::Replace("a.proto", "C"), false),
-    (Step::Held(FILES, "J"), true),
+// The call that is to fail, whether it lands, and what the store holds in the end.
+const TOLD: &[(u64, bool, Files, &str)] = &[
+    (2, false, FILES, "K"),
+    (3, false, CHANGED, "J"),
+    (4, false, CHANGED, "K"),
+    (5, false, CHANGED, "K"),
+    (2, true, CHANGED, "K"),
+    (3, true, CHANGED, "K"),
+    (4, true, CHANGED, "K"),
+    (5, true, CHANGED, "K"),
 ];
 
 #[test]
-fn fails_where_it_was_told_to_last(rt: HostRuntime) -> Result<(), Fail> {
-    let mut store = store_of(rt.alloc(), FILES, "J")?;
-    store.fail_at(1, true);
-    take_all(&rt, &mut store, false, TOLD, 1);
-    Ok(())
+fn changes_nothing_at_a_call_that_only_asks(rt: HostRuntime) {
+    for lands in [false, true] {
+        let steps = [
+            (Step::FailAt(1, lands), true),
+            (Step::List, false),
+            (Step::FailAt(2, lands), true),
+            (Step::Read("a.proto"), false),
+            (Step::FailAt(1, lands), true),
+            (Step::ReadJournal, false),
+            (Step::FailAt(1, lands), true),
+            (Step::Replace("a.proto", "C"), false),
+            (Step::Held(FILES, "J"), true),
+            (Step::Failures(4), true),
+        ];
+        expect(&rt, FILES, "J", &steps);
+    }
 }
 
-const TOLD: &[(Step, bool)] = &[
-    (Step::FailAt(2), true),
+#[test]
+fn fails_where_it_was_told_to_last(rt: HostRuntime) {
+    expect(&rt, FILES, "J", TOLD_TWICE);
+}
+
+const TOLD_TWICE: &[(Step, bool)] = &[
+    (Step::FailAt(1, true), true),
+    (Step::FailAt(2, false), true),
     (Step::Note("K"), true),
     (Step::Note("L"), false),
     (Step::Note("M"), true),
     (Step::Held(FILES, "M"), true),
+    (Step::Failures(1), true),
 ];

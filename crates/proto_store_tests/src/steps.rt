@@ -3,7 +3,7 @@
 use proto_store::{FolderStore, Store, StoreFault};
 use std::fs::Permissions;
 use std::os::unix::fs::{PermissionsExt, symlink};
-use std::test::Fail;
+use std::process::Abort;
 use std::{env, fs, io, process};
 
 /// A path below the root of the test's folder, and what has to hold there. The empty path is the root itself.
@@ -92,37 +92,32 @@ const FIRST: &[Step] = &[
     ("p/a.proto", Holds::Made(Made::Text("A"))),
 ];
 
-const LAST: &[Step] = &[("", Holds::Made(Made::NoFolder))];
+/// The folder of the test goes.
+pub(crate) const LAST: &[Step] = &[("", Holds::Made(Made::NoFolder))];
 
 /// The path of the folder of a test.
-pub(crate) fn root_of(rt: &HostRuntime, name: &str) -> io::Result<String> {
-    let temporary = env::temp_dir(rt)?;
+pub(crate) fn root_of(abort: &impl Abort, rt: &HostRuntime, name: &str) -> String {
+    let temporary = env::temp_dir(rt).expect(abort, "a folder for temporary files");
     let id = process::id(rt.process());
-    Ok(format!(in rt.alloc(); "{}/protoref-{name}-{id}", temporary.as_str())?)
+    format!(in rt.alloc(); "{}/protoref-{name}-{id}", temporary.as_str()).expect(abort, "memory")
 }
 
 /// Takes the steps of these tables in a new folder, with a file `p/a.proto` of one letter.
-pub(crate) fn in_new_folder(rt: &HostRuntime, name: &str, tables: &[&[Step]]) -> Result<(), Fail> {
-    let root = root_of(rt, name)?;
-    take_tables(rt, root.as_str(), tables)
-}
-
-fn take_tables(rt: &HostRuntime, root: &str, tables: &[&[Step]]) -> Result<(), Fail> {
-    take_all(rt, root, FIRST)?;
+pub(crate) fn in_new_folder(abort: &impl Abort, rt: &HostRuntime, name: &str, tables: &[&[Step]]) {
+    let root = root_of(abort, rt, name);
+    take_all(abort, rt, root.as_str(), FIRST);
     for steps in tables {
-        take_all(rt, root, steps)?;
+        take_all(abort, rt, root.as_str(), steps);
     }
-    take_all(rt, root, LAST)
+    take_all(abort, rt, root.as_str(), LAST);
 }
 
 /// Takes these steps.
-pub(crate) fn take_all(rt: &HostRuntime, root: &str, steps: &[Step]) -> Result<(), Fail> {
+pub(crate) fn take_all(abort: &impl Abort, rt: &HostRuntime, root: &str, steps: &[Step]) {
     for (place, (path, holds)) in steps.iter().enumerate() {
-        if !comes_out(rt, root, path, *holds) {
-            return Err(Fail::new(format_args!("at step {place} from 0, at '{path}'")));
-        }
+        let is_so = comes_out(rt, root, path, *holds);
+        assert!(abort; is_so, "at step {place} from 0, at '{path}' below '{root}'");
     }
-    Ok(())
 }
 
 fn comes_out(rt: &HostRuntime, root: &str, path: &str, holds: Holds) -> bool {
@@ -231,9 +226,11 @@ fn fails_to_clear(rt: &HostRuntime, root: &str) -> bool {
 }
 
 fn lists_one(rt: &HostRuntime, root: &str, path: &str) -> bool {
-    let listed = FolderStore::new(rt, root).list();
-    match listed {
-        Ok(paths) => paths.len() == 1 && paths.iter().all(|it| it.as_str() == path),
+    match FolderStore::new(rt, root).list() {
+        Ok(paths) => match paths.as_slice() {
+            [only] => only.as_str() == path,
+            _ => false,
+        },
         Err(_) => false,
     }
 }

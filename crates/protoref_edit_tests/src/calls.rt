@@ -1,15 +1,13 @@
-//! Stores, writers, what is asked of the program, and rows of what it prints and leaves.
+//! Stores, writers, and what is asked of the program.
 
 use proto_edit::Edit;
 use proto_faults::NoMemory;
-use proto_journal::all_files;
 use proto_store::{MemoryStore, Store};
 use protoref_run::{Command, RunFault, Status, run};
 use std::alloc::Global;
 use std::io;
 use std::io::Write;
 use std::process::Abort;
-use std::test::Fail;
 
 /// A file with one field, of 48 bytes.
 pub(crate) const ROW: &str = "syntax = \"proto3\"; message A { string b_c = 1; }";
@@ -25,23 +23,41 @@ pub(crate) const LINE: &str =
 pub(crate) const OPEN_LINE: &str =
     "{\"files\":[{\"after\":48,\"before\":48,\"path\":\"a.proto\",\"splices\":[{\"at\":38,\"new\":\"d_e\",\"old\":\"b_c\"}]}],\"state\":\"open\",\"version\":1}\n";
 
+/// What a change of `a.proto` prints.
+pub(crate) const CHANGED: &str = "changed a.proto\n";
+
+/// What is printed of bytes that are no journal.
+pub(crate) const NO_JOURNAL: &str = "journal: 1 BadJournal\n";
+
+/// What is printed where the files are others than the last entry says.
+pub(crate) const STALE: &str = "refused: 17 Stale\n";
+
+/// The paths and the texts of files, in the order of their paths.
+pub(crate) type Texts<'a> = &'a [(&'a str, &'a str)];
+
+/// A file `a.proto` of that text, and of that with the new name.
+pub(crate) const OLD: Texts<'static> = &[("a.proto", ROW)];
+
+pub(crate) const NEW: Texts<'static> = &[("a.proto", RENAMED)];
+
 /// A writer that takes a few bytes at a time, and only so many of them.
 #[derive(Drop)]
 pub(crate) struct Pipe {
     pub(crate) taken: Vec<u8>,
     at_once: usize,
     room: usize,
-    /// Whether it fails where it has no room left; else it takes no byte.
-    pub(crate) breaks: bool,
+    // Whether it fails where it has no room left; else it takes no byte.
+    breaks: bool,
 }
 
 impl Pipe {
+    /// An even room tries the one end, an odd room the other.
     pub(crate) fn new(alloc: Global, at_once: usize, room: usize) -> Pipe {
         Pipe {
             taken: Vec::new(alloc),
             at_once,
             room,
-            breaks: false,
+            breaks: room % 2 == 0,
         }
     }
 }
@@ -62,14 +78,6 @@ impl Write for Pipe {
         Ok(())
     }
 }
-
-/// The paths and the texts of files, in the order of their paths.
-pub(crate) type Texts = &'static [(&'static str, &'static str)];
-
-/// A file `a.proto` of that text, and of that with the new name.
-pub(crate) const OLD: Texts = &[("a.proto", ROW)];
-
-pub(crate) const NEW: Texts = &[("a.proto", RENAMED)];
 
 /// An edit.
 #[derive(Clone, Copy)]
@@ -117,43 +125,53 @@ fn edit_of(alloc: Global, kind: Kind, of: &str, text: &str) -> Result<Command, N
 }
 
 // The edit of two texts; that a deletion is of one alone makes no odds here.
-fn edit_with(kind: Kind, of: String, text: String) -> Edit {
+fn edit_with(kind: Kind, file: String, path: String) -> Edit {
     match kind {
-        Kind::Import => Edit::AddImport {
-            file: of,
-            path: text,
+        Kind::Import => Edit::AddImport { file, path },
+        Kind::Unimport => Edit::DropImport { file, path },
+        _ => Edit::Rename {
+            name: file,
+            to: path,
         },
-        Kind::Unimport => Edit::DropImport {
-            file: of,
-            path: text,
-        },
-        _ => Edit::Rename { name: of, to: text },
     }
+}
+
+/// Two texts, one behind the other.
+pub(crate) fn joined(alloc: Global, first: &str, second: &str) -> Result<String, NoMemory> {
+    let mut text = String::from_str(alloc, first)?;
+    text.push_str(second)?;
+    Ok(text)
 }
 
 /// A store of files with these paths and texts, and of this journal.
 pub(crate) fn store_with(
     alloc: Global,
-    files: &[(&str, &str)],
+    files: Texts,
     journal: &str,
 ) -> Result<MemoryStore, NoMemory> {
-    let files = files_of(alloc, files)?;
     let journal = journal.as_bytes().to_vec(alloc)?;
+    let files = files_of(alloc, files)?;
     MemoryStore::new(alloc, files, journal)
 }
 
-fn files_of(alloc: Global, files: &[(&str, &str)]) -> Result<Vec<(String, Vec<u8>)>, NoMemory> {
+fn files_of(alloc: Global, files: Texts) -> Result<Vec<(String, Vec<u8>)>, NoMemory> {
     let mut given = Vec::new(alloc);
     for (path, text) in files {
-        given.push(file_of(alloc, path, text)?)?;
+        add_file(alloc, &mut given, path, text)?;
     }
     Ok(given)
 }
 
-fn file_of(alloc: Global, path: &str, text: &str) -> Result<(String, Vec<u8>), NoMemory> {
+fn add_file(
+    alloc: Global,
+    given: &mut Vec<(String, Vec<u8>)>,
+    path: &str,
+    text: &str,
+) -> Result<(), NoMemory> {
     let path = String::from_str(alloc, path)?;
     let bytes = text.as_bytes().to_vec(alloc)?;
-    Ok((path, bytes))
+    given.push((path, bytes))?;
+    Ok(())
 }
 
 /// Asks a store of few failures, and gives how it ends.
@@ -163,115 +181,7 @@ pub(crate) fn ask<R: AllocGlobal + Abort>(
     store: &mut MemoryStore,
     writer: &mut Pipe,
 ) -> Result<Result<Status, RunFault>, NoMemory> {
+    assert!(rt; store.failures() < u64::MAX);
     let command = command_of(rt.alloc(), asked)?;
-    assert!(rt; store.failures() < u64::MAX);
     Ok(run(rt.alloc(), command, store, writer))
-}
-
-/// What is asked prints this text, and ends so.
-pub(crate) fn expect<R: AllocGlobal + Abort>(
-    rt: &R,
-    asked: Asked,
-    store: &mut MemoryStore,
-    text: &str,
-    status: Status,
-) -> Result<(), Fail> {
-    let mut writer = Pipe::new(rt.alloc(), 7, 4096);
-    let ended = ask(rt, asked, store, &mut writer)?;
-    assert_eq!(rt; ended, Ok(status), "for {text}");
-    assert!(rt; writer.taken.as_slice() == text.as_bytes(), "for {text}");
-    Ok(())
-}
-
-/// What is asked of a store of these files and this journal prints this line, and changes nothing.
-pub(crate) fn expect_kept<R: AllocGlobal + Abort>(
-    rt: &R,
-    files: &[(&str, &str)],
-    journal: &str,
-    asked: Asked,
-    line: &str,
-) -> Result<(), Fail> {
-    let mut store = store_with(rt.alloc(), files, journal)?;
-    expect(rt, asked, &mut store, line, Status::Problem)?;
-    expect_files(rt, &mut store, files, journal)
-}
-
-/// The store has files with these paths and texts, in the order of their paths, and no others, and this journal.
-pub(crate) fn expect_files<R: AllocGlobal + Abort>(
-    rt: &R,
-    store: &mut MemoryStore,
-    files: &[(&str, &str)],
-    journal: &str,
-) -> Result<(), Fail> {
-    assert!(rt; store.failures() < u64::MAX);
-    match all_files(rt.alloc(), store) {
-        Ok(held) => expect_texts(rt, held.as_slice(), files),
-        Err(_) => panic!(rt; "no files"),
-    }
-    expect_journal(rt, store, journal);
-    Ok(())
-}
-
-fn expect_texts<R: Abort>(rt: &R, held: &[(String, Vec<u8>)], files: &[(&str, &str)]) {
-    assert_eq!(rt; held.len(), files.len());
-    for ((path, bytes), (wanted, text)) in held.iter().zip(files) {
-        assert_eq!(rt; path.as_str(), *wanted);
-        assert!(rt;
-            bytes.as_slice() == text.as_bytes(),
-            "{wanted} is not {text}"
-        );
-    }
-}
-
-fn expect_journal<R: Abort>(rt: &R, store: &mut MemoryStore, journal: &str) {
-    assert!(rt; store.failures() < u64::MAX);
-    match store.read_journal() {
-        Ok(bytes) => assert!(rt; bytes.as_slice() == journal.as_bytes(), "not {journal}"),
-        Err(_) => panic!(rt; "no journal"),
-    }
-}
-
-/// What is asked and printed, or what the store has then.
-pub(crate) enum Turn {
-    /// What is asked prints this text, and all is well.
-    Done(Asked, &'static str),
-    /// What is asked prints this text, and there is a problem.
-    Problem(Asked, &'static str),
-    /// The store has these files and this journal.
-    Holds(Texts, &'static str),
-}
-
-/// The files and the journal of a store, and what comes one behind the other.
-pub(crate) struct Row {
-    pub(crate) files: Texts,
-    pub(crate) journal: &'static str,
-    pub(crate) turns: &'static [Turn],
-}
-
-/// Each row holds over a store of its own.
-pub(crate) fn expect_rows<R: AllocGlobal + Abort>(rt: &R, rows: &[Row]) -> Result<(), Fail> {
-    for row in rows {
-        expect_row(rt, row)?;
-    }
-    Ok(())
-}
-
-fn expect_row<R: AllocGlobal + Abort>(rt: &R, row: &Row) -> Result<(), Fail> {
-    let mut store = store_with(rt.alloc(), row.files, row.journal)?;
-    for turn in row.turns {
-        expect_turn(rt, &mut store, turn)?;
-    }
-    Ok(())
-}
-
-fn expect_turn<R: AllocGlobal + Abort>(
-    rt: &R,
-    store: &mut MemoryStore,
-    turn: &Turn,
-) -> Result<(), Fail> {
-    match turn {
-        Turn::Done(asked, text) => expect(rt, *asked, store, text, Status::Done),
-        Turn::Problem(asked, text) => expect(rt, *asked, store, text, Status::Problem),
-        Turn::Holds(files, journal) => expect_files(rt, store, files, journal),
-    }
 }

@@ -19,3 +19,5 @@ mod statements;
 mod stops;
 #[cfg(test)]
 mod three_files;
+#[cfg(test)]
+mod turns;

@@ -1,16 +1,14 @@
 //! What renames print and leave, and why they are refused.
 
-use crate::calls::Turn::{Done, Holds, Problem};
-use crate::calls::{Asked, Kind, LINE, NEW, OLD, RENAME, Row, Texts, expect_kept, expect_rows};
+use crate::calls::{Asked, CHANGED, Kind, LINE, NEW, OLD, RENAME, STALE, Texts};
+use crate::turns::Turn::{Done, Holds, Problem};
+use crate::turns::{Row, expect_kept, expect_rows};
 use std::test::Fail;
 
-const CHANGED: &str = "changed a.proto\n";
-
 const ROWS: &[Row] = &[
-    Row {
-        files: OLD,
-        journal: "",
-        turns: &[
+    (
+        OLD,
+        &[
             Done(RENAME, CHANGED),
             Holds(NEW, LINE),
             Done(Asked::Log, "1 done a.proto\n"),
@@ -20,21 +18,11 @@ const ROWS: &[Row] = &[
             Problem(Asked::Undo, "journal: 2 NothingToUndo\n"),
             Holds(OLD, ""),
         ],
-    },
-    // Files that are others than after the last entry.
-    Row {
-        files: OLD,
-        journal: LINE,
-        turns: &[
-            Problem(Asked::Undo, "refused: 17 Stale\n"),
-            Holds(OLD, LINE),
-        ],
-    },
+    ),
     // Entries behind older ones.
-    Row {
-        files: OLD,
-        journal: "",
-        turns: &[
+    (
+        OLD,
+        &[
             Done(RENAME, CHANGED),
             Done(Asked::Edit(Kind::Rename, "A.d_e", "f"), CHANGED),
             Done(Asked::Edit(Kind::Rename, "A.f", "b_c"), CHANGED),
@@ -47,7 +35,7 @@ const ROWS: &[Row] = &[
             Done(Asked::Undo, CHANGED),
             Holds(OLD, ""),
         ],
-    },
+    ),
 ];
 
 #[test]
@@ -55,18 +43,18 @@ fn are_made_told_and_undone(rt: HostRuntime) -> Result<(), Fail> {
     expect_rows(&rt, ROWS)
 }
 
-const TWO: Texts = &[(
+const TWO: Texts<'static> = &[(
     "a.proto",
     "syntax = \"proto3\"; message M { string fooBar = 1; string x = 2; }",
 )];
 
-const INNER: Texts = &[(
+const INNER: Texts<'static> = &[(
     "a.proto",
     "syntax = \"proto3\"; package p; message Inner {} message A { message B {} Inner x = 1; }",
 )];
 
 /// Files, a symbol, its new name, and the line of the refusal.
-const REFUSED: &[(Texts, &str, &str, &str)] = &[
+const REFUSED: &[(Texts<'static>, &str, &str, &str)] = &[
     (OLD, "A.q", "r", "refused: 1 UnknownTarget\n"),
     (OLD, "", "", "refused: 1 UnknownTarget\n"),
     (OLD, "A.b_c", "9x", "refused: 3 NotAnIdentifier\n"),
@@ -88,5 +76,6 @@ fn are_refused_by_the_least_case(rt: HostRuntime) -> Result<(), Fail> {
     for (files, name, to, line) in REFUSED {
         expect_kept(&rt, files, "", Asked::Edit(Kind::Rename, name, to), line)?;
     }
-    Ok(())
+    // An undo of files that are others than after the last entry.
+    expect_kept(&rt, OLD, LINE, Asked::Undo, STALE)
 }

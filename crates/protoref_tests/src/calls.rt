@@ -14,17 +14,17 @@ pub(crate) struct Pipe {
     pub(crate) taken: Vec<u8>,
     at_once: usize,
     room: usize,
-    /// Whether it fails where it has no room left; else it takes no byte.
-    pub(crate) breaks: bool,
+    // Whether it fails where it has no room left; else it takes no byte.
+    breaks: bool,
 }
 
 impl Pipe {
-    pub(crate) fn new(alloc: Global, at_once: usize, room: usize) -> Pipe {
+    pub(crate) fn new(alloc: Global, at_once: usize, room: usize, breaks: bool) -> Pipe {
         Pipe {
             taken: Vec::new(alloc),
             at_once,
             room,
-            breaks: false,
+            breaks,
         }
     }
 }
@@ -77,7 +77,7 @@ pub(crate) fn run_into<S: Store, R: AllocGlobal + Abort>(
     run(rt.alloc(), command, store, writer)
 }
 
-/// The command prints this text, and ends so.
+/// The command prints this text, and ends so; the store does not fail.
 pub(crate) fn expect<R: AllocGlobal + Abort>(
     rt: &R,
     command: Command,
@@ -85,8 +85,11 @@ pub(crate) fn expect<R: AllocGlobal + Abort>(
     text: &str,
     status: Status,
 ) {
-    let mut writer = Pipe::new(rt.alloc(), 4096, 65536);
+    let mut writer = Pipe::new(rt.alloc(), 4096, 65536, false);
     let ended = run_into(rt, command, store, &mut writer);
-    assert_eq!(rt; ended, Ok(status), "for {text}");
-    assert!(rt; writer.taken.as_slice() == text.as_bytes(), "for {text}");
+    let is_whole = writer.taken.as_slice() == text.as_bytes();
+    assert!(rt;
+        ended == Ok(status) && is_whole && store.failures() == 0,
+        "for {text}"
+    );
 }

@@ -1,6 +1,7 @@
 //! What `compile` prints, and where a run stops.
 
 use crate::calls::{Pipe, expect, run_into, store_of};
+use proto_faults::NoMemory;
 use proto_store::{MemoryStore, Store, StoreFault};
 use protoref_run::{Command, RunFault, Status, fault_line};
 use std::process::Abort;
@@ -65,36 +66,23 @@ const ROWS: &[(&[(&str, &str)], &str, Status)] = &[
     ),
 ];
 
-fn expect_row<R: AllocGlobal + Abort>(
-    rt: &R,
-    files: &[(&str, &str)],
-    text: &str,
-    status: Status,
-) -> Result<(), Fail> {
-    let mut store = store_of(rt.alloc(), files)?;
-    expect(rt, Command::Compile, &mut store, text, status);
-    assert_eq!(rt; store.failures(), 0);
-    Ok(())
-}
-
 #[test]
 fn prints_descriptors_and_faults(rt: HostRuntime) -> Result<(), Fail> {
     for (files, text, status) in ROWS {
-        expect_row(&rt, files, text, *status)?;
+        let mut store = store_of(rt.alloc(), files)?;
+        expect(&rt, Command::Compile, &mut store, text, *status);
     }
     Ok(())
 }
 
 // The run ends with the failure of this call of the store, and another goes on as if nothing had been.
 fn expect_failed<R: AllocGlobal + Abort>(rt: &R, store: &mut MemoryStore, call: u64) {
-    let mut writer = Pipe::new(rt.alloc(), 4096, 4096);
+    let mut writer = Pipe::new(rt.alloc(), 4096, 4096, false);
     let ended = run_into(rt, Command::Compile, store, &mut writer);
-    assert_eq!(rt; ended, Err(RunFault::Store), "at {call}");
-    assert_eq!(rt; writer.taken.len(), 0);
-    assert_eq!(rt; store.failures(), 1);
+    assert!(rt; ended == Err(RunFault::Store), "at {call}");
+    assert!(rt; writer.taken.is_empty() && store.failures() == 1);
     let ended = run_into(rt, Command::Compile, store, &mut writer);
-    assert!(rt; ended.is_ok(), "after {call}");
-    assert_eq!(rt; store.failures(), 1);
+    assert!(rt; ended.is_ok() && store.failures() == 1);
 }
 
 #[test]
@@ -107,58 +95,48 @@ fn stops_where_the_store_fails(rt: HostRuntime) -> Result<(), Fail> {
     Ok(())
 }
 
-#[test]
-fn writes_in_many_calls(rt: HostRuntime) -> Result<(), Fail> {
-    for at_once in [1, 7, 4096] {
-        let writer = Pipe::new(rt.alloc(), at_once, ROW_JSON.len());
-        expect_written(&rt, writer, Ok(Status::Done), ROW_JSON.len())?;
-    }
+// The run into a pipe that takes so many bytes at once, and so many of them, writes these and ends so.
+fn expect_written<R: AllocGlobal + Abort>(
+    rt: &R,
+    (at_once, room, breaks): (usize, usize, bool),
+    wanted: Result<Status, RunFault>,
+) -> Result<(), NoMemory> {
+    let mut store = store_of(rt.alloc(), &[("a.proto", ROW)])?;
+    let mut writer = Pipe::new(rt.alloc(), at_once, room, breaks);
+    let ended = run_into(rt, Command::Compile, &mut store, &mut writer);
+    assert!(rt; ended == wanted && store.failures() == 0, "after {room}");
+    assert!(rt; writer.taken.len() == room);
+    assert!(rt; ROW_JSON.as_bytes().starts_with(writer.taken.as_slice()));
     Ok(())
 }
 
-// The run into this writer ends so, after so many bytes of what it is to print.
-fn expect_written<R: AllocGlobal + Abort>(
-    rt: &R,
-    mut writer: Pipe,
-    wanted: Result<Status, RunFault>,
-    count: usize,
-) -> Result<(), Fail> {
-    let mut store = store_of(rt.alloc(), &[("a.proto", ROW)])?;
-    let ended = run_into(rt, Command::Compile, &mut store, &mut writer);
-    assert_eq!(rt; ended, wanted, "after {count}");
-    assert_eq!(rt; writer.taken.len(), count);
-    assert!(rt; ROW_JSON.as_bytes().starts_with(writer.taken.as_slice()));
-    assert_eq!(rt; store.failures(), 0);
+#[test]
+fn writes_in_many_calls(rt: HostRuntime) -> Result<(), Fail> {
+    for at_once in [1, 7, 4096] {
+        expect_written(&rt, (at_once, ROW_JSON.len(), false), Ok(Status::Done))?;
+    }
     Ok(())
 }
 
 #[test]
 fn stops_where_the_output_fails(rt: HostRuntime) -> Result<(), Fail> {
     for room in [0, 1, 50, ROW_JSON.len() - 1] {
-        for breaks in [false, true] {
-            let mut writer = Pipe::new(rt.alloc(), 7, room);
-            writer.breaks = breaks;
-            expect_written(&rt, writer, Err(RunFault::Output), room)?;
-        }
+        expect_written(&rt, (7, room, false), Err(RunFault::Output))?;
+        expect_written(&rt, (7, room, true), Err(RunFault::Output))?;
     }
     Ok(())
 }
 
 #[test]
 fn names_its_faults(rt: HostRuntime) {
-    assert_eq!(rt; fault_line(&RunFault::Store), "protoref: store failed");
-    assert_eq!(rt; fault_line(&RunFault::NoMemory), "protoref: no memory");
-    assert_eq!(rt; fault_line(&RunFault::Output), "protoref: output failed");
-    for (fault, name) in [
-        (RunFault::Store, "Store"),
-        (RunFault::NoMemory, "NoMemory"),
-        (RunFault::Output, "Output"),
+    for (fault, line, name) in [
+        (RunFault::Store, "protoref: store failed", "Store"),
+        (RunFault::NoMemory, "protoref: no memory", "NoMemory"),
+        (RunFault::Output, "protoref: output failed", "Output"),
     ] {
-        assert_eq!(rt; (fault.number(), fault.name()), (0, name));
+        assert!(rt; fault_line(&fault) == line);
+        assert!(rt; fault.number() == 0 && fault.name() == name);
     }
-    assert_eq!(rt;
-        (StoreFault::Failed.number(), StoreFault::Failed.name()),
-        (0, "Failed")
-    );
-    assert_eq!(rt; (Status::Done.code(), Status::Problem.code()), (0, 1));
+    assert!(rt; StoreFault::Failed.number() == 0 && StoreFault::Failed.name() == "Failed");
+    assert!(rt; Status::Done.code() == 0 && Status::Problem.code() == 1);
 }

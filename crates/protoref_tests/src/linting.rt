@@ -27,7 +27,7 @@ fn expect<R: AllocGlobal + Abort>(
     rules: RuleSet,
     files: &str,
     text: &str,
-) -> Result<(), Fail> {
+) -> Result<(), NoMemory> {
     let wanted = if text.is_empty() {
         Status::Done
     } else {
@@ -41,16 +41,13 @@ fn expect<R: AllocGlobal + Abort>(
 fn rules_named<R: Abort>(rt: &R, names: &[&str]) -> RuleSet {
     let mut rules = RuleSet::none();
     for name in names {
-        match Rule::from_name(name) {
-            Some(rule) => rules.insert(rule),
-            None => panic!(rt; "no rule {name}"),
-        }
+        rules.insert(Rule::from_name(name).expect(rt, "a rule of this name"));
     }
     rules
 }
 
 // Each rule prints what its row says.
-fn expect_rows<R: AllocGlobal + Abort>(rt: &R, rows: &[Row]) -> Result<(), Fail> {
+fn expect_rows<R: AllocGlobal + Abort>(rt: &R, rows: &[Row]) -> Result<(), NoMemory> {
     for (name, files, text) in rows {
         expect(rt, rules_named(rt, &[*name]), files, text)?;
     }

@@ -7,7 +7,7 @@ use protoref_run::{Command, Status};
 use std::test::Fail;
 
 #[test]
-fn compiles_as_protoc_does(rt: HostRuntime) -> Result<(), Fail> {
+fn compiles_and_lints_as_protoc_tells(rt: HostRuntime) -> Result<(), Fail> {
     let mut store = store_of(rt.alloc(), shop::FILES)?;
     expect(
         &rt,
@@ -16,12 +16,6 @@ fn compiles_as_protoc_does(rt: HostRuntime) -> Result<(), Fail> {
         shop::DESCRIPTORS,
         Status::Done,
     );
-    Ok(())
-}
-
-#[test]
-fn finds_what_protoc_tells(rt: HostRuntime) -> Result<(), Fail> {
-    let mut store = store_of(rt.alloc(), shop::FILES)?;
     expect(
         &rt,
         Command::Lint(RuleSet::all()),

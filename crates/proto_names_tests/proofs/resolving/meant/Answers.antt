@@ -1,7 +1,6 @@
 use Rattle.std.proofs.Common.{ℕ, List, [], ◌∷◌, map, refl, sym, ◌∙◌, ap, subst}
 use Rattle.proto_files.specs.GivenFiles.{file_at}
 use Rattle.proto_text.specs.Texts.{words, word_at}
-use Rattle.proto_text.specs.Tokens.{lexeme_at}
 use Rattle.proto_tree.specs.declared.tree.Behind.{Behind}
 use Rattle.proto_meaning.specs.Joined.{ArePlain}
 use Rattle.proto_names_tests.proofs.PlainWords.{plain, plain_at, word_is}

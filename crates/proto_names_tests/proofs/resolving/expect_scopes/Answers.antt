@@ -1,6 +1,6 @@
 use Rattle.std.proofs.Common.{[], ◌∷◌, refl}
 use Rattle.proto_names_tests.proofs.PlainWords.{plain}
-use Rattle.proto_names_tests.proofs.resolving.a_scope_need_not_be_declared.Goals as goal
+use Rattle.proto_names_tests.proofs.resolving.expect_scopes.Goals as goal
 
 -- p.A
 pub meant-requires-clause-scope : goal.meant-requires-clause-scope
