@@ -11,3 +11,5 @@ mod imports;
 mod lists;
 #[cfg(test)]
 mod statements;
+#[cfg(test)]
+mod wrong_rows;
