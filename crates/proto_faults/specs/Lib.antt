@@ -1,1 +1,2 @@
 pub mod FaultTable
+pub mod Texts
