@@ -21,16 +21,20 @@ use Rattle.proto_tree.specs.Place.{IsPlace, IsShallow, IsTooDeep}
 use Rattle.proto_tree.specs.Walk.{any_piece_in, IsStuck}
 
 -- a tree's tokens stand at the front
-pub record IsRead (c : Context) (tokens : List Lexeme) (t : Tree) (rest : List Lexeme) : Type 0 where
+pub record IsRead (c : Context) (tokens : List Lexeme) (t : Tree) (rest : List Lexeme)
+    : Type 0 where
   pub text : List Lexeme
   pub parts : tokens ≡ text ++ rest
   pub fits : Fit (flat t) text
   pub well_formed : IsWellFormed c t
 
-pub record IsItem (c : Context) (tokens : List Lexeme) (t : Tree) (rest : List Lexeme) : Type 0 where
+-- an item of a block: its tree is read, and at least one token is taken
+pub record IsItem (c : Context) (tokens : List Lexeme) (t : Tree) (rest : List Lexeme)
+    : Type 0 where
   pub read : IsRead c tokens t rest
   pub shorter : length rest + 1 ≤ length tokens
 
+-- the brace that ends a block stands at the front, where one may
 pub record IsClose (c : Context) (tokens : List Lexeme) (j : ℕ) (rest : List Lexeme) : Type 0 where
   pub text : List Lexeme
   pub parts : tokens ≡ text ++ rest
@@ -38,16 +42,20 @@ pub record IsClose (c : Context) (tokens : List Lexeme) (j : ℕ) (rest : List L
   pub may : allows c kind.Close ≡ true
 
 -- the items of a block and the brace behind them
-pub record IsBody (c : Context) (tokens : List Lexeme) (t : Tree) (j : ℕ) (rest : List Lexeme) : Type 0 where
+pub record IsBody (c : Context) (tokens : List Lexeme) (t : Tree) (j : ℕ) (rest : List Lexeme)
+    : Type 0 where
   pub after : List Lexeme
   pub read : IsRead c tokens t after
   pub close : IsClose c after j rest
 
+-- why a block is not read: memory ran out, or pieces can be read up to the last k tokens alone
 abbrev pub FaultOf : Context → List Lexeme → Fault → Type 0
 FaultOf c tokens fault.Memory = Unit {0}
 FaultOf c tokens (fault.Syntax k) = IsStuck (c ∷ []) tokens k
 
-abbrev pub FoundIn : {A : Type 0} → Context → (A → Tree) → List Lexeme → Found A → List Lexeme → Type 0
+-- what is met in a block: an item of it, or the brace that ends it
+abbrev pub FoundIn : {A : Type 0} → Context → (A → Tree) → List Lexeme → Found A → List Lexeme
+    → Type 0
 FoundIn c view tokens (found.Item x) rest = IsItem c tokens (view x) rest
 FoundIn c view tokens (found.Close j) rest = IsClose c tokens j rest
 
@@ -65,15 +73,24 @@ IsItemOf c view s (Some x) = (allows c (statement_kind s) ≡ true) × (view x �
 IsItemOf c view s None = allows c (statement_kind s) ≡ false
 
 -- an item of a file, and the context behind it
-pub record IsItemBefore (c : Context) (tokens : List Lexeme) (t : Tree) (d : Context) (rest : List Lexeme) : Type 0 where
+pub record IsItemBefore (c : Context) (tokens : List Lexeme) (t : Tree) (d : Context)
+    (rest : List Lexeme) : Type 0 where
   pub item : IsItem c tokens t rest
   pub last : last_of c t ≡ d
 
+-- a block: a keyword and a name, and its members between two braces
 abbrev pub braced : {A : Type 0} → Heading → ℕ → Vec A → ℕ → Braced A
-braced h i members j = record { keyword = h.keyword; name = h.name; «open» = i; members = members; close = j }
+braced h i members j = record {
+  keyword = h.keyword;
+  name = h.name;
+  «open» = i;
+  members = members;
+  close = j;
+}
 
 -- why a file has no tree, by the index of a token
 abbrev pub IsUnread : List Lexeme → Unread → Type 0
-IsUnread tokens (unread.Syntax k) = IsShallow tokens × ((t : Tree) → Spells t tokens → ⊥) × IsPlace tokens k
+IsUnread tokens (unread.Syntax k) =
+    IsShallow tokens × ((t : Tree) → Spells t tokens → ⊥) × IsPlace tokens k
 IsUnread tokens (unread.TooDeep k) = IsTooDeep tokens k
 IsUnread tokens unread.Memory = Unit {0}

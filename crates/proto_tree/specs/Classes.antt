@@ -49,6 +49,7 @@ code class.Dot = 38
 code class.Minus = 39
 code class.Other = 40
 
+-- a word, whether listed or not
 abbrev pub is_word : Class → Bool
 is_word class.Number = false
 is_word class.ProtoText = false
@@ -75,12 +76,14 @@ is_value_name class.Option = false
 is_value_name class.Reserved = false
 is_value_name c = is_word c
 
+-- a label of a field: `optional`, `required` or `repeated`
 abbrev pub is_label : Class → Bool
 is_label class.Optional = true
 is_label class.Required = true
 is_label class.Repeated = true
 is_label _ = false
 
+-- a string, whatever it says
 abbrev pub is_text : Class → Bool
 is_text class.ProtoText = true
 is_text class.OtherText = true
@@ -97,6 +100,7 @@ fits want.ValueName c = is_value_name c
 fits want.Label c = is_label c
 fits want.Text c = is_text c
 
+-- a brace, `{` or `}`
 abbrev pub is_brace : Class → Bool
 is_brace class.Open = true
 is_brace class.Close = true

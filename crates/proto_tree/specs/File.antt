@@ -1,4 +1,5 @@
--- The tree of what the library answers: a file, a message and its members, and so on, without where they lie in memory.
+-- The tree of what the library answers: a file, a message and its members, and so on, without where
+-- they lie in memory.
 use Rattle.std.specs.Prelude.{List, map}
 use Rattle.proto_tree.specs.declared.tree.Field.{Field}
 use Rattle.proto_tree.specs.declared.tree.Method.{Method}
@@ -30,39 +31,50 @@ trees view xs = all_joined (map view xs)
 
 -- a block whose items are seen as the tree
 abbrev pub block_tree : {A : Type 0} → (Heading → Header) → Tree → Braced A → Tree
-block_tree make within b = Block (make (record { keyword = b.keyword; name = b.name })) b.open within b.close End
+block_tree make within b =
+    Block (make (record { keyword = b.keyword; name = b.name })) b.open within b.close End
 
+-- what stands in the block of a method: an option, or a lone `;`
 abbrev pub method_item_tree : MethodItem → Tree
 method_item_tree (method_item.Option o) = Leaf (statement.Option o) End
 method_item_tree (method_item.Empty i) = Leaf (statement.Empty i) End
 
+-- a method: its signature, and the `;` or the block that ends it
 abbrev pub method_by : Signature → MethodEnd → Tree
 method_by s (method_end.Semicolon i) = Leaf (statement.Method s i) End
-method_by s (method_end.Block i items j) = Block (header.Method s) i (trees method_item_tree items.items) j End
+method_by s (method_end.Block i items j) =
+    Block (header.Method s) i (trees method_item_tree items.items) j End
 
+-- the same of a whole method
 abbrev pub method_tree : Method → Tree
 method_tree m = method_by m.signature m.end
 
+-- what stands in a service: a method, an option, or a lone `;`
 abbrev pub service_item_tree : ServiceItem → Tree
 service_item_tree (service_item.Method m) = method_tree m
 service_item_tree (service_item.Option o) = Leaf (statement.Option o) End
 service_item_tree (service_item.Empty i) = Leaf (statement.Empty i) End
 
+-- a service: the block of its methods and options
 abbrev pub service_tree : Braced ServiceItem → Tree
 service_tree s = block_tree header.Service (trees service_item_tree s.members.items) s
 
+-- what stands in an enum: a value, an option, a `reserved` statement, or a lone `;`
 abbrev pub enum_item_tree : EnumItem → Tree
 enum_item_tree (enum_item.Value v) = Leaf (statement.Value v) End
 enum_item_tree (enum_item.Option o) = Leaf (statement.Option o) End
 enum_item_tree (enum_item.Reserved r) = Leaf (statement.EnumReserved r) End
 enum_item_tree (enum_item.Empty i) = Leaf (statement.Empty i) End
 
+-- an enum: the block of its values, options and `reserved` statements
 abbrev pub enum_tree : Braced EnumItem → Tree
 enum_tree e = block_tree header.Enum (trees enum_item_tree e.members.items) e
 
+-- a field: one statement
 abbrev pub field_tree : Field → Tree
 field_tree f = Leaf (statement.Field f) End
 
+-- a oneof: the block of its fields
 abbrev pub oneof_tree : Braced Field → Tree
 oneof_tree o = block_tree header.Oneof (trees field_tree o.members.items) o
 
@@ -78,12 +90,15 @@ member_layer (Member-F.Reserved r) = Leaf (statement.Reserved r) End
 member_layer (Member-F.Extensions e) = Leaf (statement.Extensions e) End
 member_layer (Member-F.Empty i) = Leaf (statement.Empty i) End
 
+-- a member of a message, with all that is nested in it
 abbrev pub member_tree : Member → Tree
 member_tree = fold-Member Tree member_layer
 
+-- a message: the block of its members
 abbrev pub message_tree : Braced Member → Tree
 message_tree m = block_tree header.Message (trees member_tree m.members.items) m
 
+-- what stands in a file: a statement, a message, an enum, a service, or a lone `;`
 abbrev pub item_tree : Item → Tree
 item_tree (item.Syntax s) = Leaf (statement.Syntax s) End
 item_tree (item.Import i) = Leaf (statement.Import i) End
@@ -94,5 +109,6 @@ item_tree (item.Enum e) = enum_tree e
 item_tree (item.Service s) = service_tree s
 item_tree (item.Empty i) = Leaf (statement.Empty i) End
 
+-- a whole file: its items, one behind another
 abbrev pub tree_of_file : File → Tree
 tree_of_file f = trees item_tree f.items.items

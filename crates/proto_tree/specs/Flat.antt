@@ -1,4 +1,5 @@
--- The tokens of each part of a tree, in order: what each place wants, and the index that the tree holds there. This is the grammar.
+-- The tokens of each part of a tree, in order: what each place wants, and the index that the tree
+-- holds there. This is the grammar.
 use Rattle.std.specs.Prelude.{◌≡◌, ℕ, true, List, [], ◌∷◌, ◌++◌, Option, Some, None}
 use Rattle.proto_tree.specs.declared.class.Class.{Class}
 use Rattle.proto_tree.specs.declared.class.Class.TheVariants as class
@@ -42,25 +43,32 @@ use Rattle.proto_tree.specs.declared.piece.Piece.{Piece}
 use Rattle.proto_tree.specs.declared.piece.Piece.TheVariants as piece
 use Rattle.proto_tree.specs.Classes.{fits}
 
+-- a place of a tree: what it wants of its token, and the index of the token that it holds
 pub record Mark : Type 0 where
   pub want : Want
   pub at : ℕ
 
+-- the place that wants this and holds the token of this index
 abbrev pub mark : Want → ℕ → Mark
 mark w i = record { want = w; at = i }
 
+-- a part that is one token, which is what is wanted
 abbrev pub only : Want → ℕ → List Mark
 only w i = mark w i ∷ []
 
+-- a part that is one token, of this class
 abbrev pub one : Class → ℕ → List Mark
 one c i = only (want.One c) i
 
+-- any word, a listed one too
 abbrev pub word : ℕ → List Mark
 word i = only want.Word i
 
+-- a word that names what is declared: any word, a listed one too
 abbrev pub name : ℕ → List Mark
 name i = only want.Name i
 
+-- any string
 abbrev pub text : ℕ → List Mark
 text i = only want.Text i
 
@@ -81,18 +89,22 @@ abbrev pub flat_all : {A : Type 0} → (A → List Mark) → List A → List Mar
 flat_all flat [] = []
 flat_all flat (x ∷ xs) = flat x ++ flat_all flat xs
 
+-- a separator of this class, and the item behind it
 abbrev pub flat_behind : {A : Type 0} → Class → (A → List Mark) → Behind A → List Mark
 flat_behind c flat b = one c b.separator ++ flat b.item
 
 -- the first item may want something else than the others
-abbrev pub flat_from : {A : Type 0} → Class → (A → List Mark) → (A → List Mark) → Separated A → List Mark
+abbrev pub flat_from :
+    {A : Type 0} → Class → (A → List Mark) → (A → List Mark) → Separated A → List Mark
 flat_from c first flat s = first s.first ++ flat_all (flat_behind c flat) s.rest
 
+-- one or more items, with a separator of this class between each two
 abbrev pub flat_separated : {A : Type 0} → Class → (A → List Mark) → Separated A → List Mark
 flat_separated c flat s = flat_from c flat flat s
 
 -- ---- names and types
 
+-- one or more words, with a dot between each two
 abbrev pub flat_dotted : Separated ℕ → List Mark
 flat_dotted d = flat_separated class.Dot word d
 
@@ -101,99 +113,162 @@ abbrev pub flat_words : Option ℕ → Separated ℕ → List Mark
 flat_words None d = flat_from class.Dot (one class.Name) word d
 flat_words (Some i) d = one class.Dot i ++ flat_dotted d
 
+-- a reference: words joined by dots, with a dot before them where it is absolute
 abbrev pub flat_reference : Reference → List Mark
 flat_reference r = flat_words r.dot r.words
 
+-- the type of a field: the word of a scalar type, or a reference
 abbrev pub flat_type : FieldType → List Mark
 flat_type (field_type.Scalar i) = one class.Scalar i
 flat_type (field_type.Reference r) = flat_reference r
 
 -- ---- options
 
+-- a number without a sign
 abbrev pub flat_number : ℕ → List Mark
 flat_number i = one class.Number i
 
+-- a number, with a `-` before it where there is one
 abbrev pub flat_signed : Signed → List Mark
 flat_signed n = flat_option (one class.Minus) n.minus ++ one class.Number n.number
 
+-- one or more strings, one behind another, which join to one text
 abbrev pub flat_joined : Joined → List Mark
 flat_joined t = text t.first ++ flat_all text t.rest
 
+-- the value of an option: a word, a number that may have a `-`, or strings
 abbrev pub flat_constant : Constant → List Mark
 flat_constant (constant.Word i) = only want.Constant i
 flat_constant (constant.Number n) = flat_signed n
 flat_constant (constant.Text t) = flat_joined t
 
+-- a setting: a name, `=` and a value
 abbrev pub flat_setting : Setting → List Mark
 flat_setting s = only want.OptionName s.name ++ (one class.Equals s.equals ++ flat_constant s.value)
 
+-- settings: one or more between brackets, with a comma between each two
 abbrev pub flat_settings : Settings → List Mark
-flat_settings s = one class.LeftBracket s.open ++ (flat_separated class.Comma flat_setting s.list ++ one class.RightBracket s.close)
+flat_settings s =
+    one class.LeftBracket s.open
+    ++ (flat_separated class.Comma flat_setting s.list ++ one class.RightBracket s.close)
 
+-- an option: `option`, a name, `=`, a value and `;`
 abbrev pub flat_option_statement : Option_ → List Mark
-flat_option_statement o = one class.Option o.keyword ++ (only want.OptionName o.name ++ (one class.Equals o.equals ++ (flat_constant o.value ++ one class.Semicolon o.semicolon)))
+flat_option_statement o =
+    one class.Option o.keyword
+    ++ (only want.OptionName o.name
+    ++ (one class.Equals o.equals ++ (flat_constant o.value ++ one class.Semicolon o.semicolon)))
 
 -- ---- statements of a file
 
+-- the syntax statement: `syntax`, `=`, a string that says `proto2` or `proto3`, and `;`
 abbrev pub flat_syntax : Syntax → List Mark
-flat_syntax s = one class.Syntax s.keyword ++ (one class.Equals s.equals ++ (one class.ProtoText s.text ++ one class.Semicolon s.semicolon))
+flat_syntax s =
+    one class.Syntax s.keyword
+    ++ (one class.Equals s.equals
+    ++ (one class.ProtoText s.text ++ one class.Semicolon s.semicolon))
 
+-- an import: `import`, `public` where it is there, the string of a path, and `;`
 abbrev pub flat_import : Import → List Mark
-flat_import i = one class.Import i.keyword ++ (flat_option (one class.Public) i.public ++ (text i.path ++ one class.Semicolon i.semicolon))
+flat_import i =
+    one class.Import i.keyword
+    ++ (flat_option (one class.Public) i.public
+    ++ (text i.path ++ one class.Semicolon i.semicolon))
 
+-- a package statement: `package`, words joined by dots, and `;`
 abbrev pub flat_package : Package → List Mark
-flat_package p = one class.Package p.keyword ++ (flat_separated class.Dot name p.name ++ one class.Semicolon p.semicolon)
+flat_package p =
+    one class.Package p.keyword
+    ++ (flat_separated class.Dot name p.name ++ one class.Semicolon p.semicolon)
 
 -- ---- statements of a message
 
+-- a field: its label where it has one, type, name, `=`, number, settings if any, and `;`
 abbrev pub flat_field : Field → List Mark
 flat_field f =
     flat_option (only want.Label) f.label
-    ++ (flat_type f.kind ++ (name f.name ++ (one class.Equals f.equals ++ (one class.Number f.number ++ (flat_option flat_settings f.settings ++ one class.Semicolon f.semicolon)))))
+    ++ (flat_type f.kind
+    ++ (name f.name
+    ++ (one class.Equals f.equals
+    ++ (one class.Number f.number
+    ++ (flat_option flat_settings f.settings ++ one class.Semicolon f.semicolon)))))
 
+-- a map field: `map`, `<`, a scalar type, `,`, a type and `>`, and then as a field from its name on
 abbrev pub flat_map_field : MapField → List Mark
 flat_map_field f =
     one class.Map f.keyword
-    ++ (one class.Less f.open ++ (one class.Scalar f.key ++ (one class.Comma f.comma ++ (flat_type f.value ++ (one class.Greater f.close
-    ++ (name f.name ++ (one class.Equals f.equals ++ (one class.Number f.number ++ (flat_option flat_settings f.settings ++ one class.Semicolon f.semicolon)))))))))
+    ++ (one class.Less f.open
+    ++ (one class.Scalar f.key
+    ++ (one class.Comma f.comma
+    ++ (flat_type f.value
+    ++ (one class.Greater f.close
+    ++ (name f.name
+    ++ (one class.Equals f.equals
+    ++ (one class.Number f.number
+    ++ (flat_option flat_settings f.settings ++ one class.Semicolon f.semicolon)))))))))
 
+-- the end of a range: a number, or `max`
 abbrev pub flat_range_end : {N : Type 0} → (N → List Mark) → RangeEnd N → List Mark
 flat_range_end flat (range_end.Number n) = flat n
 flat_range_end flat (range_end.Max i) = one class.Max i
 
+-- what may stand behind the first number of a range: `to` and the end of the range
 abbrev pub flat_up_to : {N : Type 0} → (N → List Mark) → UpTo N → List Mark
 flat_up_to flat u = one class.To u.to ++ flat_range_end flat u.end
 
+-- a range: a number, and `to` and an end where they are there
 abbrev pub flat_range : {N : Type 0} → (N → List Mark) → Range N → List Mark
 flat_range flat r = flat r.first ++ flat_option (flat_up_to flat) r.up_to
 
+-- one or more ranges, with a comma between each two
 abbrev pub flat_ranges : {N : Type 0} → (N → List Mark) → Separated (Range N) → List Mark
 flat_ranges flat r = flat_separated class.Comma (flat_range flat) r
 
+-- what is reserved: strings that say names, or ranges, with a comma between each two
 abbrev pub flat_reserved_list : {N : Type 0} → (N → List Mark) → ReservedList N → List Mark
 flat_reserved_list flat (reserved_list.Names names) = flat_separated class.Comma text names
 flat_reserved_list flat (reserved_list.Ranges ranges) = flat_ranges flat ranges
 
+-- a `reserved` statement: `reserved`, names or ranges, and `;`
 abbrev pub flat_reserved : {N : Type 0} → (N → List Mark) → Reserved N → List Mark
-flat_reserved flat r = one class.Reserved r.keyword ++ (flat_reserved_list flat r.list ++ one class.Semicolon r.semicolon)
+flat_reserved flat r =
+    one class.Reserved r.keyword
+    ++ (flat_reserved_list flat r.list ++ one class.Semicolon r.semicolon)
 
+-- an `extensions` statement: `extensions`, ranges of numbers, and `;`
 abbrev pub flat_extensions : Extensions → List Mark
-flat_extensions e = one class.Extensions e.keyword ++ (flat_ranges flat_number e.ranges ++ one class.Semicolon e.semicolon)
+flat_extensions e =
+    one class.Extensions e.keyword
+    ++ (flat_ranges flat_number e.ranges ++ one class.Semicolon e.semicolon)
 
 -- ---- statements of an enum and of a service
 
+-- a value of an enum: its name, `=`, a number that may have a `-`, settings if any, and `;`
 abbrev pub flat_value : Value → List Mark
 flat_value v =
-    only want.ValueName v.name ++ (one class.Equals v.equals ++ (flat_signed v.number ++ (flat_option flat_settings v.settings ++ one class.Semicolon v.semicolon)))
+    only want.ValueName v.name
+    ++ (one class.Equals v.equals
+    ++ (flat_signed v.number
+    ++ (flat_option flat_settings v.settings ++ one class.Semicolon v.semicolon)))
 
+-- the input or output of a method: a reference in parentheses, behind `stream` where it streams
 abbrev pub flat_method_type : MethodType → List Mark
-flat_method_type t = one class.LeftParenthesis t.open ++ (flat_option (one class.Stream) t.stream ++ (flat_reference t.reference ++ one class.RightParenthesis t.close))
+flat_method_type t =
+    one class.LeftParenthesis t.open
+    ++ (flat_option (one class.Stream) t.stream
+    ++ (flat_reference t.reference ++ one class.RightParenthesis t.close))
 
+-- what a method begins with: `rpc`, its name, its input, `returns` and its output
 abbrev pub flat_signature : Signature → List Mark
-flat_signature s = one class.Rpc s.keyword ++ (name s.name ++ (flat_method_type s.input ++ (one class.Returns s.returns ++ flat_method_type s.output)))
+flat_signature s =
+    one class.Rpc s.keyword
+    ++ (name s.name
+    ++ (flat_method_type s.input
+    ++ (one class.Returns s.returns ++ flat_method_type s.output)))
 
 -- ---- pieces
 
+-- a statement: what ends with `;`, also a method that has no block, and a lone `;`
 abbrev pub flat_statement : Statement → List Mark
 flat_statement (statement.Syntax s) = flat_syntax s
 flat_statement (statement.Import i) = flat_import i
@@ -208,9 +283,11 @@ flat_statement (statement.EnumReserved r) = flat_reserved flat_signed r
 flat_statement (statement.Method s i) = flat_signature s ++ one class.Semicolon i
 flat_statement (statement.Empty i) = one class.Semicolon i
 
+-- the keyword of a block and its name
 abbrev pub flat_heading : Class → Heading → List Mark
 flat_heading c h = one c h.keyword ++ name h.name
 
+-- what stands before the `{` of a block: a keyword and a name, or a method's signature
 abbrev pub flat_header : Header → List Mark
 flat_header (header.Message h) = flat_heading class.Message h
 flat_header (header.Oneof h) = flat_heading class.Oneof h

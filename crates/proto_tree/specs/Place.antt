@@ -16,6 +16,7 @@ abbrev pub open_from : ℕ → List Lexeme → ℕ
 open_from d [] = d
 open_from d (l ∷ s) = open_from (open_after d l.class) s
 
+-- braces open at the end of a whole file, or of a front of it
 abbrev pub open_in : List Lexeme → ℕ
 open_in s = open_from 0 s
 

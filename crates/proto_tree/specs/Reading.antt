@@ -50,6 +50,7 @@ use Rattle.proto_tree.specs.Classes.{fits}
 abbrev pub Read : Type 0 → Type 0
 Read A = Option (A × List Lexeme)
 
+-- a way of reading: of tokens it makes a value and leaves the others, or fails
 abbrev pub Reader : Type 0 → Type 0
 Reader A = List Lexeme → Read A
 
@@ -58,6 +59,7 @@ abbrev pub Fails : {A : Type 0} → Stop → Option A → Type 0
 Fails stop.Memory read = Unit {0}
 Fails stop.Syntax read = read ≡ None
 
+-- the same of what a function gave, which is seen as a value of the definitions
 abbrev pub Gives : {X A : Type 0} → (X → A) → Result X Stop → Option A → Type 0
 Gives view (Ok x) read = read ≡ Some (view x)
 Gives view (Err e) read = Fails e read
@@ -68,9 +70,11 @@ token w [] = None
 token w (l ∷ rest) = if fits w l.class then Some (l.at, rest) else None
 
 infixr 5 ◌then◌
+-- one part and another behind it
 abbrev pub ◌then◌ : {A B : Type 0} → Reader A → Reader B → Reader (A × B)
 (p then q) s = option_and_then (λ x. option_and_then (λ y. Some ((x.0, y.0), y.1)) (q x.1)) (p s)
 
+-- a part, of which something is made
 abbrev pub made : {A B : Type 0} → (A → B) → Reader A → Reader B
 made f p s = option_and_then (λ x. Some (f x.0, x.1)) (p s)
 
@@ -95,9 +99,11 @@ up_to (suc n) w p s =
     then option_and_then (λ x. option_and_then (λ y. Some (x.0 ∷ y.0, y.1)) (up_to n w p x.1)) (p s)
     else Some ([], s)
 
+-- the same, as often as the tokens last
 unfoldable pub many : {A : Type 0} → Want → Reader A → Reader (List A)
 many w p s = up_to (length s) w p s
 
+-- a token of this class
 abbrev pub one_token : Class → Reader ℕ
 one_token c = token (want.One c)
 
@@ -105,86 +111,152 @@ one_token c = token (want.One c)
 abbrev pub maybe_token : Want → Reader (Option ℕ)
 maybe_token w = maybe w (token w)
 
+-- reads a separator of this class, and the item behind it
 unfoldable pub behind_at : {A : Type 0} → Class → Reader A → Reader (Behind A)
 behind_at c p = made (λ x. record { separator = x.0; item = x.1 }) (one_token c then p)
 
 -- items with separators between them, of which the first is read in its own way
 unfoldable pub from_at : {A : Type 0} → Class → Reader A → Reader A → Reader (Separated A)
-from_at c first p = made (λ x. record { first = x.0; rest = x.1 }) (first then many (want.One c) (behind_at c p))
+from_at c first p = made (λ x. record { first = x.0; rest = x.1 })
+    (first then many (want.One c) (behind_at c p))
 
+-- reads one or more items, with a separator of this class between each two
 abbrev pub separated_at : {A : Type 0} → Class → Reader A → Reader (Separated A)
 separated_at c p = from_at c p p
 
 -- ---- names and types
 
+-- reads one or more words, with a dot between each two
 abbrev pub dotted_at : Reader (Separated ℕ)
 dotted_at = separated_at class.Dot (token want.Word)
 
+-- reads the name of a package: words that name it, with a dot between each two
 abbrev pub package_name_at : Reader (Separated ℕ)
 package_name_at = separated_at class.Dot (token want.Name)
 
+-- reads a reference without a leading dot: its first word is not a listed one
 abbrev pub named_at : Reader (Separated ℕ)
 named_at = from_at class.Dot (one_token class.Name) (token want.Word)
 
+-- reads a reference: words joined by dots, with a dot before them where it is absolute
 unfoldable pub reference_at : Reader Reference
 reference_at = either (want.One class.Dot)
     (made (λ x. record { dot = Some x.0; words = x.1 }) (one_token class.Dot then dotted_at))
     (made (λ x. record { dot = None; words = x }) named_at)
 
+-- reads the type of a field: the word of a scalar type, or a reference
 unfoldable pub type_at : Reader FieldType
-type_at = either (want.One class.Scalar) (made field_type.Scalar (one_token class.Scalar)) (made field_type.Reference reference_at)
+type_at = either (want.One class.Scalar)
+    (made field_type.Scalar (one_token class.Scalar))
+    (made field_type.Reference reference_at)
 
 -- ---- options
 
+-- reads a number, with a `-` before it where there is one
 unfoldable pub signed_at : Reader Signed
-signed_at = made (λ x. record { minus = x.0; number = x.1 }) (maybe_token (want.One class.Minus) then one_token class.Number)
+signed_at = made (λ x. record { minus = x.0; number = x.1 })
+    (maybe_token (want.One class.Minus) then one_token class.Number)
 
+-- reads one or more strings, one behind another, which join to one text
 unfoldable pub joined_at : Reader Joined
-joined_at = made (λ x. record { first = x.0; rest = x.1 }) (token want.Text then many want.Text (token want.Text))
+joined_at = made (λ x. record { first = x.0; rest = x.1 })
+    (token want.Text then many want.Text (token want.Text))
 
+-- reads the value of an option: a word, strings, or a number that may have a `-`
 unfoldable pub constant_at : Reader Constant
 constant_at = either want.Constant (made constant.Word (token want.Constant))
     (either want.Text (made constant.Text joined_at) (made constant.Number signed_at))
 
+-- reads a setting: a name, `=` and a value
 unfoldable pub setting_at : Reader Setting
-setting_at = made (λ x. record { name = x.0; equals = x.1.0; value = x.1.1 }) (token want.OptionName then one_token class.Equals then constant_at)
+setting_at = made (λ x. record { name = x.0; equals = x.1.0; value = x.1.1 })
+    (token want.OptionName then one_token class.Equals then constant_at)
 
+-- reads settings: one or more between brackets, with a comma between each two
 unfoldable pub settings_at : Reader Settings
 settings_at = made (λ x. record { «open» = x.0; list = x.1.0; close = x.1.1 })
-    (one_token class.LeftBracket then separated_at class.Comma setting_at then one_token class.RightBracket)
+    (one_token class.LeftBracket
+    then separated_at class.Comma setting_at
+    then one_token class.RightBracket)
 
+-- reads settings, where there is a bracket to begin them
 abbrev pub maybe_settings : Reader (Option Settings)
 maybe_settings = maybe (want.One class.LeftBracket) settings_at
 
+-- reads an option: `option`, a name, `=`, a value and `;`
 unfoldable pub option_at : Reader Option_
-option_at = made (λ x. record { keyword = x.0; name = x.1.0; equals = x.1.1.0; value = x.1.1.1.0; semicolon = x.1.1.1.1 })
-    (one_token class.Option then token want.OptionName then one_token class.Equals then constant_at then one_token class.Semicolon)
+option_at = made
+    (λ x. record {
+      keyword = x.0;
+      name = x.1.0;
+      equals = x.1.1.0;
+      value = x.1.1.1.0;
+      semicolon = x.1.1.1.1;
+    })
+    (one_token class.Option
+    then token want.OptionName
+    then one_token class.Equals
+    then constant_at
+    then one_token class.Semicolon)
 
 -- ---- statements of a file
 
+-- reads the syntax statement: `syntax`, `=`, a string that says `proto2` or `proto3`, and `;`
 unfoldable pub syntax_at : Reader Syntax
-syntax_at = made (λ x. record { keyword = x.0; equals = x.1.0; text = x.1.1.0; semicolon = x.1.1.1 })
-    (one_token class.Syntax then one_token class.Equals then one_token class.ProtoText then one_token class.Semicolon)
+syntax_at = made
+    (λ x. record { keyword = x.0; equals = x.1.0; text = x.1.1.0; semicolon = x.1.1.1 })
+    (one_token class.Syntax
+    then one_token class.Equals
+    then one_token class.ProtoText
+    then one_token class.Semicolon)
 
+-- reads an import: `import`, `public` where it is there, the string of a path, and `;`
 unfoldable pub import_at : Reader Import
-import_at = made (λ x. record { keyword = x.0; public = x.1.0; path = x.1.1.0; semicolon = x.1.1.1 })
-    (one_token class.Import then maybe_token (want.One class.Public) then token want.Text then one_token class.Semicolon)
+import_at = made
+    (λ x. record { keyword = x.0; public = x.1.0; path = x.1.1.0; semicolon = x.1.1.1 })
+    (one_token class.Import
+    then maybe_token (want.One class.Public)
+    then token want.Text
+    then one_token class.Semicolon)
 
+-- reads a package statement: `package`, words joined by dots, and `;`
 unfoldable pub package_at : Reader Package
 package_at = made (λ x. record { keyword = x.0; name = x.1.0; semicolon = x.1.1 })
     (one_token class.Package then package_name_at then one_token class.Semicolon)
 
 -- ---- statements of a message
 
+-- reads a field: its label where it has one, type, name, `=`, number, settings if any, and `;`
 unfoldable pub field_at : Reader Field
 field_at = made
-    (λ x. record { label = x.0; kind = x.1.0; name = x.1.1.0; equals = x.1.1.1.0; number = x.1.1.1.1.0; settings = x.1.1.1.1.1.0; semicolon = x.1.1.1.1.1.1 })
-    (maybe_token want.Label then type_at then token want.Name then one_token class.Equals then one_token class.Number then maybe_settings then one_token class.Semicolon)
+    (λ x. record {
+      label = x.0;
+      kind = x.1.0;
+      name = x.1.1.0;
+      equals = x.1.1.1.0;
+      number = x.1.1.1.1.0;
+      settings = x.1.1.1.1.1.0;
+      semicolon = x.1.1.1.1.1.1;
+    })
+    (maybe_token want.Label
+    then type_at
+    then token want.Name
+    then one_token class.Equals
+    then one_token class.Number
+    then maybe_settings
+    then one_token class.Semicolon)
 
 -- the name, the number and the settings of a map field
 abbrev pub numbered_at : Reader (ℕ × (ℕ × (ℕ × (Option Settings × ℕ))))
-numbered_at = token want.Name then one_token class.Equals then one_token class.Number then maybe_settings then one_token class.Semicolon
+numbered_at =
+    token want.Name
+    then one_token class.Equals
+    then one_token class.Number
+    then maybe_settings
+    then one_token class.Semicolon
 
+-- reads a map field: `map`, `<`, a scalar type, `,`, a type, `>`, and what a field has from its
+-- name on
 unfoldable pub map_field_at : Reader MapField
 map_field_at = made
     (λ x. record {
@@ -200,52 +272,106 @@ map_field_at = made
       settings = x.1.1.1.1.1.1.1.1.1.0;
       semicolon = x.1.1.1.1.1.1.1.1.1.1;
     })
-    (one_token class.Map then one_token class.Less then one_token class.Scalar then one_token class.Comma then type_at then one_token class.Greater then numbered_at)
+    (one_token class.Map
+    then one_token class.Less
+    then one_token class.Scalar
+    then one_token class.Comma
+    then type_at
+    then one_token class.Greater
+    then numbered_at)
 
+-- reads the end of a range: `max`, or a number
 unfoldable pub range_end_at : {N : Type 0} → Reader N → Reader (RangeEnd N)
-range_end_at n = either (want.One class.Max) (made range_end.Max (one_token class.Max)) (made range_end.Number n)
+range_end_at n = either (want.One class.Max)
+    (made range_end.Max (one_token class.Max))
+    (made range_end.Number n)
 
+-- reads `to` and the end of a range
 unfoldable pub up_to_at : {N : Type 0} → Reader N → Reader (UpTo N)
 up_to_at n = made (λ x. record { to = x.0; end = x.1 }) (one_token class.To then range_end_at n)
 
+-- reads a range: a number, and `to` and an end where they are there
 unfoldable pub range_at : {N : Type 0} → Reader N → Reader (Range N)
-range_at n = made (λ x. record { first = x.0; up_to = x.1 }) (n then maybe (want.One class.To) (up_to_at n))
+range_at n = made (λ x. record { first = x.0; up_to = x.1 })
+    (n then maybe (want.One class.To) (up_to_at n))
 
+-- reads one or more ranges, with a comma between each two
 abbrev pub ranges_at : {N : Type 0} → Reader N → Reader (Separated (Range N))
 ranges_at n = separated_at class.Comma (range_at n)
 
+-- reads what is reserved: strings that say names, or ranges, with a comma between each two
 unfoldable pub reserved_list_at : {N : Type 0} → Reader N → Reader (ReservedList N)
-reserved_list_at n = either want.Text (made reserved_list.Names (separated_at class.Comma (token want.Text))) (made reserved_list.Ranges (ranges_at n))
+reserved_list_at n = either want.Text
+    (made reserved_list.Names (separated_at class.Comma (token want.Text)))
+    (made reserved_list.Ranges (ranges_at n))
 
+-- reads a `reserved` statement: `reserved`, names or ranges, and `;`
 unfoldable pub reserved_at : {N : Type 0} → Reader N → Reader (Reserved N)
 reserved_at n = made (λ x. record { keyword = x.0; list = x.1.0; semicolon = x.1.1 })
     (one_token class.Reserved then reserved_list_at n then one_token class.Semicolon)
 
+-- reads an `extensions` statement: `extensions`, ranges of numbers, and `;`
 unfoldable pub extensions_at : Reader Extensions
 extensions_at = made (λ x. record { keyword = x.0; ranges = x.1.0; semicolon = x.1.1 })
-    (one_token class.Extensions then ranges_at (one_token class.Number) then one_token class.Semicolon)
+    (one_token class.Extensions
+    then ranges_at (one_token class.Number)
+    then one_token class.Semicolon)
 
 -- ---- statements of an enum and of a service
 
+-- reads a value of an enum: its name, `=`, its number, settings if any, and `;`
 unfoldable pub value_at : Reader Value
-value_at = made (λ x. record { name = x.0; equals = x.1.0; number = x.1.1.0; settings = x.1.1.1.0; semicolon = x.1.1.1.1 })
-    (token want.ValueName then one_token class.Equals then signed_at then maybe_settings then one_token class.Semicolon)
+value_at = made
+    (λ x. record {
+      name = x.0;
+      equals = x.1.0;
+      number = x.1.1.0;
+      settings = x.1.1.1.0;
+      semicolon = x.1.1.1.1;
+    })
+    (token want.ValueName
+    then one_token class.Equals
+    then signed_at
+    then maybe_settings
+    then one_token class.Semicolon)
 
+-- reads the input or output of a method: a reference in parentheses, which may stream
 unfoldable pub method_type_at : Reader MethodType
-method_type_at = made (λ x. record { «open» = x.0; stream = x.1.0; reference = x.1.1.0; close = x.1.1.1 })
-    (one_token class.LeftParenthesis then maybe_token (want.One class.Stream) then reference_at then one_token class.RightParenthesis)
+method_type_at = made
+    (λ x. record { «open» = x.0; stream = x.1.0; reference = x.1.1.0; close = x.1.1.1 })
+    (one_token class.LeftParenthesis
+    then maybe_token (want.One class.Stream)
+    then reference_at
+    then one_token class.RightParenthesis)
 
+-- reads what a method begins with: `rpc`, its name, its input, `returns` and its output
 unfoldable pub signature_at : Reader Signature
-signature_at = made (λ x. record { keyword = x.0; name = x.1.0; input = x.1.1.0; returns = x.1.1.1.0; output = x.1.1.1.1 })
-    (one_token class.Rpc then token want.Name then method_type_at then one_token class.Returns then method_type_at)
+signature_at = made
+    (λ x. record {
+      keyword = x.0;
+      name = x.1.0;
+      input = x.1.1.0;
+      returns = x.1.1.1.0;
+      output = x.1.1.1.1;
+    })
+    (one_token class.Rpc
+    then token want.Name
+    then method_type_at
+    then one_token class.Returns
+    then method_type_at)
 
+-- reads what a signature is followed by: a `;`, or the brace of a block
 unfoldable pub ending_at : Reader Ending
-ending_at = either (want.One class.Semicolon) (made ending.Semicolon (one_token class.Semicolon)) (made ending.Open (one_token class.Open))
+ending_at = either (want.One class.Semicolon)
+    (made ending.Semicolon (one_token class.Semicolon))
+    (made ending.Open (one_token class.Open))
 
+-- a method that `;` ends is a statement, and one with a brace begins a block
 abbrev pub method_piece : Signature → Ending → Piece
 method_piece s (ending.Semicolon i) = piece.Statement (statement.Method s i)
 method_piece s (ending.Open i) = piece.Open (header.Method s) i
 
+-- reads a method: its signature, and the `;` or the brace behind it
 unfoldable pub method_at : Reader Piece
 method_at = made (λ x. method_piece x.0 x.1) (signature_at then ending_at)
 
@@ -253,8 +379,10 @@ method_at = made (λ x. method_piece x.0 x.1) (signature_at then ending_at)
 
 -- a keyword, a name and a brace
 abbrev pub heading_at : Class → Reader (Heading × ℕ)
-heading_at c = made (λ x. (record { keyword = x.0; name = x.1.0 }, x.1.1)) (one_token c then token want.Name then one_token class.Open)
+heading_at c = made (λ x. (record { keyword = x.0; name = x.1.0 }, x.1.1))
+    (one_token c then token want.Name then one_token class.Open)
 
+-- reads the beginning of a block by its keyword: a keyword, a name and a brace
 abbrev pub opened : (Heading → Header) → Class → Reader Piece
 opened make c = made (λ x. piece.Open (make x.0) x.1) (heading_at c)
 
@@ -265,15 +393,19 @@ header_of class.Oneof h = header.Oneof h
 header_of class.Enum h = header.Enum h
 header_of _ h = header.Service h
 
+-- reads a piece that is a statement
 abbrev pub stated : {A : Type 0} → (A → Statement) → Reader A → Reader Piece
 stated make p = made (λ x. piece.Statement (make x)) p
 
+-- reads the brace that ends a block
 abbrev pub close_at : Reader Piece
 close_at = made piece.Close (one_token class.Close)
 
+-- reads a lone `;`
 abbrev pub empty_at : Reader Piece
 empty_at = stated statement.Empty (one_token class.Semicolon)
 
+-- one way where the first token is of the class, and the other elsewhere
 abbrev pub on : Class → Reader Piece → Reader Piece → Reader Piece
 on c p q = either (want.One c) p q
 

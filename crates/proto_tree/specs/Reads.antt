@@ -1,5 +1,7 @@
--- A file as read: its tokens, and the tree that they spell; and what is wrong with a file that has none.
+-- A file as read: its tokens, and the tree that they spell; and what is wrong with a file that has
+-- none.
 use Rattle.std.specs.Prelude.{◌≡◌, ℕ, zero, suc, List, [], ◌∷◌, length, map, codes, Result, Ok, Err}
+use Rattle.proto_faults.specs.Texts.{Text}
 use Rattle.proto_text.specs.declared.lexer.Token.{Token}
 use Rattle.proto_text.specs.Tokens.{lexeme_at, AreTokens}
 use Rattle.proto_tree.specs.declared.class.Lexeme.{Lexeme}
@@ -12,23 +14,24 @@ use Rattle.proto_tree.specs.Place.{IsPlace, IsShallow, IsTooDeep}
 use Rattle.proto_tree.specs.Words.{classes}
 
 -- the tokens of a text as the grammar sees them
-abbrev pub classed : List ℕ → List Token → List Lexeme
+abbrev pub classed : Text → List Token → List Lexeme
 classed text tokens = classes 0 (map (lexeme_at text) tokens)
 
--- the tokens are those of the text, the tree spells them, and no more than 32 braces are open at once
-pub record Reads (text : List ℕ) (tokens : List Token) (tree : Tree) : Type 0 where
+-- the tokens are those of the text, the tree spells them, and no more than 32 braces are open at
+-- once
+pub record Reads (text : Text) (tokens : List Token) (tree : Tree) : Type 0 where
   pub tokens_are : AreTokens text tokens
   pub spells : Spells tree (classed text tokens)
   pub shallow : IsShallow (classed text tokens)
 
 -- where the token with this index begins, or the text ends
-abbrev pub place_at : List ℕ → List Token → ℕ → ℕ
+abbrev pub place_at : Text → List Token → ℕ → ℕ
 place_at text [] k = length text
 place_at text (t ∷ ts) zero = t.span.start
 place_at text (t ∷ ts) (suc k) = place_at text ts k
 
 -- no tree spells the tokens, they are not too deep, and the longest good front ends at the offset
-pub record IsSyntaxAt (text : List ℕ) (tokens : List Token) (offset : ℕ) : Type 0 where
+pub record IsSyntaxAt (text : Text) (tokens : List Token) (offset : ℕ) : Type 0 where
   pub shallow : IsShallow (classed text tokens)
   pub no_tree : (t : Tree) → Spells t (classed text tokens) → ⊥
   pub at : ℕ
@@ -36,36 +39,43 @@ pub record IsSyntaxAt (text : List ℕ) (tokens : List Token) (offset : ℕ) : T
   pub offset_is : offset ≡ place_at text tokens at
 
 -- the brace at the offset is the first that is one too many
-pub record IsTooDeepAt (text : List ℕ) (tokens : List Token) (offset : ℕ) : Type 0 where
+pub record IsTooDeepAt (text : Text) (tokens : List Token) (offset : ℕ) : Type 0 where
   pub at : ℕ
   pub place : IsTooDeep (classed text tokens) at
   pub offset_is : offset ≡ place_at text tokens at
 
-abbrev pub IsFault : List ℕ → List Token → ParseFault → Type 0
+-- what is wrong with a file, and where; want of memory is no fault of the file
+abbrev pub IsFault : Text → List Token → ParseFault → Type 0
 IsFault text tokens (fault.Syntax offset) = IsSyntaxAt text tokens offset
 IsFault text tokens (fault.TooDeep offset) = IsTooDeepAt text tokens offset
 IsFault text tokens fault.NoMemory = ⊥
 
-abbrev pub is_fault_or_memory : List ℕ → List Token → ParseFault → Type 0
+-- the same, or want of memory
+abbrev pub is_fault_or_memory : Text → List Token → ParseFault → Type 0
 is_fault_or_memory text tokens fault.NoMemory = Unit {0}
 is_fault_or_memory text tokens f = IsFault text tokens f
 
 -- what reading the tokens of a text answers
-abbrev pub IsParsed : List ℕ → List Token → Result File ParseFault → Type 0
-IsParsed text tokens (Ok f) = Reads text tokens (tree_of_file f) × ((t : Tree) → Spells t (classed text tokens) → t ≡ tree_of_file f)
+abbrev pub IsParsed : Text → List Token → Result File ParseFault → Type 0
+IsParsed text tokens (Ok f) =
+    Reads text tokens (tree_of_file f)
+    × ((t : Tree) → Spells t (classed text tokens) → t ≡ tree_of_file f)
 IsParsed text tokens (Err f) = is_fault_or_memory text tokens f
 
+-- where a fault lies, in bytes from 0
 abbrev pub fault_offset : ParseFault → ℕ
 fault_offset (fault.Syntax offset) = offset
 fault_offset (fault.TooDeep offset) = offset
 fault_offset fault.NoMemory = 0
 
+-- the number of a fault in the list of all faults, and 0 for want of memory
 abbrev pub fault_number : ParseFault → ℕ
 fault_number (fault.Syntax offset) = 8
 fault_number (fault.TooDeep offset) = 9
 fault_number fault.NoMemory = 0
 
-abbrev pub fault_name : ParseFault → List ℕ
+-- the name of a fault
+abbrev pub fault_name : ParseFault → Text
 fault_name (fault.Syntax offset) = codes "Syntax"
 fault_name (fault.TooDeep offset) = codes "TooDeep"
 fault_name fault.NoMemory = codes "NoMemory"

@@ -1,4 +1,5 @@
--- Statements taken out of a tree, put into it or replaced by others, with the indices behind them moved.
+-- Statements taken out of a tree, put into it or replaced by others, with the indices behind them
+-- moved.
 use Rattle.std.specs.Prelude.{◌≡◌, ℕ, ◌+◌, List, ◌++◌, length}
 use Rattle.proto_text.specs.Tokens.{Lexeme}
 use Rattle.proto_tree.specs.declared.piece.Statement.{Statement}
@@ -11,13 +12,20 @@ use Rattle.proto_tree.specs.Tree.{Tree, End, Leaf, Block, flat, statement_kind, 
 use Rattle.proto_tree.specs.Words.{classes}
 use Rattle.proto_tree.specs.Moved.{Move, move_tree}
 
--- The second tree is the first with the items of b in the place of those of a, at one place and in a context where b may stand;
--- what stands behind them is moved.
+-- The second tree is the first with the items of b in the place of those of a, at one place and in
+-- a context where b may stand; what stands behind them is moved.
 pub data IsReplaced (g : Move) (a b : Tree) : Context → Tree → Tree → Type 0 where
-  Here : (c : Context) (rest : Tree) → IsWellFormed c b → last_of c b ≡ last_of c a → IsReplaced g a b c (joined a rest) (joined b (move_tree g rest))
-  Later : (c : Context) (s : Statement) (t u : Tree) → IsReplaced g a b (after c (statement_kind s)) t u → IsReplaced g a b c (Leaf s t) (Leaf s u)
-  Inside : (c : Context) (h : Header) (i : ℕ) (t u : Tree) (j : ℕ) (rest : Tree) → IsReplaced g a b (inside h) t u → IsReplaced g a b c (Block h i t j rest) (Block h i u (g j) (move_tree g rest))
-  Behind : (c : Context) (h : Header) (i : ℕ) (within : Tree) (j : ℕ) (t u : Tree) → IsReplaced g a b (after c (header_kind h)) t u → IsReplaced g a b c (Block h i within j t) (Block h i within j u)
+  Here : (c : Context) (rest : Tree) → IsWellFormed c b → last_of c b ≡ last_of c a
+      → IsReplaced g a b c (joined a rest) (joined b (move_tree g rest))
+  Later : (c : Context) (s : Statement) (t u : Tree)
+      → IsReplaced g a b (after c (statement_kind s)) t u
+      → IsReplaced g a b c (Leaf s t) (Leaf s u)
+  Inside : (c : Context) (h : Header) (i : ℕ) (t u : Tree) (j : ℕ) (rest : Tree)
+      → IsReplaced g a b (inside h) t u
+      → IsReplaced g a b c (Block h i t j rest) (Block h i u (g j) (move_tree g rest))
+  Behind : (c : Context) (h : Header) (i : ℕ) (within : Tree) (j : ℕ) (t u : Tree)
+      → IsReplaced g a b (after c (header_kind h)) t u
+      → IsReplaced g a b c (Block h i within j t) (Block h i within j u)
 
 -- how many tokens stand before the place
 abbrev pub before : {g : Move} {a b : Tree} {c : Context} {t u : Tree} → IsReplaced g a b c t u → ℕ
@@ -28,7 +36,10 @@ before (Behind c h i within j t u r) = length (flat (Block h i within j End)) + 
 
 -- Where the tokens of a are replaced by those of b, the second tree spells what comes out.
 abbrev pub StatementsAreReplaced : Type 0
-StatementsAreReplaced = (g : Move) (a b t u : Tree) (r : IsReplaced g a b context.Start t u) (front old new back : List Lexeme)
-    → before r ≡ length front → length (flat a) ≡ length old → Fit (flat b) (classes (length front) new)
+StatementsAreReplaced =
+    (g : Move) (a b t u : Tree) (r : IsReplaced g a b context.Start t u)
+    (front old new back : List Lexeme)
+    → before r ≡ length front → length (flat a) ≡ length old
+    → Fit (flat b) (classes (length front) new)
     → ((k : ℕ) → g (length front + length old + k) ≡ length front + length new + k)
     → Spells t (classes 0 (front ++ (old ++ back))) → Spells u (classes 0 (front ++ (new ++ back)))

@@ -9,8 +9,8 @@ use Rattle.proto_tree.specs.Flat.{Mark}
 use Rattle.proto_tree.specs.Tree.{Tree, Spells, flat}
 use Rattle.proto_tree.specs.Words.{classes}
 
--- A token names what is declared, is a word of a reference, names an option, is a word that is an option's value,
--- a label, a scalar type, a number, or something else.
+-- A token names what is declared, is a word of a reference, names an option, is a word that is an
+-- option's value, a label, a scalar type, a number, or something else.
 pub data Role : Type 0 where
   names : Role
   refers : Role
@@ -21,6 +21,7 @@ pub data Role : Type 0 where
   is_number : Role
   is_other : Role
 
+-- the role of a token by what its place wants
 abbrev pub role_of : Want → Role
 role_of want.Name = names
 role_of want.ValueName = names
@@ -35,15 +36,23 @@ role_of _ = is_other
 
 -- the token stands in the tree where one of this role is wanted
 abbrev pub HasRole : Tree → Role → ℕ → Type 0
-HasRole tree role token = (m : Mark) × Contains (flat tree) m × (m.at ≡ token) × (role_of m.want ≡ role)
+HasRole tree role token =
+    (m : Mark) × Contains (flat tree) m × (m.at ≡ token) × (role_of m.want ≡ role)
 
--- A token of a tree is one of the text, and each token of the text has a role,
+-- A token that has a role in a tree is one of the text,
 abbrev pub RolesAreOfTokens : Type 0
-RolesAreOfTokens = (tree : Tree) (ls : List Lexeme) (role : Role) (token : ℕ) → Spells tree (classes 0 ls) → HasRole tree role token → token < length ls
+RolesAreOfTokens =
+    (tree : Tree) (ls : List Lexeme) (role : Role) (token : ℕ) → Spells tree (classes 0 ls)
+    → HasRole tree role token → token < length ls
 
+-- each token of the text has a role,
 abbrev pub TokensHaveRoles : Type 0
-TokensHaveRoles = (tree : Tree) (ls : List Lexeme) (token : ℕ) → Spells tree (classes 0 ls) → token < length ls → (role : Role) × HasRole tree role token
+TokensHaveRoles =
+    (tree : Tree) (ls : List Lexeme) (token : ℕ) → Spells tree (classes 0 ls) → token < length ls
+    → (role : Role) × HasRole tree role token
 
 -- and no other one.
 abbrev pub RolesAreOne : Type 0
-RolesAreOne = (tree : Tree) (ls : List Lexeme) (a b : Role) (token : ℕ) → Spells tree (classes 0 ls) → HasRole tree a token → HasRole tree b token → a ≡ b
+RolesAreOne =
+    (tree : Tree) (ls : List Lexeme) (a b : Role) (token : ℕ) → Spells tree (classes 0 ls)
+    → HasRole tree a token → HasRole tree b token → a ≡ b

@@ -14,10 +14,12 @@ use Rattle.proto_tree.specs.declared.context.Kind.{Kind}
 use Rattle.proto_tree.specs.declared.context.Kind.TheVariants as kind
 use Rattle.proto_tree.specs.Flat.{Mark, one, Fit, flat_statement, flat_header}
 
+-- what kind of field it is: with a label or without
 abbrev pub field_kind : Option ℕ → Kind
 field_kind None = kind.Field
 field_kind (Some i) = kind.LabeledField
 
+-- what kind of piece a statement is
 abbrev pub statement_kind : Statement → Kind
 statement_kind (statement.Syntax s) = kind.Syntax
 statement_kind (statement.Import i) = kind.Import
@@ -32,6 +34,7 @@ statement_kind (statement.EnumReserved r) = kind.EnumReserved
 statement_kind (statement.Method s i) = kind.Method
 statement_kind (statement.Empty i) = kind.Empty
 
+-- what kind of piece the beginning of a block is, by what the block is
 abbrev pub header_kind : Header → Kind
 header_kind (header.Message h) = kind.OpenMessage
 header_kind (header.Oneof h) = kind.OpenOneof
@@ -39,11 +42,13 @@ header_kind (header.Enum h) = kind.OpenEnum
 header_kind (header.Service h) = kind.OpenService
 header_kind (header.Method s) = kind.OpenMethod
 
+-- what kind of piece it is: a statement, the beginning of a block, or the brace that ends one
 abbrev pub kind_of : Piece → Kind
 kind_of (piece.Statement s) = statement_kind s
 kind_of (piece.Open h i) = header_kind h
 kind_of (piece.Close i) = kind.Close
 
+-- what may stand in a file at any place: all that a file may hold but `syntax` and `package`
 abbrev pub in_file : Kind → Bool
 in_file kind.Import = true
 in_file kind.Option = true
@@ -53,10 +58,12 @@ in_file kind.OpenEnum = true
 in_file kind.OpenService = true
 in_file _ = false
 
+-- what may stand in a file that has no package yet
 abbrev pub before_package : Kind → Bool
 before_package kind.Package = true
 before_package k = in_file k
 
+-- what may stand in a message
 abbrev pub in_message : Kind → Bool
 in_message kind.Field = true
 in_message kind.LabeledField = true
@@ -71,6 +78,7 @@ in_message kind.OpenEnum = true
 in_message kind.Close = true
 in_message _ = false
 
+-- what may stand in an enum
 abbrev pub in_enum : Kind → Bool
 in_enum kind.Value = true
 in_enum kind.Option = true
@@ -79,6 +87,7 @@ in_enum kind.Empty = true
 in_enum kind.Close = true
 in_enum _ = false
 
+-- what may stand in a service
 abbrev pub in_service : Kind → Bool
 in_service kind.Method = true
 in_service kind.OpenMethod = true
@@ -104,7 +113,8 @@ allows context.Method kind.Empty = true
 allows context.Method kind.Close = true
 allows context.Method _ = false
 
--- where the next piece of the same block stands: `syntax` is first alone, and a file has one package
+-- where the next piece of the same block stands: `syntax` is first alone, and a file has one
+-- package
 abbrev pub after : Context → Kind → Context
 after context.Start kind.Package = context.Packaged
 after context.Start _ = context.File
@@ -130,13 +140,18 @@ pub data Tree : Type 0 where
 abbrev pub flat : Tree → List Mark
 flat End = []
 flat (Leaf s rest) = flat_statement s ++ flat rest
-flat (Block h i within j rest) = (flat_header h ++ one class.Open i) ++ (flat within ++ (one class.Close j ++ flat rest))
+flat (Block h i within j rest) =
+    (flat_header h ++ one class.Open i) ++ (flat within ++ (one class.Close j ++ flat rest))
 
 -- each statement and block stands where it may
 abbrev pub IsWellFormed : Context → Tree → Type 0
 IsWellFormed c End = Unit {0}
-IsWellFormed c (Leaf s rest) = (allows c (statement_kind s) ≡ true) × IsWellFormed (after c (statement_kind s)) rest
-IsWellFormed c (Block h i within j rest) = (allows c (header_kind h) ≡ true) × IsWellFormed (inside h) within × IsWellFormed (after c (header_kind h)) rest
+IsWellFormed c (Leaf s rest) =
+    (allows c (statement_kind s) ≡ true) × IsWellFormed (after c (statement_kind s)) rest
+IsWellFormed c (Block h i within j rest) =
+    (allows c (header_kind h) ≡ true)
+    × IsWellFormed (inside h) within
+    × IsWellFormed (after c (header_kind h)) rest
 
 -- where the tokens after a tree stand
 abbrev pub last_of : Context → Tree → Context
@@ -155,6 +170,7 @@ joined End u = u
 joined (Leaf s rest) u = Leaf s (joined rest u)
 joined (Block h i within j rest) u = Block h i within j (joined rest u)
 
+-- trees, one behind another
 abbrev pub all_joined : List Tree → Tree
 all_joined [] = End
 all_joined (t ∷ ts) = joined t (all_joined ts)

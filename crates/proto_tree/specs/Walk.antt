@@ -10,13 +10,15 @@ use Rattle.proto_tree.specs.Flat.{Fit, flat_all, flat_piece}
 use Rattle.proto_tree.specs.Reading.{Reader, piece_at, enum_piece_at}
 use Rattle.proto_tree.specs.Tree.{statement_kind, header_kind, kind_of, allows, after, inside}
 
+-- reads a piece as it is read in this context, whether it may stand there or not
 abbrev pub any_piece_in : Context → Reader Piece
 any_piece_in context.Enum = enum_piece_at
 any_piece_in _ = piece_at
 
 -- a piece that may stand here
 unfoldable pub piece_in : Context → Reader Piece
-piece_in c s = option_and_then (λ x. if allows c (kind_of x.0) then Some x else None) (any_piece_in c s)
+piece_in c s =
+    option_and_then (λ x. if allows c (kind_of x.0) then Some x else None) (any_piece_in c s)
 
 -- the contexts after a piece, innermost first
 abbrev pub moved : Context → Piece → List Context → List Context

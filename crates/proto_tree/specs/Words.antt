@@ -1,4 +1,5 @@
--- The class of a token by its kind and its text: the listed words, the punctuation, and the strings that name an edition of the language.
+-- The class of a token by its kind and its text: the listed words, the punctuation, and the strings
+-- that name an edition of the language.
 use Rattle.std.specs.Prelude.{ℕ, suc, Bool, ◌==◌, ◌||◌, List, [], ◌∷◌, length, codes, if◌then◌else◌, not}
 use Rattle.std.specs.Str.{bytes_eq}
 use Rattle.proto_text.specs.declared.kind.TokenKind.{TokenKind}
@@ -16,9 +17,11 @@ pub record Listed : Type 0 where
   pub word : List ℕ
   pub class : Class
 
+-- the word w, which is of the class c
 abbrev pub row : List ℕ → Class → Listed
 row w c = record { word = w; class = c }
 
+-- the class that a list has of a word, and another one where the list lacks the word
 abbrev pub class_in : List Listed → Class → List ℕ → Class
 class_in [] other w = other
 class_in (k ∷ ks) other w = if bytes_eq w k.word then k.class else class_in ks other w
@@ -91,8 +94,10 @@ marks =
 
 -- a string whose value is `proto2` or `proto3`, or another one
 abbrev pub text_class : List ℕ → Class
-text_class w = if says w (codes "proto2") || says w (codes "proto3") then class.ProtoText else class.OtherText
+text_class w =
+    if says w (codes "proto2") || says w (codes "proto3") then class.ProtoText else class.OtherText
 
+-- the class of a token by its kind and its text
 abbrev pub class_by : TokenKind → List ℕ → Class
 class_by Word w = class_in listed class.Name w
 class_by Number w = class.Number
