@@ -17,7 +17,9 @@ use std::alloc::Global;
 /// Why a file was not read: for want of memory, or how many tokens are left where it goes wrong.
 #[derive(Clone, Copy)]
 pub enum Fault {
+    /// Memory ran out.
     Memory,
+    /// No piece that may stand there is read where so many tokens are left.
     Syntax(usize),
 }
 
@@ -28,6 +30,7 @@ pub enum Found<T: Drop> {
     Close(u32),
 }
 
+/// Adds the item at the end.
 pub fn push<T: Drop>(items: &mut Vec<T>, item: T) -> Result<(), Fault>
     ensures { MatchResult result (λ _. items.new.items ≡ items.old.items ++ item ∷ [])
         (λ e. e ≡ Fault.Memory) }
@@ -38,6 +41,7 @@ pub fn push<T: Drop>(items: &mut Vec<T>, item: T) -> Result<(), Fault>
     }
 }
 
+/// A block: its heading, and its members between two braces.
 pub fn block<T: Drop>(heading: Heading, open: u32, members: Vec<T>, close: u32) -> Block<T>
     ensures { result ≡ braced heading «open» members close }
 {
@@ -67,6 +71,7 @@ pub fn next_piece(
     }
 }
 
+/// The next item of a method's block, or the brace that ends it.
 fn method_item(alloc: Global, tokens: &[Lexeme]) -> Result<(Found<MethodItem>, &[Lexeme]), Fault>
     ensures { MatchResult result (λ x. FoundIn Context.Method method_item_tree tokens.now x.0
         x.1.now) (FaultOf Context.Method tokens.now) }
@@ -85,6 +90,7 @@ fn method_item(alloc: Global, tokens: &[Lexeme]) -> Result<(Found<MethodItem>, &
     }
 }
 
+/// What stands in a method's block, and the brace that ends it.
 fn method_items(
     alloc: Global,
     tokens: &[Lexeme],
@@ -104,6 +110,7 @@ fn method_items(
     }
 }
 
+/// The next item of a service, or the brace that ends it.
 fn service_item(alloc: Global, tokens: &[Lexeme]) -> Result<(Found<ServiceItem>, &[Lexeme]), Fault>
     ensures { MatchResult result (λ x. FoundIn Context.Service service_item_tree tokens.now x.0
         x.1.now) (FaultOf Context.Service tokens.now) }
@@ -127,6 +134,7 @@ fn service_item(alloc: Global, tokens: &[Lexeme]) -> Result<(Found<ServiceItem>,
     }
 }
 
+/// What stands in a service, and the brace that ends it.
 pub fn service_items(
     alloc: Global,
     tokens: &[Lexeme],
@@ -146,6 +154,7 @@ pub fn service_items(
     }
 }
 
+/// The next item of an enum, or the brace that ends it.
 fn enum_item(alloc: Global, tokens: &[Lexeme]) -> Result<(Found<EnumItem>, &[Lexeme]), Fault>
     ensures { MatchResult result (λ x. FoundIn Context.Enum enum_item_tree tokens.now x.0 x.1.now)
         (FaultOf Context.Enum tokens.now) }
@@ -164,6 +173,7 @@ fn enum_item(alloc: Global, tokens: &[Lexeme]) -> Result<(Found<EnumItem>, &[Lex
     }
 }
 
+/// What stands in an enum, and the brace that ends it.
 pub fn enum_items(
     alloc: Global,
     tokens: &[Lexeme],
@@ -183,6 +193,7 @@ pub fn enum_items(
     }
 }
 
+/// The next field of a oneof, or the brace that ends it.
 fn oneof_field(alloc: Global, tokens: &[Lexeme]) -> Result<(Found<Field>, &[Lexeme]), Fault>
     ensures { MatchResult result (λ x. FoundIn Context.Oneof field_tree tokens.now x.0 x.1.now)
         (FaultOf Context.Oneof tokens.now) }
@@ -201,6 +212,7 @@ fn oneof_field(alloc: Global, tokens: &[Lexeme]) -> Result<(Found<Field>, &[Lexe
     }
 }
 
+/// The fields of a oneof, and the brace that ends it.
 fn oneof_fields(alloc: Global, tokens: &[Lexeme]) -> Result<(Vec<Field>, u32, &[Lexeme]), Fault>
     ensures { MatchResult result (λ x. IsBody Context.Oneof tokens.now
         (trees field_tree x.0.items) x.1 x.2.now) (FaultOf Context.Oneof tokens.now) }
@@ -217,6 +229,7 @@ fn oneof_fields(alloc: Global, tokens: &[Lexeme]) -> Result<(Vec<Field>, u32, &[
     }
 }
 
+/// The next member of a message, or the brace that ends it.
 #[cycle(messages)]
 fn member(alloc: Global, tokens: &[Lexeme]) -> Result<(Found<Member>, &[Lexeme]), Fault>
     ensures { MatchResult result (λ x. FoundIn Context.Message member_tree tokens.now x.0 x.1.now)
@@ -253,6 +266,7 @@ fn member(alloc: Global, tokens: &[Lexeme]) -> Result<(Found<Member>, &[Lexeme])
     }
 }
 
+/// The members of a message, and the brace that ends it.
 #[cycle(messages)]
 pub fn members(alloc: Global, tokens: &[Lexeme]) -> Result<(Vec<Member>, u32, &[Lexeme]), Fault>
     ensures { MatchResult result (λ x. IsBody Context.Message tokens.now

@@ -37,7 +37,9 @@ pub enum Class {
     /// A string whose value is `proto2` or `proto3`.
     ProtoText,
     OtherText,
+    /// `{`
     Open,
+    /// `}`
     Close,
     LeftBracket,
     RightBracket,
@@ -50,6 +52,7 @@ pub enum Class {
     Equals,
     Dot,
     Minus,
+    /// No token of a text.
     Other,
 }
 

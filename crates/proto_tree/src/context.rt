@@ -1,15 +1,18 @@
 //! Where a piece may stand.
 
 ghost use Rattle.std.specs.Prelude.{◌≡◌};
-ghost use Rattle.proto_tree.specs.Tree.{statement_kind, header_kind, kind_of, in_file, in_message, in_enum, in_service, before_package, allows, after, inside};
+ghost use Rattle.proto_tree.specs.Tree.{statement_kind, header_kind, kind_of, in_file, in_message, in_enum, in_service, before_package, allows, after};
 
 use crate::piece::{Header, Piece, Statement};
 
 /// Where a piece stands: at the start of a file, later in it, behind its package, or in a block.
 #[derive(Clone, Copy)]
 pub enum Context {
+    /// The start of a file, where `syntax` may stand.
     Start,
+    /// A file that has no package yet.
     File,
+    /// A file that has its package.
     Packaged,
     Message,
     Oneof,
@@ -25,6 +28,7 @@ pub enum Kind {
     Import,
     Package,
     Option,
+    /// A field without a label.
     Field,
     LabeledField,
     MapField,
@@ -33,6 +37,7 @@ pub enum Kind {
     Value,
     EnumReserved,
     Method,
+    /// A lone `;`.
     Empty,
     OpenMessage,
     OpenOneof,
@@ -42,6 +47,7 @@ pub enum Kind {
     Close,
 }
 
+/// What kind of piece a statement is.
 pub fn statement_kind(statement: &Statement) -> Kind
     ensures { result ≡ statement_kind statement.now }
 {
@@ -64,6 +70,7 @@ pub fn statement_kind(statement: &Statement) -> Kind
     }
 }
 
+/// What kind of piece the beginning of a block is.
 pub fn header_kind(header: &Header) -> Kind
     ensures { result ≡ header_kind header.now }
 {
@@ -76,6 +83,7 @@ pub fn header_kind(header: &Header) -> Kind
     }
 }
 
+/// What kind of piece it is.
 pub fn kind_of(piece: &Piece) -> Kind
     ensures { result ≡ kind_of piece.now }
 {
@@ -86,6 +94,7 @@ pub fn kind_of(piece: &Piece) -> Kind
     }
 }
 
+/// What may stand in a file at any place.
 fn in_file(kind: Kind) -> bool
     ensures { result ≡ in_file kind }
 {
@@ -96,6 +105,7 @@ fn in_file(kind: Kind) -> bool
     }
 }
 
+/// What may stand in a file that has no package yet.
 fn before_package(kind: Kind) -> bool
     ensures { result ≡ before_package kind }
 {
@@ -105,6 +115,7 @@ fn before_package(kind: Kind) -> bool
     }
 }
 
+/// What may stand in a message.
 fn in_message(kind: Kind) -> bool
     ensures { result ≡ in_message kind }
 {
@@ -116,6 +127,7 @@ fn in_message(kind: Kind) -> bool
     }
 }
 
+/// What may stand in an enum.
 fn in_enum(kind: Kind) -> bool
     ensures { result ≡ in_enum kind }
 {
@@ -126,6 +138,7 @@ fn in_enum(kind: Kind) -> bool
     }
 }
 
+/// What may stand in a service.
 fn in_service(kind: Kind) -> bool
     ensures { result ≡ in_service kind }
 {

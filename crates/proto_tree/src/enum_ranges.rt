@@ -1,6 +1,5 @@
 //! Reading ranges and reserved names of enums.
 
-ghost use Rattle.std.specs.Prelude.{◌≡◌};
 ghost use Rattle.proto_tree.specs.Reading.{Gives, stated, maybe, many, behind_at, signed_at, range_end_at, up_to_at, range_at, ranges_at, reserved_list_at, reserved_at};
 
 use crate::class::{Class, Lexeme, Want};
@@ -103,6 +102,7 @@ fn reserved_list(alloc: Global, rest: &[Lexeme]) -> Result<(ReservedList<Signed>
     Ok((ReservedList::Ranges(ranges), rest))
 }
 
+/// `reserved -1, 3 to max;` or `reserved "A", "B";` in an enum.
 #[tactic(auto, unfolding(crate::specs::Reading::reserved_at))]
 pub fn reserved(alloc: Global, rest: &[Lexeme]) -> Result<(Piece, &[Lexeme]), Stop>
     ensures { Gives (λ x. (x.0, x.1.now)) result

@@ -103,14 +103,18 @@ fn too_deep(tokens: &[Lexeme]) -> Option<usize>
 /// Why there is no tree: the index of a token, or how many there are.
 #[derive(Clone, Copy)]
 pub enum Unread {
+    /// No tree has the tokens; the longest good front ends before this token.
     Syntax(usize),
+    /// This brace is the first that is one too many.
     TooDeep(usize),
+    /// Memory ran out.
     Memory,
 }
 
 /// The tree of a file.
 pub fn file(alloc: Global, tokens: &[Lexeme]) -> Result<File, Unread>
-    // The answered tree is well-formed and has these tokens, and no more than 32 braces are open at once.
+    // The answered tree is well-formed and has these tokens, and no more than 32 braces are open at
+    // once.
     ensures found { IfOk result (λ f. Spells (tree_of_file f) tokens.now × IsShallow tokens.now) }
     // There is no other.
     ensures only { IfOk result (λ f. (t : Tree) → Spells t tokens.now → t ≡ tree_of_file f) }

@@ -11,14 +11,16 @@ pub fn trees_are_one()
     ensures no_fault { NoFaultWithTree }
 {}
 
-/// The very same tree is read after words were put in the place of words, where each new word suits its place.
+/// The very same tree is read after words were put in the place of words, where each new word
+/// suits its place.
 pub fn words_keep_trees()
     ensures trees { WordsKeepTrees }
     ensures words { WordsComeForWords }
     ensures edits { EditsKeepTrees }
 {}
 
-/// The places of a tree hold the indices of the tokens in order, each once; what each place wants is there.
+/// The places of a tree hold the indices of the tokens in order, each once; what each place wants
+/// is there.
 pub fn places_are_numbered()
     ensures numbered { TreesAreNumbered }
     ensures one { OneMark }
@@ -26,7 +28,8 @@ pub fn places_are_numbered()
     ensures each { EachTokenIsMarked }
 {}
 
-/// Each token has one role: it names what is declared, is a word of a reference, names an option, or what else there is.
+/// Each token has one role: it names what is declared, is a word of a reference, names an option,
+/// or what else there is.
 pub fn tokens_have_one_role()
     ensures there { RolesAreOfTokens }
     ensures each { TokensHaveRoles }
@@ -44,8 +47,8 @@ pub fn parts_have_marks()
     ensures headers { HeadersHaveMarks }
 {}
 
-/// Where statements are taken out, put in or replaced by others, the tree without, with or with the others is read, its
-/// indices behind them moved.
+/// Where statements are taken out, put in or replaced by others, the tree without, with or with the
+/// others is read, its indices behind them moved.
 pub fn statements_are_replaced()
     ensures { StatementsAreReplaced }
 {}

@@ -1,6 +1,5 @@
 //! Reading names and types.
 
-ghost use Rattle.std.specs.Prelude.{◌≡◌};
 ghost use Rattle.proto_tree.specs.Reading.{Gives, dotted_at, named_at, package_name_at, reference_at, type_at};
 
 use crate::class::{Class, Lexeme, Want};
@@ -8,6 +7,7 @@ use crate::reading::{Stop, one, separated, starts};
 use crate::tree::{Dotted, FieldType, Reference};
 use std::alloc::Global;
 
+/// Words joined by dots.
 pub fn dotted(alloc: Global, rest: &[Lexeme]) -> Result<(Dotted, &[Lexeme]), Stop>
     ensures { Gives (λ x. (x.0, x.1.now)) result (dotted_at rest.now) }
 {
@@ -21,12 +21,14 @@ pub fn package_name(alloc: Global, rest: &[Lexeme]) -> Result<(Dotted, &[Lexeme]
     separated(alloc, rest, Class::Dot, Want::Name, Want::Name)
 }
 
+/// Words joined by dots, the first of which is not a listed one.
 fn named(alloc: Global, rest: &[Lexeme]) -> Result<(Dotted, &[Lexeme]), Stop>
     ensures { Gives (λ x. (x.0, x.1.now)) result (named_at rest.now) }
 {
     separated(alloc, rest, Class::Dot, Want::One(Class::Name), Want::Word)
 }
 
+/// A reference, with a dot before it or without.
 #[tactic(auto, unfolding(crate::specs::Reading::reference_at))]
 pub fn reference(alloc: Global, rest: &[Lexeme]) -> Result<(Reference, &[Lexeme]), Stop>
     ensures { Gives (λ x. (x.0, x.1.now)) result (reference_at rest.now) }
@@ -46,6 +48,7 @@ pub fn reference(alloc: Global, rest: &[Lexeme]) -> Result<(Reference, &[Lexeme]
     Ok((Reference { dot: None, words }, rest))
 }
 
+/// The type of a field: the word of a scalar type, or a reference.
 #[tactic(auto, unfolding(crate::specs::Reading::type_at))]
 pub fn field_type(alloc: Global, rest: &[Lexeme]) -> Result<(FieldType, &[Lexeme]), Stop>
     ensures { Gives (λ x. (x.0, x.1.now)) result (type_at rest.now) }

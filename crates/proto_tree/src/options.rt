@@ -1,6 +1,5 @@
 //! Reading options and their values.
 
-ghost use Rattle.std.specs.Prelude.{◌≡◌};
 ghost use Rattle.proto_tree.specs.Reading.{Gives, stated, token, many, behind_at, separated_at, signed_at, joined_at, constant_at, setting_at, settings_at, maybe_settings, option_at};
 
 use crate::class::{Class, Lexeme, Want};
@@ -10,6 +9,7 @@ use crate::reading::{Stop, one, option, starts, take, three};
 use crate::tree::{Behind, Constant, Joined, Option_, Separated, Setting, Settings, Signed};
 use std::alloc::Global;
 
+/// A number, with a `-` before it where there is one.
 #[tactic(auto, unfolding(crate::specs::Reading::signed_at))]
 pub fn signed(rest: &[Lexeme]) -> Result<(Signed, &[Lexeme]), Stop>
     ensures { Gives (λ x. (x.0, x.1.now)) result (signed_at rest.now) }
@@ -44,6 +44,7 @@ fn joined(alloc: Global, rest: &[Lexeme]) -> Result<(Joined, &[Lexeme]), Stop>
     Ok((Joined { first, rest: more }, rest))
 }
 
+/// The value of an option.
 #[tactic(auto, unfolding(crate::specs::Reading::constant_at))]
 fn constant(alloc: Global, rest: &[Lexeme]) -> Result<(Constant, &[Lexeme]), Stop>
     ensures { Gives (λ x. (x.0, x.1.now)) result (constant_at rest.now) }
@@ -136,6 +137,7 @@ pub fn settings(alloc: Global, rest: &[Lexeme]) -> Result<(Option<Settings>, &[L
     Ok((None, rest))
 }
 
+/// `option name = value;`
 #[tactic(auto, unfolding(crate::specs::Reading::option_at))]
 pub fn option_statement(alloc: Global, rest: &[Lexeme]) -> Result<(Piece, &[Lexeme]), Stop>
     ensures { Gives (λ x. (x.0, x.1.now)) result (stated Statement.Option option_at rest.now) }

@@ -11,18 +11,20 @@ use crate::classing::{lexemes, place};
 use crate::files::{Unread, file};
 use crate::tree::File;
 use proto_text::{Source, Token};
-use std::alloc::{AllocError, Global};
+use std::alloc::Global;
 use thiserror::Error;
 
 /// Why a file has no tree. Offsets are in bytes from 0.
 #[derive(Clone, Copy, Debug, PartialEq, Eq, Error)]
 pub enum ParseFault {
-    /// The longest good beginning of the file ends before the token at the offset, or with the text.
+    /// The longest good beginning of the file ends before the token at the offset, or with the
+    /// text.
     #[error("no statement of the language, at byte {offset}")]
     Syntax { offset: u32 },
     /// More than 32 braces are open at once, the brace at the offset being the first too many.
     #[error("more than 32 braces open at once, at byte {offset}")]
     TooDeep { offset: u32 },
+    /// Memory ran out.
     #[error("no memory")]
     NoMemory,
 }
@@ -61,14 +63,6 @@ impl ParseFault {
     }
 }
 
-impl From<AllocError> for ParseFault {
-    ghost from_gives = { λ _ e. e ≡ NoMemory };
-
-    fn from(_error: AllocError) -> Self {
-        ParseFault::NoMemory
-    }
-}
-
 impl From<proto_faults::NoMemory> for ParseFault {
     ghost from_gives = { λ _ e. e ≡ NoMemory };
 
@@ -77,6 +71,7 @@ impl From<proto_faults::NoMemory> for ParseFault {
     }
 }
 
+/// The same, with one clause for all answers.
 fn read(alloc: Global, source: &Source, tokens: &[Token]) -> Result<File, ParseFault>
     requires { AreTokens source.now tokens.now }
     ensures { IsParsed source.now tokens.now result }
@@ -98,7 +93,8 @@ fn read(alloc: Global, source: &Source, tokens: &[Token]) -> Result<File, ParseF
 /// The tree of a file, from the tokens of its text.
 pub fn parse(alloc: Global, source: &Source, tokens: &[Token]) -> Result<File, ParseFault>
     requires { AreTokens source.now tokens.now }
-    // The answered tree is well-formed and has these tokens, and no more than 32 braces are open at once.
+    // The answered tree is well-formed and has these tokens, and no more than 32 braces are open at
+    // once.
     ensures found { IfOk result (λ f. Reads source.now tokens.now (tree_of_file f)) }
     // There is no other.
     ensures only { (t : Tree) → Reads source.now tokens.now t

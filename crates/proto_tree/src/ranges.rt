@@ -1,6 +1,5 @@
 //! Reading ranges and reserved names of messages.
 
-ghost use Rattle.std.specs.Prelude.{◌≡◌};
 ghost use Rattle.proto_tree.specs.Reading.{Gives, stated, maybe, many, behind_at, one_token, range_end_at, up_to_at, range_at, ranges_at, reserved_list_at, reserved_at, extensions_at};
 
 use crate::class::{Class, Lexeme, Want};
@@ -104,6 +103,7 @@ fn reserved_list(alloc: Global, rest: &[Lexeme]) -> Result<(ReservedList<u32>, &
     Ok((ReservedList::Ranges(ranges), rest))
 }
 
+/// `reserved 1, 3 to max;` or `reserved "a", "b";` in a message.
 #[tactic(auto, unfolding(crate::specs::Reading::reserved_at))]
 pub fn reserved(alloc: Global, rest: &[Lexeme]) -> Result<(Piece, &[Lexeme]), Stop>
     ensures { Gives (λ x. (x.0, x.1.now)) result
@@ -120,6 +120,7 @@ pub fn reserved(alloc: Global, rest: &[Lexeme]) -> Result<(Piece, &[Lexeme]), St
     Ok((Piece::Statement(Statement::Reserved(reserved)), rest))
 }
 
+/// `extensions 100 to max;`
 #[tactic(auto, unfolding(crate::specs::Reading::extensions_at))]
 pub fn extensions(alloc: Global, rest: &[Lexeme]) -> Result<(Piece, &[Lexeme]), Stop>
     ensures { Gives (λ x. (x.0, x.1.now)) result

@@ -7,24 +7,15 @@ use crate::class::{Class, Lexeme, Want};
 use crate::list::Sequence;
 use crate::tree::{Behind, Separated};
 use proto_faults::NoMemory;
-use std::alloc::{AllocError, Global};
+use std::alloc::Global;
 
 /// Why a statement was not read.
 #[derive(Clone, Copy)]
 pub enum Stop {
+    /// The tokens are not those of the statement.
     Syntax,
+    /// Memory ran out.
     Memory,
-}
-
-impl From<AllocError> for Stop {
-    ghost use Rattle.std.specs.Prelude.{◌≡◌};
-    ghost use Rattle.proto_tree.specs.declared.reading.Stop.TheVariants.{Memory};
-
-    ghost from_gives = { λ _ e. e ≡ Memory };
-
-    fn from(_error: AllocError) -> Self {
-        Stop::Memory
-    }
 }
 
 impl From<NoMemory> for Stop {
@@ -54,6 +45,7 @@ pub fn take(rest: &[Lexeme], want: Want) -> Result<(u32, &[Lexeme]), Stop>
     }
 }
 
+/// A token of the class, and the tokens behind it.
 pub fn one(rest: &[Lexeme], class: Class) -> Result<(u32, &[Lexeme]), Stop>
     ensures { Gives (λ x. (x.0, x.1.now)) result (token (Want.One class) rest.now) }
 {

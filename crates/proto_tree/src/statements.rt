@@ -1,6 +1,5 @@
 //! Reading the statements of a file, a message and an enum.
 
-ghost use Rattle.std.specs.Prelude.{◌≡◌};
 ghost use Rattle.proto_tree.specs.Reading.{Gives, stated, syntax_at, import_at, package_at, field_at, map_field_at, numbered_at, value_at};
 
 use crate::class::{Class, Lexeme, Want};
@@ -11,6 +10,7 @@ use crate::reading::{Stop, one, option, take, three};
 use crate::tree::{Field, Import, MapField, Package, Settings, Syntax, Value};
 use std::alloc::Global;
 
+/// `syntax = "proto3";`
 #[tactic(auto, unfolding(crate::specs::Reading::syntax_at))]
 pub fn syntax(rest: &[Lexeme]) -> Result<(Piece, &[Lexeme]), Stop>
     ensures { Gives (λ x. (x.0, x.1.now)) result (stated Statement.Syntax syntax_at rest.now) }
@@ -28,6 +28,7 @@ pub fn syntax(rest: &[Lexeme]) -> Result<(Piece, &[Lexeme]), Stop>
     Ok((Piece::Statement(Statement::Syntax(syntax)), rest))
 }
 
+/// `import public "path";`
 #[tactic(auto, unfolding(crate::specs::Reading::import_at))]
 pub fn import(rest: &[Lexeme]) -> Result<(Piece, &[Lexeme]), Stop>
     ensures { Gives (λ x. (x.0, x.1.now)) result (stated Statement.Import import_at rest.now) }
@@ -45,6 +46,7 @@ pub fn import(rest: &[Lexeme]) -> Result<(Piece, &[Lexeme]), Stop>
     Ok((Piece::Statement(Statement::Import(import)), rest))
 }
 
+/// `package a.b;`
 #[tactic(auto, unfolding(crate::specs::Reading::package_at))]
 pub fn package(alloc: Global, rest: &[Lexeme]) -> Result<(Piece, &[Lexeme]), Stop>
     ensures { Gives (λ x. (x.0, x.1.now)) result (stated Statement.Package package_at rest.now) }
@@ -93,6 +95,7 @@ fn numbered(alloc: Global, rest: &[Lexeme]) -> Result<(NumberAndSettings, &[Lexe
     ))
 }
 
+/// `repeated Type name = 1 [settings];`
 #[tactic(auto, unfolding(crate::specs::Reading::field_at))]
 pub fn field(alloc: Global, rest: &[Lexeme]) -> Result<(Piece, &[Lexeme]), Stop>
     ensures { Gives (λ x. (x.0, x.1.now)) result (stated Statement.Field field_at rest.now) }
@@ -112,6 +115,7 @@ pub fn field(alloc: Global, rest: &[Lexeme]) -> Result<(Piece, &[Lexeme]), Stop>
     Ok((Piece::Statement(Statement::Field(field)), rest))
 }
 
+/// `map<key, Type> name = 1 [settings];`
 #[tactic(auto, unfolding(crate::specs::Reading::map_field_at))]
 pub fn map_field(alloc: Global, rest: &[Lexeme]) -> Result<(Piece, &[Lexeme]), Stop>
     ensures { Gives (λ x. (x.0, x.1.now)) result (stated Statement.MapField map_field_at rest.now) }
@@ -139,6 +143,7 @@ pub fn map_field(alloc: Global, rest: &[Lexeme]) -> Result<(Piece, &[Lexeme]), S
     Ok((Piece::Statement(Statement::MapField(field)), rest))
 }
 
+/// `NAME = -1 [settings];`
 #[tactic(auto, unfolding(crate::specs::Reading::value_at))]
 pub fn value(alloc: Global, rest: &[Lexeme]) -> Result<(Piece, &[Lexeme]), Stop>
     ensures { Gives (λ x. (x.0, x.1.now)) result (stated Statement.Value value_at rest.now) }

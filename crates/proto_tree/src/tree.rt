@@ -1,4 +1,5 @@
-//! The tree of a file. Each token of the file has its index, from 0, in a named field; no text is kept.
+//! The tree of a file. Each token of the file has its index, from 0, in a named field; no text is
+//! kept.
 
 use crate::list::Sequence;
 
@@ -19,7 +20,8 @@ pub struct Separated<T: Drop> {
 /// Words joined by dots.
 pub type Dotted = Separated<u32>;
 
-/// The name of a message or an enum, with the dot before it where there is one. One without it begins with no listed word.
+/// The name of a message or an enum, with the dot before it where there is one. One without it
+/// begins with no listed word.
 #[derive(Drop)]
 pub struct Reference {
     pub dot: Option<u32>,
@@ -156,13 +158,15 @@ pub struct Range<N: Drop> {
     pub up_to: Option<UpTo<N>>,
 }
 
+/// What is reserved: names, each in a string, or ranges of numbers.
 #[derive(Drop)]
 pub enum ReservedList<N: Drop> {
     Names(Separated<u32>),
     Ranges(Separated<Range<N>>),
 }
 
-/// `reserved 1, 3 to max;` or `reserved "a", "b";` The numbers of a message are `u32`, those of an enum `Signed`.
+/// `reserved 1, 3 to max;` or `reserved "a", "b";` The numbers of a message are `u32`, those of an
+/// enum `Signed`.
 #[derive(Drop)]
 pub struct Reserved<N: Drop> {
     pub keyword: u32,
@@ -218,6 +222,7 @@ pub enum MethodEnd {
     },
 }
 
+/// A method: its signature, and what ends it.
 #[derive(Drop)]
 pub struct Method {
     pub signature: Signature,
@@ -241,12 +246,16 @@ pub struct Block<T: Drop> {
     pub close: u32,
 }
 
+/// `message Name { .. }`
 pub type Message = Block<Member>;
 
+/// `oneof name { .. }`
 pub type Oneof = Block<Field>;
 
+/// `enum Name { .. }`
 pub type Enum = Block<EnumItem>;
 
+/// `service Name { .. }`
 pub type Service = Block<ServiceItem>;
 
 /// What stands in a message.
