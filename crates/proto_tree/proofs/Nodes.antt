@@ -254,59 +254,6 @@ read_all tokens rest t h e = record {
   fits = subst (λ s. Fit (flat t) s) (sym (h.parts ∙ ap (λ (r : List Lexeme). h.text ++ r) e ∙ append-nil h.text)) h.fits;
 }
 
--- what may stand nowhere in a file may not stand here
-not_file : (k : Kind) → allows context.Start k ≡ false → allows context.File k ≡ false
-not_file kind.Syntax e = refl
-not_file kind.Import e = absurd cc
-not_file kind.Package e = absurd cc
-not_file kind.Option e = absurd cc
-not_file kind.Field e = refl
-not_file kind.LabeledField e = refl
-not_file kind.MapField e = refl
-not_file kind.Reserved e = refl
-not_file kind.Extensions e = refl
-not_file kind.Value e = refl
-not_file kind.EnumReserved e = refl
-not_file kind.Method e = refl
-not_file kind.Empty e = absurd cc
-not_file kind.OpenMessage e = absurd cc
-not_file kind.OpenOneof e = refl
-not_file kind.OpenEnum e = absurd cc
-not_file kind.OpenService e = absurd cc
-not_file kind.OpenMethod e = refl
-not_file kind.Close e = refl
-
-not_packaged : (k : Kind) → allows context.Start k ≡ false → allows context.Packaged k ≡ false
-not_packaged kind.Syntax e = refl
-not_packaged kind.Import e = absurd cc
-not_packaged kind.Package e = refl
-not_packaged kind.Option e = absurd cc
-not_packaged kind.Field e = refl
-not_packaged kind.LabeledField e = refl
-not_packaged kind.MapField e = refl
-not_packaged kind.Reserved e = refl
-not_packaged kind.Extensions e = refl
-not_packaged kind.Value e = refl
-not_packaged kind.EnumReserved e = refl
-not_packaged kind.Method e = refl
-not_packaged kind.Empty e = absurd cc
-not_packaged kind.OpenMessage e = absurd cc
-not_packaged kind.OpenOneof e = refl
-not_packaged kind.OpenEnum e = absurd cc
-not_packaged kind.OpenService e = absurd cc
-not_packaged kind.OpenMethod e = refl
-not_packaged kind.Close e = refl
-
-pub not_outer : (c : Context) (k : Kind) → IsOuter c → allows context.Start k ≡ false → allows c k ≡ false
-not_outer context.Start k o e = e
-not_outer context.File k o e = not_file k e
-not_outer context.Packaged k o e = not_packaged k e
-not_outer context.Message k o e = absurd cc
-not_outer context.Oneof k o e = absurd cc
-not_outer context.Enum k o e = absurd cc
-not_outer context.Service k o e = absurd cc
-not_outer context.Method k o e = absurd cc
-
 -- ---- a nested message
 
 pub member_tree-Message : (m : Braced Member) → member_tree (member.Message m) ≡ message_tree m
@@ -351,19 +298,3 @@ file_block c d v h i t u j tokens middle rest k a e body seen same =
 
 pub file_inside : (c : Context) (v : Piece) (h : Header) (i : ℕ) (tokens rest : List Lexeme) (k : Kind) (f : Fault) → IsAllowed c tokens v rest k → v ≡ piece.Open h i → FaultOf (inside h) rest f → FaultOf c tokens f
 file_inside c v h i tokens rest k f a e g = let b = at_piece e a in fault_inside c h i tokens rest f b.met (fine b) g
-
--- what no file has was not allowed
-pub not_in_file : (c : Context) (u v : Piece) (tokens rest : List Lexeme) (k : Kind) → IsOuter c → IsAllowed c tokens u rest k → u ≡ v → allows context.Start (kind_of v) ≡ false → ⊥
-not_in_file c u v tokens rest k o a e f =
-    let b = at_piece e a in
-    differ (sym (fine b) ∙ not_outer c (kind_of v) o f)
-  where
-    differ : true ≡ false → ⊥
-    differ z = cc
-
-pub no_other_in_file : (h : Header) → ((x : Heading) → h ≡ header.Message x → ⊥) → ((x : Heading) → h ≡ header.Enum x → ⊥) → ((x : Heading) → h ≡ header.Service x → ⊥) → allows context.Start (header_kind h) ≡ false
-no_other_in_file (header.Message h) a b c = absurd (a h refl)
-no_other_in_file (header.Oneof h) a b c = refl
-no_other_in_file (header.Enum h) a b c = absurd (b h refl)
-no_other_in_file (header.Service h) a b c = absurd (c h refl)
-no_other_in_file (header.Method s) a b c = refl

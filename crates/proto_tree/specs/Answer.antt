@@ -6,6 +6,7 @@ use Rattle.proto_tree.specs.declared.class.Lexeme.{Lexeme}
 use Rattle.proto_tree.specs.declared.tree.Block.{Block as Braced}
 use Rattle.proto_tree.specs.declared.piece.Statement.{Statement}
 use Rattle.proto_tree.specs.declared.piece.Heading.{Heading}
+use Rattle.proto_tree.specs.declared.piece.Header.{Header}
 use Rattle.proto_tree.specs.declared.piece.Piece.{Piece}
 use Rattle.proto_tree.specs.declared.context.Context.{Context}
 use Rattle.proto_tree.specs.declared.context.Kind.TheVariants as kind
@@ -16,7 +17,7 @@ use Rattle.proto_tree.specs.declared.blocks.Found.TheVariants as found
 use Rattle.proto_tree.specs.declared.files.Unread.{Unread}
 use Rattle.proto_tree.specs.declared.files.Unread.TheVariants as unread
 use Rattle.proto_tree.specs.Flat.{one, Fit}
-use Rattle.proto_tree.specs.Tree.{Tree, End, Leaf, flat, IsWellFormed, Spells, statement_kind, allows, last_of}
+use Rattle.proto_tree.specs.Tree.{Tree, End, Leaf, Block, flat, IsWellFormed, Spells, statement_kind, allows, inside, last_of}
 use Rattle.proto_tree.specs.Place.{IsPlace, IsShallow, IsTooDeep}
 use Rattle.proto_tree.specs.Walk.{any_piece_in, IsStuck}
 
@@ -77,6 +78,14 @@ pub record IsItemBefore (c : Context) (tokens : List Lexeme) (t : Tree) (d : Con
     (rest : List Lexeme) : Type 0 where
   pub item : IsItem c tokens t rest
   pub last : last_of c t ≡ d
+
+-- the tree is the block that begins so, with its members and the brace behind them
+pub record IsBlockItem (h : Header) (i : ℕ) (tokens : List Lexeme) (t : Tree) (rest : List Lexeme)
+    : Type 0 where
+  pub within : Tree
+  pub closes : ℕ
+  pub body : IsBody (inside h) tokens within closes rest
+  pub is : t ≡ Block h i within closes End
 
 -- a block: a keyword and a name, and its members between two braces
 abbrev pub braced : {A : Type 0} → Heading → ℕ → Vec A → ℕ → Braced A

@@ -1,10 +1,10 @@
 //! Reading a file.
 
-ghost use Rattle.std.specs.Prelude.{◌≡◌, ◌≢◌, [], IfOk, IfErr, MatchResult, MatchOption};
-ghost use Rattle.proto_tree.specs.Answer.{FaultOf, IsItemBefore, IsOuter, IsUnread};
+ghost use Rattle.std.specs.Prelude.{◌≡◌, ◌≢◌, true, [], IfOk, IfErr, MatchResult, MatchOption};
+ghost use Rattle.proto_tree.specs.Answer.{FaultOf, IsBlockItem, IsItemBefore, IsOuter, IsUnread};
 ghost use Rattle.proto_tree.specs.File.{item_tree, trees, tree_of_file};
 ghost use Rattle.proto_tree.specs.Place.{IsShallow, IsTooDeep};
-ghost use Rattle.proto_tree.specs.Tree.{Tree, Spells};
+ghost use Rattle.proto_tree.specs.Tree.{Tree, Spells, allows, header_kind, inside};
 
 use crate::blocks::{Fault, block, enum_items, members, next_piece, push, service_items};
 use crate::class::{Class, Lexeme};
@@ -13,6 +13,37 @@ use crate::items::item_of;
 use crate::piece::{Header, Piece};
 use crate::tree::{File, Item};
 use std::alloc::Global;
+
+/// The message, enum or service that begins so, from the tokens behind its brace on.
+fn block_item(
+    alloc: Global,
+    header: Header,
+    open: u32,
+    tokens: &[Lexeme],
+) -> Result<(Item, &[Lexeme]), Fault>
+    requires { allows Context.Start (header_kind header) ≡ true }
+    ensures { MatchResult result (λ x. IsBlockItem header «open» tokens.now (item_tree x.0) x.1.now)
+        (FaultOf (inside header) tokens.now) }
+{
+    match header {
+        Header::Message(heading) => {
+            let (items, close, rest) = members(alloc, tokens)?;
+            Ok((Item::Message(block(heading, open, items, close)), rest))
+        }
+        Header::Enum(heading) => {
+            let (items, close, rest) = enum_items(alloc, tokens)?;
+            Ok((Item::Enum(block(heading, open, items, close)), rest))
+        }
+        Header::Service(heading) => {
+            let (items, close, rest) = service_items(alloc, tokens)?;
+            Ok((Item::Service(block(heading, open, items, close)), rest))
+        }
+        other => {
+            drop(other);
+            Err(Fault::Syntax(0))
+        }
+    }
+}
 
 /// An item that may stand here, and where what follows it stands.
 fn item(
@@ -28,6 +59,7 @@ fn item(
     let (piece, rest) = next_piece(alloc, context, tokens)?;
     let kind = kind_of(&piece);
     if !context.allows(kind) {
+        drop(piece);
         return Err(Fault::Syntax(tokens.len()));
     }
     match piece {
@@ -35,27 +67,10 @@ fn item(
             Some(item) => Ok((item, context.after(kind), rest)),
             None => Err(Fault::Syntax(tokens.len())),
         },
-        Piece::Open(header, open) => match header {
-            Header::Message(heading) => {
-                let (items, close, rest) = members(alloc, rest)?;
-                let message = block(heading, open, items, close);
-                Ok((Item::Message(message), context.after(kind), rest))
-            }
-            Header::Enum(heading) => {
-                let (items, close, rest) = enum_items(alloc, rest)?;
-                let found = block(heading, open, items, close);
-                Ok((Item::Enum(found), context.after(kind), rest))
-            }
-            Header::Service(heading) => {
-                let (items, close, rest) = service_items(alloc, rest)?;
-                let service = block(heading, open, items, close);
-                Ok((Item::Service(service), context.after(kind), rest))
-            }
-            other => {
-                drop(other);
-                Err(Fault::Syntax(tokens.len()))
-            }
-        },
+        Piece::Open(header, open) => {
+            let (item, rest) = block_item(alloc, header, open, rest)?;
+            Ok((item, context.after(kind), rest))
+        }
         Piece::Close(_) => Err(Fault::Syntax(tokens.len())),
     }
 }
