@@ -20,7 +20,7 @@ use Rattle.proto_parts.specs.declared.options.Element.{Element}
 use Rattle.proto_parts.specs.declared.options.Element.TheVariants as element
 use Rattle.proto_numbers.specs.declared.flaw.Flaw.{Flaw}
 use Rattle.proto_numbers.specs.declared.numbers.NumberAt.{NumberAt}
-use Rattle.proto_numbers.specs.declared.numbers.RangeAt.{RangeAt}
+use Rattle.proto_parts.specs.declared.ranges.RangeAt.{RangeAt}
 use Rattle.proto_numbers.specs.Flaws.{flaw, flaw_if, after_earlier, marked}
 use Rattle.proto_numbers.specs.NumberFlaws.{number_of_field, number_of_value, range_of, enum_range_of, most_field, least_value, most_value, is_field_number, is_value_number, outside, is_sound_range, broken_ranges, is_inside, reserved_numbers, share, overlaps, repeated_numbers, field_number_flaws}
 use Rattle.proto_checks.specs.FieldFlaws.{option_flaws, type_token, lacks_label, required_flaws, no_map_keys, map_key_flaws, starts_wrong, has_closed_enum, may_be_packed, packed_flaws, may_default, wrong_default, default_flaws, proto3_defaults, type_flaws, field_flaws}

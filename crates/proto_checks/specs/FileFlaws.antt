@@ -15,7 +15,7 @@ use Rattle.proto_parts.specs.Scenes.{Scene, text, value}
 use Rattle.proto_parts.specs.declared.options.Element.TheVariants as element
 use Rattle.proto_numbers.specs.declared.flaw.Flaw.{Flaw}
 use Rattle.proto_numbers.specs.declared.numbers.NumberAt.{NumberAt}
-use Rattle.proto_numbers.specs.declared.numbers.RangeAt.{RangeAt}
+use Rattle.proto_parts.specs.declared.ranges.RangeAt.{RangeAt}
 use Rattle.proto_numbers.specs.Flaws.{flaw_if, after_earlier, marked}
 use Rattle.proto_numbers.specs.NumberFlaws.{field_number_flaws, number_of_field, number_of_value, range_of, enum_range_of, least_value, most_value, is_value_number, outside, broken_ranges, reserved_numbers, overlaps, repeated_numbers}
 use Rattle.proto_checks.specs.FieldFlaws.{field_flaws, option_flaws}

@@ -17,7 +17,7 @@ use Rattle.proto_parts.specs.Parts.{FieldOf}
 use Rattle.proto_parts.specs.Scenes.{text, value}
 use Rattle.proto_numbers.specs.declared.flaw.Flaw.{Flaw}
 use Rattle.proto_numbers.specs.declared.numbers.NumberAt.{NumberAt}
-use Rattle.proto_numbers.specs.declared.numbers.RangeAt.{RangeAt}
+use Rattle.proto_parts.specs.declared.ranges.RangeAt.{RangeAt}
 use Rattle.proto_checks_laws.specs.Deleted.{range_of_one, DeletionsKeepJsonNames, DeletionsKeepNames, DeletionsKeepNumbers}
 use Rattle.proto_numbers.specs.NumberFlaws.{field_number_flaws, broken_ranges, is_field_number, is_inside, is_sound_range, is_within, most_field, outside, overlaps, repeated_numbers, reserved_numbers, share}
 use Rattle.proto_parts.specs.JsonNames.{json_name_of}

@@ -31,7 +31,7 @@ use Rattle.proto_parts.specs.declared.options.ValueKind.{ValueKind}
 use Rattle.proto_parts.specs.declared.options.ValueKind.TheVariants as value_kind
 use Rattle.proto_numbers.specs.declared.flaw.Flaw.{Flaw}
 use Rattle.proto_numbers.specs.declared.numbers.NumberAt.{NumberAt}
-use Rattle.proto_numbers.specs.declared.numbers.RangeAt.{RangeAt}
+use Rattle.proto_parts.specs.declared.ranges.RangeAt.{RangeAt}
 use Rattle.proto_numbers.specs.Flaws.{after_earlier, flaw_if, marked}
 use Rattle.proto_numbers.specs.NumberFlaws.{bound_of, broken_ranges, end_of, enum_range_of, first_of_signed, is_field_number, is_inside, is_value_number, least_value, most_field, most_value, number_of_field, number_of_value, outside, overlaps, range_of, repeated_numbers, reserved_numbers, share, field_number_flaws}
 use Rattle.proto_parts.specs.Labels.{is_label}

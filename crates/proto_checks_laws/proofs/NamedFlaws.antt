@@ -17,7 +17,7 @@ use Rattle.proto_parts.specs.declared.options.Element.{Element}
 use Rattle.proto_parts.specs.declared.options.Element.TheVariants as element
 use Rattle.proto_numbers.specs.declared.flaw.Flaw.{Flaw}
 use Rattle.proto_numbers.specs.declared.numbers.NumberAt.{NumberAt}
-use Rattle.proto_numbers.specs.declared.numbers.RangeAt.{RangeAt}
+use Rattle.proto_parts.specs.declared.ranges.RangeAt.{RangeAt}
 use Rattle.proto_numbers.specs.Flaws.{after_earlier, flaw, flaw_if, marked}
 use Rattle.proto_numbers.specs.NumberFlaws.{broken_ranges, enum_range_of, field_number_flaws, is_field_number, is_value_number, least_value, most_field, most_value, number_of_field, number_of_value, outside, overlaps, range_of, repeated_numbers, reserved_numbers, share}
 use Rattle.std.specs.Prelude.{pos}

@@ -7,7 +7,7 @@ use Rattle.proto_parts.specs.Options.{is_one_of}
 use Rattle.proto_parts.specs.Parts.{FieldOf}
 use Rattle.proto_parts.specs.Scenes.{Scene, text, value}
 use Rattle.proto_numbers.specs.declared.numbers.NumberAt.{NumberAt}
-use Rattle.proto_numbers.specs.declared.numbers.RangeAt.{RangeAt}
+use Rattle.proto_parts.specs.declared.ranges.RangeAt.{RangeAt}
 use Rattle.proto_numbers.specs.NumberFlaws.{field_number_flaws}
 use Rattle.proto_checks.specs.FileFlaws.{json_clashes, name_flaws}
 

@@ -23,7 +23,7 @@ use Rattle.proto_parts.specs.Scenes.{Scene, text, value, number, number_at, sign
 use Rattle.proto_parts.specs.Labels.{has_label}
 use Rattle.proto_parts.specs.JsonNames.{json_name_of}
 use Rattle.proto_numbers.specs.NumberFlaws.{is_within, most_field, most_value, least_value, range_of, enum_range_of}
-use Rattle.proto_numbers.specs.declared.numbers.RangeAt.{RangeAt}
+use Rattle.proto_parts.specs.declared.ranges.RangeAt.{RangeAt}
 use Rattle.proto_json.specs.declared.enumeration.EnumOptions.{EnumOptions}
 use Rattle.proto_json.specs.declared.enumeration.EnumReservedRange.{EnumReservedRange}
 use Rattle.proto_json.specs.declared.field.FieldOptions.{FieldOptions}

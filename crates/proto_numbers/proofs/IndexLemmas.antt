@@ -21,7 +21,7 @@ use Rattle.proto_text.proofs.Lists.{any_agree, any_to, contains_cases}
 use Rattle.proto_faults.specs.declared.fault.FaultKind.TheVariants as kind
 use Rattle.proto_numbers.specs.declared.flaw.Flaw.{Flaw}
 use Rattle.proto_numbers.specs.declared.numbers.NumberAt.{NumberAt}
-use Rattle.proto_numbers.specs.declared.numbers.RangeAt.{RangeAt}
+use Rattle.proto_parts.specs.declared.ranges.RangeAt.{RangeAt}
 use Rattle.proto_numbers.specs.Flaws.{flaw_if}
 use Rattle.proto_numbers.specs.NumberFlaws.{is_inside, reserved_numbers, share}
 use Rattle.proto_numbers.specs.RangeIndex.{has_numbers, AreInOrder, reach, reaches, AreRaised, IsIndexOf}

@@ -5,9 +5,9 @@ ghost use Rattle.proto_parts.specs.Scenes.{number_at, signed_at};
 ghost use Rattle.proto_parts.specs.Views.{field_of};
 ghost use Rattle.proto_numbers.specs.NumberFlaws.{bound_of, end_of, enum_range_of, first_of_signed, most_field, most_value, number_of_field, number_of_value, range_of};
 
-use crate::numbers::{MOST_FIELD, MOST_VALUE, NumberAt, RangeAt};
+use crate::numbers::{MOST_FIELD, MOST_VALUE, NumberAt};
 use proto_faults::NoMemory;
-use proto_parts::{FieldAt, Scene};
+use proto_parts::{FieldAt, RangeAt, Scene};
 use proto_tree::{Range, RangeEnd, Signed, Value};
 use std::alloc::Global;
 

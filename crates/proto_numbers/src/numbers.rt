@@ -5,12 +5,13 @@ ghost use Rattle.std.specs.List.{list_any};
 ghost use Rattle.proto_faults.specs.declared.fault.FaultKind.TheVariants as kind;
 ghost use Rattle.proto_numbers.specs.Flaws.{earlier, after_earlier, marked};
 ghost use Rattle.proto_numbers.specs.NumberFlaws.{is_within, is_field_number, is_value_number, is_sound_range, is_inside, most_field, most_value, least_value, outside, broken_ranges, reserved_numbers, share, overlaps, repeated_numbers, field_number_flaws};
-ghost use Rattle.proto_numbers.specs.declared.numbers.RangeAt.{RangeAt as RangeOf};
+ghost use Rattle.proto_parts.specs.declared.ranges.RangeAt.{RangeAt as RangeOf};
 ghost use Rattle.proto_numbers.specs.RangeIndex.{IsIndexOf};
 
 use crate::flaw::{Flaw, add_if, add_marked, repeats};
 use crate::range_index::{has_numbers, index_of, shares};
 use proto_faults::{FaultKind, NoMemory};
+use proto_parts::{RangeAt, meet};
 use std::alloc::{AllocError, Global};
 
 /// The last field number.
@@ -29,14 +30,6 @@ const FEW: usize = 16;
 pub struct NumberAt {
     pub token: u32,
     pub number: i128,
-}
-
-/// The numbers from the first to the last, both among them; by the range's first token.
-#[derive(Clone, Copy)]
-pub struct RangeAt {
-    pub token: u32,
-    pub first: i128,
-    pub last: i128,
 }
 
 /// Whether a number is one of those from the least to the most.
@@ -157,13 +150,6 @@ pub(crate) fn add_reserved_numbers(
 }
 
 // ---- ranges that share a number
-
-/// Whether neither ends before the other begins.
-fn meet(a: RangeAt, b: RangeAt) -> bool
-    ensures { result ≡ (int_le a.first b.last && int_le b.first a.last) }
-{
-    a.first <= b.last && b.first <= a.last
-}
 
 fn share(a: RangeAt, b: RangeAt) -> bool
     ensures { result ≡ share a b }

@@ -3,12 +3,12 @@
 ghost use Rattle.std.specs.Prelude.{◌≡◌, ℕ, ℤ, ◌<◌, ◌≤◌, ◌-◌, ◌||◌, ◌&&◌, nat_lt, int_le, true, false, List, length, get_or, IfOk};
 ghost use Rattle.std.specs.List.{list_any, filter};
 ghost use Rattle.std.specs.List.Sorted.{IsPermutation, IsPartitionPoint};
-ghost use Rattle.proto_numbers.specs.declared.numbers.RangeAt.{RangeAt as RangeOf};
+ghost use Rattle.proto_parts.specs.declared.ranges.RangeAt.{RangeAt as RangeOf};
 ghost use Rattle.proto_numbers.specs.NumberFlaws.{share};
 ghost use Rattle.proto_numbers.specs.RangeIndex.{has_numbers, AreInOrder, AreRaised, IsIndexOf, reaches};
 
-use crate::numbers::RangeAt;
 use proto_faults::NoMemory;
+use proto_parts::RangeAt;
 use std::alloc::{AllocError, Global};
 
 /// Whether a range does not end before it begins.

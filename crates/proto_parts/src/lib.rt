@@ -27,7 +27,9 @@ pub use option_values::{
     is_allowed, option_named, text_option, text_value, truth, truth_option, word, word_option,
 };
 pub use options::{Element, ValueKind, value_kind};
-pub use ranges::{closed_ranges, enum_ranges, extension_ranges, extension_words, reserved_ranges};
+pub use ranges::{
+    RangeAt, closed_ranges, enum_ranges, extension_ranges, extension_words, meet, reserved_ranges,
+};
 pub use reserved::{enum_reserved_names, reserved_names};
 pub use scene::{EnumAt, MeantAt, Scene};
 pub use version::{is_proto3, syntax_text};

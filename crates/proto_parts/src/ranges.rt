@@ -1,6 +1,6 @@
-//! The ranges that are reserved, or left to extensions.
+//! Ranges of numbers, and those that are reserved, or left to extensions.
 
-ghost use Rattle.std.specs.Prelude.{◌≡◌, ◌++◌, [], ◌∷◌, map, flat_map, IfOk, OnOk};
+ghost use Rattle.std.specs.Prelude.{◌≡◌, ◌&&◌, ◌++◌, [], ◌∷◌, int_le, map, flat_map, IfOk, OnOk};
 ghost use Rattle.proto_tree.specs.File.{enum_item_tree, member_tree, trees};
 ghost use Rattle.proto_parts.specs.Parts.{closed_ranges, enum_ranges, extension_ranges, extension_words, ranges_of, reserved_ranges, statements};
 
@@ -8,6 +8,21 @@ use crate::separated::push_separated;
 use proto_faults::NoMemory;
 use proto_tree::{EnumItem, Member, Range, ReservedList, Signed};
 use std::alloc::Global;
+
+/// The numbers from the first to the last, both among them; by the range's first token.
+#[derive(Clone, Copy)]
+pub struct RangeAt {
+    pub token: u32,
+    pub first: i128,
+    pub last: i128,
+}
+
+/// Whether neither of two ranges ends before the other begins.
+pub fn meet(a: RangeAt, b: RangeAt) -> bool
+    ensures { result ≡ (int_le a.first b.last && int_le b.first a.last) }
+{
+    a.first <= b.last && b.first <= a.last
+}
 
 fn push_reserved<'a, N: Drop>(
     found: &mut Vec<&'a Range<N>>,

@@ -25,7 +25,7 @@ use Rattle.proto_parts.specs.Parts.{FieldOf, OptionOf, closed_ranges, enum_range
 use Rattle.proto_parts.specs.Scenes.{EnumOf, Scene, enum_meant, number_at, signed_at, text, up_to, value}
 use Rattle.proto_parts.specs.Labels.{is_label}
 use Rattle.proto_numbers.specs.NumberFlaws.{bound_of, end_of, enum_range_of, first_of_signed, most_field, most_value, range_of}
-use Rattle.proto_numbers.specs.declared.numbers.RangeAt.{RangeAt}
+use Rattle.proto_parts.specs.declared.ranges.RangeAt.{RangeAt}
 use Rattle.proto_checks_laws.specs.Renamed.{DifferInNames, SameButValues, constant_tokens, end_tokens, enum_tokens, field_tokens, message_tokens, option_tokens, range_tokens, scalar_tokens, up_to_tokens, value_tokens}
 use Rattle.proto_json.specs.declared.enumeration.EnumOptions.{EnumOptions}
 use Rattle.proto_json.specs.declared.field.FieldOptions.{FieldOptions}

@@ -22,7 +22,7 @@ use Rattle.proto_parts.specs.Scenes.{Scene, number_at, text, value}
 use Rattle.proto_parts.specs.declared.options.Element.TheVariants as element
 use Rattle.proto_numbers.specs.declared.flaw.Flaw.{Flaw}
 use Rattle.proto_numbers.specs.declared.numbers.NumberAt.{NumberAt}
-use Rattle.proto_numbers.specs.declared.numbers.RangeAt.{RangeAt}
+use Rattle.proto_parts.specs.declared.ranges.RangeAt.{RangeAt}
 use Rattle.proto_checks_laws.specs.Deleted.{range_of_one}
 use Rattle.proto_checks.specs.FieldFlaws.{field_flaws, option_flaws}
 use Rattle.proto_checks.specs.FileFlaws.{allows_alias, block_flaws, first_value_flaws, enum_flaws, extension_flaws, flaws_in_blocks, is_empty, json_clashes, message_flaws, name_flaws, value_option_flaws, with_reserved_name, reserved_again}

@@ -3,7 +3,7 @@ use Rattle.std.proofs.lemmas.Result.{on_ok_weaker}
 use Rattle.proto_tree.specs.File.{trees, enum_item_tree}
 use Rattle.proto_parts.specs.Parts.{enum_ranges, statements}
 use Rattle.proto_numbers.specs.declared.numbers.NumberAt.{NumberAt}
-use Rattle.proto_numbers.specs.declared.numbers.RangeAt.{RangeAt}
+use Rattle.proto_parts.specs.declared.ranges.RangeAt.{RangeAt}
 use Rattle.proto_numbers.specs.NumberFlaws.{enum_range_of, number_of_value}
 use Rattle.proto_checks.specs.FileFlaws.{value_number_flaws}
 use Rattle.proto_checks.proofs.enums.add_number_flaws.Goals as goal

@@ -1,5 +1,5 @@
 use Rattle.std.proofs.Common.{◌≡◌, ◌++◌, List, take}
-use Rattle.proto_numbers.specs.declared.numbers.RangeAt.{RangeAt}
+use Rattle.proto_parts.specs.declared.ranges.RangeAt.{RangeAt}
 use Rattle.proto_numbers.specs.NumberFlaws.{reserved_numbers}
 use Rattle.proto_numbers.specs.RangeIndex.{IsIndexOf}
 use Rattle.proto_numbers.proofs.numbers.add_inside.Given as goal

@@ -1,5 +1,5 @@
 use Rattle.std.proofs.Common.{◌≡◌, ◌++◌, List, take}
-use Rattle.proto_numbers.specs.declared.numbers.RangeAt.{RangeAt}
+use Rattle.proto_parts.specs.declared.ranges.RangeAt.{RangeAt}
 use Rattle.proto_numbers.specs.Flaws.{earlier}
 use Rattle.proto_numbers.specs.NumberFlaws.{share}
 use Rattle.proto_numbers.specs.RangeIndex.{IsIndexOf}

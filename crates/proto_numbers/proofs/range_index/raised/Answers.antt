@@ -1,6 +1,6 @@
 use Rattle.std.proofs.Common.{List, [], subst, sym, refl}
 use Rattle.std.proofs.lemmas.List.{take_all}
-use Rattle.proto_numbers.specs.declared.numbers.RangeAt.{RangeAt}
+use Rattle.proto_parts.specs.declared.ranges.RangeAt.{RangeAt}
 use Rattle.proto_numbers.specs.RangeIndex.{AreRaised}
 use Rattle.proto_numbers.proofs.IndexLemmas.{none_raised, raised_turn, most_turn}
 use Rattle.proto_numbers.proofs.range_index.raised.Goals as goal
