@@ -11,14 +11,17 @@ pub record ReadOf : Type 0 where
   pub tokens : List Token
   pub tree : Tree
 
+-- what is read of the file at a place, counted from 0
 abbrev pub read_at : List ReadOf → ℕ → ReadOf
 read_at reads file = slice_index_or reads file (record { tokens = []; tree = End })
 
 -- these are the tokens and the trees of the files
 pub record AreRead (files : List FileOf) (reads : List ReadOf) : Type 0 where
   pub same : length reads ≡ length files
-  pub tokens : (k : ℕ) → k < length files → AreTokens (file_at files k).bytes (read_at reads k).tokens
-  pub trees : (k : ℕ) → k < length files → Reads (file_at files k).bytes (read_at reads k).tokens (read_at reads k).tree
+  pub tokens : (k : ℕ) → k < length files
+      → AreTokens (file_at files k).bytes (read_at reads k).tokens
+  pub trees : (k : ℕ) → k < length files
+      → Reads (file_at files k).bytes (read_at reads k).tokens (read_at reads k).tree
 
 -- each element of a list, by its index
 abbrev pub Each : {A : Type 0} → (ℕ → A → Type 0) → List A → Type 0

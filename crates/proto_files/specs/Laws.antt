@@ -1,6 +1,7 @@
 -- Laws of the definitions, for the layers above.
 use Rattle.std.specs.Prelude.{◌≡◌, ℕ, List, IsPermutation}
 use Rattle.proto_faults.specs.FaultTable.{phase_of}
+use Rattle.proto_faults.specs.Texts.{Path}
 use Rattle.proto_files.specs.Faults.{FaultAt, ComesBefore}
 use Rattle.proto_files.specs.GivenFiles.{FileOf, AreWorkspaceFiles}
 use Rattle.proto_files.specs.PathFaults.{PathFaults}
@@ -8,15 +9,19 @@ use Rattle.proto_files.specs.ReadFaults.{TextFaults, GrammarFaults}
 
 -- The same files have one order of their paths.
 abbrev pub OneOrder : Type 0
-OneOrder = (a b : List FileOf) → IsPermutation a b → AreWorkspaceFiles a → AreWorkspaceFiles b → a ≡ b
+OneOrder =
+    (a b : List FileOf) → IsPermutation a b → AreWorkspaceFiles a → AreWorkspaceFiles b → a ≡ b
 
--- Faults of paths, of texts and of the grammar are of the phases 0, 1 and 2.
+-- Faults of paths are of phase 0.
 abbrev pub PathsArePhase0 : Type 0
-PathsArePhase0 = (limit : ℕ) (paths : List (List ℕ)) (x : FaultAt) → PathFaults limit paths x → phase_of x.kind ≡ 0
+PathsArePhase0 =
+    (limit : ℕ) (paths : List Path) (x : FaultAt) → PathFaults limit paths x → phase_of x.kind ≡ 0
 
+-- Faults of texts are of phase 1.
 abbrev pub TextsArePhase1 : Type 0
 TextsArePhase1 = (files : List FileOf) (x : FaultAt) → TextFaults files x → phase_of x.kind ≡ 1
 
+-- Faults of the grammar are of phase 2.
 abbrev pub GrammarIsPhase2 : Type 0
 GrammarIsPhase2 = (files : List FileOf) (x : FaultAt) → GrammarFaults files x → phase_of x.kind ≡ 2
 

@@ -7,16 +7,18 @@ use Rattle.proto_text.specs.Tokens.{AreTokens, IsFaultAt}
 use Rattle.proto_tree.specs.Reads.{IsSyntaxAt, IsTooDeepAt}
 use Rattle.proto_faults.specs.declared.fault.FaultKind.{FaultKind}
 use Rattle.proto_faults.specs.declared.fault.FaultKind.TheVariants.{TooLarge, NotUtf8, BadChar, OpenComment, OpenString, BadEscape, BadNumber, Syntax, TooDeep}
+use Rattle.proto_faults.specs.Texts.{Text}
 use Rattle.proto_files.specs.Faults.{FaultAt}
 use Rattle.proto_files.specs.GivenFiles.{FileOf}
 
 -- bytes of a text
-pub record IsText (bytes : List ℕ) : Type 0 where
+pub record IsText (bytes : Text) : Type 0 where
   pub short : length bytes ≤ 1048576
   pub utf8 : IsUtf8 bytes
 
--- what a fault of the text says of a file's bytes: they are no text, or whole pieces stand before the offset and none begins at it
-abbrev pub IsTextFault : List ℕ → ℕ → FaultKind → Type 0
+-- what a fault of the text says of a file's bytes: they are no text, or whole pieces stand before
+-- the offset and none begins at it
+abbrev pub IsTextFault : Text → ℕ → FaultKind → Type 0
 IsTextFault bytes offset TooLarge = (offset ≡ 0) × (1048576 < length bytes)
 IsTextFault bytes offset NotUtf8 = (offset ≡ 0) × (length bytes ≤ 1048576) × (IsUtf8 bytes → ⊥)
 IsTextFault bytes offset BadChar = IsText bytes × IsFaultAt bytes offset lex.BadChar
@@ -27,21 +29,26 @@ IsTextFault bytes offset BadNumber = IsText bytes × IsFaultAt bytes offset lex.
 IsTextFault bytes offset _ = ⊥
 
 -- what a fault of the grammar says of the tokens of a file's bytes
-abbrev pub IsGrammarFault : List ℕ → ℕ → FaultKind → Type 0
-IsGrammarFault bytes offset Syntax = (tokens : List Token) × AreTokens bytes tokens × IsSyntaxAt bytes tokens offset
-IsGrammarFault bytes offset TooDeep = (tokens : List Token) × AreTokens bytes tokens × IsTooDeepAt bytes tokens offset
+abbrev pub IsGrammarFault : Text → ℕ → FaultKind → Type 0
+IsGrammarFault bytes offset Syntax =
+    (tokens : List Token) × AreTokens bytes tokens × IsSyntaxAt bytes tokens offset
+IsGrammarFault bytes offset TooDeep =
+    (tokens : List Token) × AreTokens bytes tokens × IsTooDeepAt bytes tokens offset
 IsGrammarFault bytes offset _ = ⊥
 
 -- the faults of files by what a fault says of the bytes of one
-abbrev pub FaultsOf : (List ℕ → ℕ → FaultKind → Type 0) → List FileOf → FaultAt → Type 0
-FaultsOf says files x = (f : FileOf) × Contains files f × (x.path ≡ f.path) × says f.bytes x.offset x.kind
+abbrev pub FaultsOf : (Text → ℕ → FaultKind → Type 0) → List FileOf → FaultAt → Type 0
+FaultsOf says files x =
+    (f : FileOf) × Contains files f × (x.path ≡ f.path) × says f.bytes x.offset x.kind
 
+-- the faults of the texts of files
 abbrev pub TextFaults : List FileOf → FaultAt → Type 0
 TextFaults = FaultsOf IsTextFault
 
+-- the faults of the grammar of files
 abbrev pub GrammarFaults : List FileOf → FaultAt → Type 0
 GrammarFaults = FaultsOf IsGrammarFault
 
--- the faults of both phases
+-- the faults of the texts of files, and of their grammar
 abbrev pub ReadFaults : List FileOf → FaultAt → Type 0
 ReadFaults files x = TextFaults files x ⊎ GrammarFaults files x

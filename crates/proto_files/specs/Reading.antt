@@ -15,6 +15,7 @@ use Rattle.proto_faults.specs.declared.fault.FaultKind.{FaultKind}
 use Rattle.proto_faults.specs.declared.fault.FaultKind.TheVariants as kind
 use Rattle.proto_faults.specs.declared.fault.SchemaFault.{SchemaFault}
 use Rattle.proto_faults.specs.declared.fault.SchemaFault.TheVariants.{Schema, NoMemory}
+use Rattle.proto_faults.specs.Texts.{Text}
 use Rattle.proto_files.specs.declared.stages.LexedFile.{LexedFile}
 use Rattle.proto_files.specs.declared.stages.ReadFile.{ReadFile}
 use Rattle.proto_files.specs.Faults.{FaultAt, fault_at}
@@ -22,6 +23,7 @@ use Rattle.proto_files.specs.GivenFiles.{FileOf, file_at, AreWorkspaceFiles}
 use Rattle.proto_files.specs.ReadFaults.{IsTextFault, IsGrammarFault}
 use Rattle.proto_files.specs.Stages.{read_files}
 
+-- the kind of a fault of the lexer
 abbrev pub lex_kind : LexFault → FaultKind
 lex_kind lex.BadChar = kind.BadChar
 lex_kind lex.OpenComment = kind.OpenComment
@@ -33,53 +35,62 @@ lex_kind lex.BadNumber = kind.BadNumber
 abbrev pub text_error : String Global → TextFault → SchemaFault
 text_error path text.TooLarge = Schema (record { path = path; offset = 0; kind = kind.TooLarge })
 text_error path text.NotUtf8 = Schema (record { path = path; offset = 0; kind = kind.NotUtf8 })
-text_error path (text.At offset fault) = Schema (record { path = path; offset = offset; kind = lex_kind fault })
+text_error path (text.At offset fault) =
+    Schema (record { path = path; offset = offset; kind = lex_kind fault })
 text_error path text.NoMemory = NoMemory
 
 -- a fault of the grammar at a path
 abbrev pub grammar_error : String Global → ParseFault → SchemaFault
-grammar_error path (grammar.Syntax offset) = Schema (record { path = path; offset = offset; kind = kind.Syntax })
-grammar_error path (grammar.TooDeep offset) = Schema (record { path = path; offset = offset; kind = kind.TooDeep })
+grammar_error path (grammar.Syntax offset) =
+    Schema (record { path = path; offset = offset; kind = kind.Syntax })
+grammar_error path (grammar.TooDeep offset) =
+    Schema (record { path = path; offset = offset; kind = kind.TooDeep })
 grammar_error path grammar.NoMemory = NoMemory
 
 -- the bytes have no such fault
-abbrev pub HasNone : (List ℕ → ℕ → FaultKind → Type 0) → List ℕ → Type 0
+abbrev pub HasNone : (Text → ℕ → FaultKind → Type 0) → Text → Type 0
 HasNone says bytes = (offset : ℕ) (kind : FaultKind) → says bytes offset kind → ⊥
 
 -- the bytes have this fault and no other of its phase
-pub record IsOnlyFault (says : List ℕ → ℕ → FaultKind → Type 0) (file : FileOf) (x : FaultAt) : Type 0 where
+pub record IsOnlyFault (says : Text → ℕ → FaultKind → Type 0) (file : FileOf) (x : FaultAt)
+    : Type 0 where
   pub at_file : x.path ≡ file.path
   pub is_fault : says file.bytes x.offset x.kind
-  pub only : (offset : ℕ) (kind : FaultKind) → says file.bytes offset kind → (offset ≡ x.offset) × (kind ≡ x.kind)
+  pub only : (offset : ℕ) (kind : FaultKind) → says file.bytes offset kind
+      → (offset ≡ x.offset) × (kind ≡ x.kind)
 
-abbrev pub IsFileError : (List ℕ → ℕ → FaultKind → Type 0) → FileOf → SchemaFault → Type 0
+-- the error is want of memory, or the only fault of this file
+abbrev pub IsFileError : (Text → ℕ → FaultKind → Type 0) → FileOf → SchemaFault → Type 0
 IsFileError says file (Schema fault) = IsOnlyFault says file (fault_at fault)
 IsFileError says file NoMemory = Unit {0}
 
 -- the fault is that of the first file that has one
-pub record IsFirstFault (says : List ℕ → ℕ → FaultKind → Type 0) (files : List FileOf) (x : FaultAt) : Type 0 where
+pub record IsFirstFault (says : Text → ℕ → FaultKind → Type 0) (files : List FileOf) (x : FaultAt)
+    : Type 0 where
   pub place : ℕ
   pub within : place < length files
   pub none_before : (k : ℕ) → k < place → HasNone says (file_at files k).bytes
   pub is_only : IsOnlyFault says (file_at files place) x
 
-abbrev pub IsFirstError : (List ℕ → ℕ → FaultKind → Type 0) → List FileOf → SchemaFault → Type 0
+-- the error is want of memory, or the fault of the first file that has one
+abbrev pub IsFirstError : (Text → ℕ → FaultKind → Type 0) → List FileOf → SchemaFault → Type 0
 IsFirstError says files (Schema fault) = IsFirstFault says files (fault_at fault)
 IsFirstError says files NoMemory = Unit {0}
 
--- the tokens are those of the text, and each can be asked for its text
+-- a file with its tokens: they are those of its text, each can be asked for its own, no fault
 pub record IsLexedFile (file : LexedFile) : Type 0 where
   pub tokens_are : AreTokens file.source file.tokens.items
   pub spans : All (λ t. IsSpan file.source t.span) file.tokens.items
   pub no_fault : HasNone IsTextFault file.source
 
--- and the tree is the one that they spell
+-- a file that is read: its tokens spell its tree, and it has no fault of its text or grammar
 pub record IsReadFile (file : ReadFile) : Type 0 where
   pub spans : All (λ t. IsSpan file.source t.span) file.tokens.items
   pub reads : Reads file.source file.tokens.items (tree_of_file file.tree)
   pub no_text_fault : HasNone IsTextFault file.source
   pub no_fault : HasNone IsGrammarFault file.source
 
+-- these are files of a workspace, each of them read
 pub record AreReadFiles (files : List ReadFile) : Type 0 where
   pub workspace : AreWorkspaceFiles (read_files files)
   pub read : All IsReadFile files

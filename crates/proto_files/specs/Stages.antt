@@ -1,28 +1,36 @@
 -- What a file of a workspace says at each stage of being read: its path and bytes.
-use Rattle.std.specs.Prelude.{ℕ, List, map}
+use Rattle.std.specs.Prelude.{List, map}
 use Rattle.std.specs.String.{string_bytes}
+use Rattle.proto_faults.specs.Texts.{Path}
 use Rattle.proto_files.specs.declared.stages.NamedFile.{NamedFile}
 use Rattle.proto_files.specs.declared.stages.LexedFile.{LexedFile}
 use Rattle.proto_files.specs.declared.stages.ReadFile.{ReadFile}
 use Rattle.proto_files.specs.GivenFiles.{FileOf}
 
+-- a file of which nothing is read yet, as path and bytes
 abbrev pub named_file : NamedFile → FileOf
 named_file f = record { path = string_bytes f.path; bytes = f.bytes.items }
 
+-- files of which nothing is read yet, as paths and bytes
 abbrev pub named_files : List NamedFile → List FileOf
 named_files files = map named_file files
 
-abbrev pub named_paths : List NamedFile → List (List ℕ)
+-- the paths of such files, in order
+abbrev pub named_paths : List NamedFile → List Path
 named_paths files = map (λ f. string_bytes f.path) files
 
+-- a file with its tokens, as path and bytes
 abbrev pub lexed_file : LexedFile → FileOf
 lexed_file f = record { path = string_bytes f.path; bytes = f.source }
 
+-- files with their tokens, as paths and bytes
 abbrev pub lexed_files : List LexedFile → List FileOf
 lexed_files files = map lexed_file files
 
+-- a file with its tree, as path and bytes
 abbrev pub read_file : ReadFile → FileOf
 read_file f = record { path = string_bytes f.path; bytes = f.source }
 
+-- files with their trees, as paths and bytes
 abbrev pub read_files : List ReadFile → List FileOf
 read_files files = map read_file files

@@ -7,37 +7,46 @@ use Rattle.std.specs.Cmp.Lexicographic.{slice_cmp}
 use Rattle.std.specs.Prelude.{nat_eq}
 use Rattle.std.specs.declared.cmp.Ordering.{Ordering}
 use Rattle.std.specs.declared.cmp.Ordering.TheVariants.{Less}
+use Rattle.proto_faults.specs.Texts.{Text, Path}
 
+-- whether a byte is one of those from the lowest to the highest
 abbrev pub is_between : ℕ → ℕ → ℕ → Bool
 is_between low high b = nat_le low b && nat_le b high
 
 -- an ASCII letter, a digit, `_`, `-` or `.`
 abbrev pub is_path_byte : ℕ → Bool
-is_path_byte b = is_between 65 90 b || is_between 97 122 b || is_between 48 57 b || b == 95 || b == 45 || b == 46
+is_path_byte b =
+    is_between 65 90 b || is_between 97 122 b || is_between 48 57 b
+    || b == 95 || b == 45 || b == 46
 
--- what stands between the slashes of a path: not empty, of these characters, and neither `.` nor `..`
-abbrev pub is_path_part : List ℕ → Bool
-is_path_part part = not (length part == 0) && not (bytes_eq part (codes ".")) && not (bytes_eq part (codes "..")) && list_all is_path_byte part
+-- what stands between the slashes of a path: of these characters, not empty, neither `.` nor `..`
+abbrev pub is_path_part : Text → Bool
+is_path_part part =
+    not (length part == 0) && not (bytes_eq part (codes ".")) && not (bytes_eq part (codes ".."))
+    && list_all is_path_byte part
 
 -- the path of a file of a workspace
-pub record IsWorkspacePath (path : List ℕ) : Type 0 where
+pub record IsWorkspacePath (path : Path) : Type 0 where
   pub not_empty : 0 < length path
   pub short : length path ≤ 255
-  pub ending : (front : List ℕ) × (path ≡ front ++ codes ".proto")
-  pub parted : (parts : List (List ℕ)) × (path ≡ join_with_byte 47 parts) × AllPass is_path_part parts
+  pub ending : (front : Text) × (path ≡ front ++ codes ".proto")
+  pub parted : (parts : List Text) × (path ≡ join_with_byte 47 parts) × AllPass is_path_part parts
 
--- the same as a test
-abbrev pub is_workspace_path : List ℕ → Bool
-is_workspace_path path = nat_le (length path) 255 && ends_with nat_eq path (codes ".proto") && list_all is_path_part (slice_split (λ b. b == 47) path)
+-- whether a text is the path of a file of a workspace
+abbrev pub is_workspace_path : Path → Bool
+is_workspace_path path =
+    nat_le (length path) 255 && ends_with nat_eq path (codes ".proto")
+    && list_all is_path_part (slice_split (λ b. b == 47) path)
 
 -- the order of paths, by their bytes
-abbrev pub path_cmp : List ℕ → List ℕ → Ordering
+abbrev pub path_cmp : Path → Path → Ordering
 path_cmp = slice_cmp nat_cmp
 
-abbrev pub IsBefore : List ℕ → List ℕ → Type 0
+-- the first path comes before the second
+abbrev pub IsBefore : Path → Path → Type 0
 IsBefore p q = path_cmp p q ≡ Less
 
 -- no path is before one that it stands behind
-abbrev pub IsInPathOrder : List (List ℕ) → Type 0
+abbrev pub IsInPathOrder : List Path → Type 0
 IsInPathOrder [] = Unit {0}
 IsInPathOrder (p ∷ ps) = All (λ q. IsBefore q p → ⊥) ps × IsInPathOrder ps

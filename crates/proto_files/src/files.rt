@@ -23,8 +23,8 @@ use proto_tree::File;
 use std::alloc::Global;
 use std::marker::Model;
 
-/// Files at distinct workspace paths, in the order of their paths, each with its source, its tokens and its tree.
-/// Places of files count from 0.
+/// Files at distinct workspace paths, in the order of their paths, each with its source, its tokens
+/// and its tree. Places of files count from 0.
 #[derive(Drop)]
 pub struct Files {
     files: Vec<ReadFile>,
@@ -45,8 +45,8 @@ impl Model for Files {
 }
 
 impl Files {
-    /// Reads the files. Where a text or the grammar of a file has a fault, the least fault is answered: all texts
-    /// come before all trees.
+    /// Reads the files. Where a text or the grammar of a file has a fault, the least fault is
+    /// answered: all texts come before all trees.
     pub fn read(alloc: Global, paths: Paths) -> Result<Files, SchemaFault>
         ensures clean { IfOk result (λ _. HasNoFault (ReadFaults paths)) }
         ensures same { IfOk result (λ files. files ≡ paths) }
@@ -60,7 +60,8 @@ impl Files {
     /// How many files there are.
     pub fn len(&self) -> usize
         ensures len { result ≡ length self.now }
-        // What holds of each value: its files are those of a workspace, and their texts and grammar have no fault.
+        // What holds of each value: its files are those of a workspace, and their texts and grammar
+        // have no fault.
         ensures workspace { AreWorkspaceFiles self.now }
         ensures clean { HasNoFault (ReadFaults self.now) }
     {
@@ -109,7 +110,8 @@ impl Files {
         &self.files[place].tree
     }
 
-    /// The text of a token of the file at a place: the part of its source at the token's span. Takes no memory.
+    /// The text of a token of the file at a place: the part of its source at the token's span.
+    /// Takes no memory.
     pub fn token_text(&self, file: u32, token: u32) -> &str
         requires file { file < length self.now }
         requires token { HasToken self.now file token }
@@ -124,14 +126,17 @@ impl Files {
         read.source.text(read.tokens[token as usize].span)
     }
 
-    /// The value of a string token of the file at a place, after its escapes. Refused for want of memory alone.
+    /// The value of a string token of the file at a place, after its escapes. Refused for want of
+    /// memory alone.
     pub fn string_value(&self, alloc: Global, file: u32, token: u32) -> Result<String, NoMemory>
         requires file { file < length self.now }
         requires token { HasString self.now file token }
         ensures means { (tokens : List Token) → AreTokensOf self.now file tokens
-            → IfOk result (λ value. StandsFor (words (file_at self.now file).bytes tokens token) (string_bytes value)) }
+            → IfOk result (λ value. StandsFor (words (file_at self.now file).bytes tokens token)
+            (string_bytes value)) }
         ensures value { (tokens : List Token) → AreTokensOf self.now file tokens
-            → IfOk result (λ value. value_of (words (file_at self.now file).bytes tokens token) ≡ Some (string_bytes value)) }
+            → IfOk result (λ value. value_of (words (file_at self.now file).bytes tokens token)
+            ≡ Some (string_bytes value)) }
     {
         string_value(alloc, self.token_text(file, token))
     }

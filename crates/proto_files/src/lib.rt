@@ -1,4 +1,5 @@
-//! The files of a workspace: their paths, their sources, tokens and trees, and what may be wrong with them.
+//! The files of a workspace: their paths, their sources, tokens and trees, and what may be wrong
+//! with them.
 #![tactic(auto)]
 
 mod files;

@@ -45,8 +45,8 @@ fn file_between(files: &Files, start: usize, end: usize, path: &str) -> Option<u
     None
 }
 
-/// The place of the file at a path, if there is one. The files from the place `start` on are looked at first: where
-/// files are asked for in the order of their paths, the next one is near.
+/// The place of the file at a path, if there is one. The files from the place `start` on are looked
+/// at first: where files are asked for in the order of their paths, the next one is near.
 pub fn file_named(files: &Files, start: usize, path: &str) -> Option<usize>
     ensures within { IfSome result (λ file. file < length files.now) }
     ensures path { IfSome result (λ file. (file_at files.now file).path ≡ path.now) }

@@ -43,8 +43,9 @@ fn passes(path: &str) -> bool
     path.len() <= MAX_PATH_LEN && has_proto_ending(path) && has_path_parts(path)
 }
 
-/// Whether the text is the path of a file of a workspace: 1 to 255 bytes that end in `.proto`, of parts joined by
-/// `/`, each of ASCII letters, digits, `_`, `-` and `.`, not empty, and neither `.` nor `..`.
+/// Whether the text is the path of a file of a workspace: 1 to 255 bytes that end in `.proto`, of
+/// parts joined by `/`, each of ASCII letters, digits, `_`, `-` and `.`, not empty, and neither `.`
+/// nor `..`.
 pub fn is_workspace_path(path: &str) -> bool
     ensures valid { IsTrue result ↔ IsWorkspacePath path.now }
     ensures test { result ≡ is_workspace_path path.now }

@@ -1,7 +1,6 @@
 //! The files that are given for a workspace, by their paths.
 
 ghost use Rattle.std.specs.Prelude.{◌≡◌, ◌≤◌, ◌<◌, length, map, IfOk, IfErr, IfSome, IsPermutation};
-ghost use Rattle.std.specs.String.{string_bytes};
 ghost use Rattle.proto_files.specs.Faults.{HasNoFault, IsFilesError};
 ghost use Rattle.proto_files.specs.GivenFiles.{AreWorkspaceFiles, paths_of, files_of};
 ghost use Rattle.proto_files.specs.Stages.{named_files, named_paths};
@@ -96,8 +95,8 @@ fn first_fault(files: &[NamedFile], limit: usize) -> Option<(usize, FaultKind)>
 }
 
 impl Paths {
-    /// The files in the order of their paths. Where a path is no workspace path, is given twice, or there are more
-    /// than `MAX_FILES` files, the least such fault is answered.
+    /// The files in the order of their paths. Where a path is no workspace path, is given twice, or
+    /// there are more than `MAX_FILES` files, the least such fault is answered.
     pub fn new(alloc: Global, files: Vec<(String, Vec<u8>)>) -> Result<Paths, SchemaFault>
         ensures clean { IfOk result (λ _. HasNoFault
             (PathFaults MAX_FILES (paths_of (files_of files.items)))) }

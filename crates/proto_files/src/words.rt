@@ -34,7 +34,8 @@ impl<'a> Model for Words<'a> {
 
     ghost view = { λ w. map (lexeme_at (file_at w.files.now w.file).bytes) w.tokens.now };
 
-    ghost invariant = { λ w. (w.file < length w.files.now) × AreTokensOf w.files.now w.file w.tokens.now };
+    ghost invariant = { λ w. (w.file < length w.files.now)
+        × AreTokensOf w.files.now w.file w.tokens.now };
 }
 
 fn is_string(kind: TokenKind) -> bool
@@ -83,8 +84,8 @@ impl<'a> Words<'a> {
         }
     }
 
-    /// The value of the string token with this index, after its escapes; none for another token. Refused for want of
-    /// memory alone.
+    /// The value of the string token with this index, after its escapes; none for another token.
+    /// Refused for want of memory alone.
     pub fn string(&self, alloc: Global, index: u32) -> Result<Option<String>, NoMemory>
         ensures { IfOk result (λ found. option_map string_bytes found ≡ string_at self.now index) }
     {
@@ -96,7 +97,8 @@ impl<'a> Words<'a> {
         }
     }
 
-    /// Whether the string token with this index has this value; false for another token. Takes no memory.
+    /// Whether the string token with this index has this value; false for another token. Takes no
+    /// memory.
     pub fn says(&self, index: u32, value: &[u8]) -> bool
         ensures { result ≡ is_value (string_at self.now index) value.now }
     {
