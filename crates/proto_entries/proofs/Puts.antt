@@ -5,12 +5,12 @@ use Rattle.std.specs.List.{Contains}
 use Rattle.std.specs.Str.{bytes_eq}
 use Rattle.std.proofs.lemmas.Bool.{cases_Bool}
 use Rattle.std.proofs.lemmas.List.Sums.{sum_by-cons}
-use Rattle.proto_text.specs.Edits.{Edit, Puts, inverse_from, old_len, new_len}
+use Rattle.proto_text.specs.Edits.{Edit, Puts, old_len, new_len}
 use Rattle.proto_text.proofs.EditLaws.{inverse_leads_back}
 use Rattle.proto_text.proofs.Once.{puts_once, puts_length}
 use Rattle.proto_files.specs.GivenFiles.{FileOf}
 use Rattle.proto_text.proofs.Lists.{contains_head, contains_later, contains_cases, contains_map, from_map, word_from_same, same_from_word}
-use Rattle.proto_entries.specs.Entries.{ChangeOf, inverted, IsChange}
+use Rattle.proto_entries.specs.Entries.{ChangeOf, turned_round, inverted, IsChange}
 use Rattle.proto_entries.specs.Putting.{PutsFile, EachPuts, IsPut}
 use Rattle.proto_entries.specs.Laws.{PutsOnce, EntriesLeadBack}
 
@@ -66,17 +66,14 @@ puts_are_once w a b cs p q = each_once cs w a b p.each q.each
 abbrev pub IsEven : ChangeOf → Type 0
 IsEven c = c.after + old_len c.splices ≡ c.before + new_len c.splices
 
-abbrev pub inverse : ChangeOf → ChangeOf
-inverse c = record { path = c.path; before = c.after; after = c.before; splices = inverse_from 0 0 c.splices }
-
 file_back : (cs : List ChangeOf) (f g : FileOf) → ((c : ChangeOf) → Contains cs c → IsEven c) → PutsFile cs f g → PutsFile (inverted cs) g f
 file_back cs f g even x = record {
   path = sym x.path;
   changed = λ d k p. changed d k p;
-  kept = λ ne. sym (x.kept (λ c k p. ne (inverse c) (contains_map inverse cs c k) (p ∙ sym x.path)));
+  kept = λ ne. sym (x.kept (λ c k p. ne (turned_round c) (contains_map turned_round cs c k) (p ∙ sym x.path)));
 }
   where
-    back : (c : ChangeOf) → Contains cs c → c.path ≡ g.path → (length g.bytes ≡ c.after) × Puts 0 g.bytes (inverse c).splices f.bytes
+    back : (c : ChangeOf) → Contains cs c → c.path ≡ g.path → (length g.bytes ≡ c.after) × Puts 0 g.bytes (turned_round c).splices f.bytes
     back c k p =
         let put = x.changed c k (p ∙ x.path) in
         let size = puts_length 0 f.bytes g.bytes c.splices put.1 in
@@ -84,7 +81,7 @@ file_back cs f g even x = record {
 
     changed : (d : ChangeOf) → Contains (inverted cs) d → d.path ≡ g.path → (length g.bytes ≡ d.before) × Puts 0 g.bytes d.splices f.bytes
     changed d k p =
-        let c = from_map inverse cs d k in
+        let c = from_map turned_round cs d k in
         subst (λ (z : ChangeOf). (length g.bytes ≡ z.before) × Puts 0 g.bytes z.splices f.bytes) c.2 (back c.0 c.1 (ap (λ (z : ChangeOf). z.path) c.2 ∙ p))
 
 each_back : (cs : List ChangeOf) (w after : List FileOf) → ((c : ChangeOf) → Contains cs c → IsEven c) → EachPuts cs w after → EachPuts (inverted cs) after w
@@ -106,7 +103,7 @@ pub put_back : (w : List FileOf) (cs : List ChangeOf) (after : List FileOf) → 
 put_back w cs after even p = record {
   each = each_back cs w after even p.each;
   there = λ d k. (
-      let c = from_map inverse cs d k in
+      let c = from_map turned_round cs d k in
       let f = p.there c.0 c.1 in
       let g = each_there cs w after f.0 p.each f.1 in
       (g.0, g.1, g.2 ∙ f.2 ∙ ap (λ (z : ChangeOf). z.path) c.2));

@@ -1,8 +1,10 @@
--- How files are changed: each by the splices of its path; and how files and changes are gone through together, both in the order of their paths.
+-- How files are changed: each by the splices of its path; and how files and changes are gone
+-- through together, both in the order of their paths.
 use Rattle.std.specs.Prelude.{◌≡◌, ◌≢◌, ℕ, ◌≤◌, ◌⊎◌, List, [], ◌∷◌, length, Option, Some, None}
 use Rattle.std.specs.Global.{Vec}
 use Rattle.std.specs.List.{Contains}
 use Rattle.proto_text.specs.Edits.{Puts}
+use Rattle.proto_faults.specs.Texts.{Text}
 use Rattle.proto_files.specs.GivenFiles.{FileOf}
 use Rattle.proto_entries.specs.Entries.{ChangeOf}
 
@@ -11,9 +13,11 @@ use Rattle.proto_entries.specs.Entries.{ChangeOf}
 -- a file is changed by the splices of its path, and stays where there are none
 pub record PutsFile (cs : List ChangeOf) (f g : FileOf) : Type 0 where
   pub path : g.path ≡ f.path
-  pub changed : (c : ChangeOf) → Contains cs c → c.path ≡ f.path → (length f.bytes ≡ c.before) × Puts 0 f.bytes c.splices g.bytes
+  pub changed : (c : ChangeOf) → Contains cs c → c.path ≡ f.path
+      → (length f.bytes ≡ c.before) × Puts 0 f.bytes c.splices g.bytes
   pub kept : ((c : ChangeOf) → Contains cs c → c.path ≢ f.path) → g.bytes ≡ f.bytes
 
+-- each file is changed, or stays, and none is left out
 abbrev pub EachPuts : List ChangeOf → List FileOf → List FileOf → Type 0
 EachPuts cs [] [] = Unit {0}
 EachPuts cs [] (g ∷ gs) = ⊥
@@ -32,20 +36,23 @@ AreShortFiles after = (g : FileOf) → Contains after g → length g.bytes ≤ 1
 -- ---- in order
 
 -- the text with a change: it was as before the change, and is then no longer than a file may be
-pub record HasChange (text : List ℕ) (c : ChangeOf) (new : List ℕ) : Type 0 where
+pub record HasChange (text : Text) (c : ChangeOf) (new : Text) : Type 0 where
   pub before : length text ≡ c.before
   pub puts : Puts 0 text c.splices new
   pub short : length new ≤ 1048576
 
 -- this is the text with the change, or there is none
-abbrev pub IsChangedText : List ℕ → ChangeOf → Option (Vec ℕ) → Type 0
+abbrev pub IsChangedText : Text → ChangeOf → Option (Vec ℕ) → Type 0
 IsChangedText text c (Some new) = HasChange text c new.items
-IsChangedText text c None = (new : List ℕ) → HasChange text c new → ⊥
+IsChangedText text c None = (new : Text) → HasChange text c new → ⊥
 
--- what becomes of a file, and which changes are left behind it: it has the first change, where that is of its path, or stays
+-- what becomes of a file, and which changes are left behind it: it has the first change, where that
+-- is of its path, or stays
 abbrev pub IsNext : FileOf → List ChangeOf → FileOf → List ChangeOf → Type 0
 IsNext f [] g rest = (g ≡ f) × (rest ≡ [])
-IsNext f (c ∷ cs) g rest = ((c.path ≡ f.path) × (g.path ≡ f.path) × HasChange f.bytes c g.bytes × (rest ≡ cs)) ⊎ ((c.path ≢ f.path) × (g ≡ f) × (rest ≡ c ∷ cs))
+IsNext f (c ∷ cs) g rest =
+    ((c.path ≡ f.path) × (g.path ≡ f.path) × HasChange f.bytes c g.bytes × (rest ≡ cs))
+    ⊎ ((c.path ≢ f.path) × (g ≡ f) × (rest ≡ c ∷ cs))
 
 -- the files after all the changes
 abbrev pub ArePut : List FileOf → List ChangeOf → List FileOf → Type 0

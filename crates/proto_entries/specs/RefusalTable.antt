@@ -1,8 +1,10 @@
 -- The numbers and names of refusals: the table of this product.
-use Rattle.std.specs.Prelude.{ℕ, List, codes}
+use Rattle.std.specs.Prelude.{ℕ, codes}
+use Rattle.proto_faults.specs.Texts.{Text}
 use Rattle.proto_entries.specs.declared.refusal.Refusal.{Refusal}
 use Rattle.proto_entries.specs.declared.refusal.Refusal.TheVariants as refusal
 
+-- the number of a refusal; of cases that hold, the least is told
 abbrev pub number_of : Refusal → ℕ
 number_of refusal.UnknownTarget = 1
 number_of refusal.KindNotAllowed = 2
@@ -23,7 +25,8 @@ number_of refusal.TooLarge = 16
 number_of refusal.Stale = 17
 number_of refusal.NoMemory = 18
 
-abbrev pub name_of : Refusal → List ℕ
+-- the name of a refusal
+abbrev pub name_of : Refusal → Text
 name_of refusal.UnknownTarget = codes "UnknownTarget"
 name_of refusal.KindNotAllowed = codes "KindNotAllowed"
 name_of refusal.NotAnIdentifier = codes "NotAnIdentifier"

@@ -15,7 +15,8 @@ use std::marker::Model;
 /// How many bytes a file has at most.
 const MAX_LEN: u32 = 1_048_576;
 
-/// A changed file: its path, its lengths in bytes before and after, and its splices, whose places count in the old text.
+/// A changed file: its path, its lengths in bytes before and after, and its splices, whose places
+/// count in the old text.
 #[derive(Drop)]
 pub struct Change {
     pub path: String,
@@ -173,8 +174,9 @@ impl Entry {
     ghost use Rattle.std.specs.Prelude.{◌≡◌, map, MatchOption};
     ghost use Rattle.proto_entries.specs.Entries.{change_of, IsEntry};
 
-    /// The entry of these changes, exactly where there is one: at least one change, in rising order of paths, each of
-    /// a workspace path, whose splices lie in the old text and lead from the length before to the length after.
+    /// The entry of these changes, exactly where there is one: at least one change, in rising order
+    /// of paths, each of a workspace path, whose splices lie in the old text and lead from the
+    /// length before to the length after.
     pub fn new(changes: Vec<Change>) -> Option<Entry>
         ensures { MatchOption result
             (IsEntry (map change_of changes.items) → ⊥)

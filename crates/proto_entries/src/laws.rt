@@ -8,7 +8,8 @@ pub fn puts_are_once()
     ensures paths { PutsKeepPaths }
 {}
 
-/// Files and changes gone through together, both in the order of their paths, are put as the paths say.
+/// Files and changes gone through together, both in the order of their paths, are put as the paths
+/// say.
 pub fn walks_are_puts()
     ensures by_paths { WalksPut }
     ensures in_order { PutsAreWalked }
@@ -19,7 +20,8 @@ pub fn entries_lead_back()
     ensures { EntriesLeadBack }
 {}
 
-/// Splices that put a text lie in order, where the old text and the new one have at most 1,048,576 bytes.
+/// Splices that put a text lie in order, where the old text and the new one have at most 1,048,576
+/// bytes.
 pub fn puts_are_short()
     ensures { PutsAreShort }
 {}

@@ -1,4 +1,5 @@
-//! What an edit changed, how it is put into files and taken back, and why an edit is refused. No schema is needed here.
+//! What an edit changed, how it is put into files and taken back, and why an edit is refused. No
+//! schema is needed here.
 #![tactic(auto)]
 
 mod change;

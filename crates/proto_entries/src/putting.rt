@@ -1,6 +1,6 @@
 //! Changes put into the files of a workspace.
 
-ghost use Rattle.std.specs.Prelude.{◌≡◌, List, map, IfOk, MatchOption};
+ghost use Rattle.std.specs.Prelude.{List, map, IfOk, MatchOption};
 ghost use Rattle.proto_files.specs.GivenFiles.{FileOf, files_of};
 ghost use Rattle.proto_entries.specs.Entries.{ChangeOf, change_of};
 ghost use Rattle.proto_entries.specs.Putting.{IsChangedText, IsNext, ArePut};
@@ -27,8 +27,8 @@ fn changed_text(alloc: Global, text: &[u8], change: &Change) -> Result<Option<Ve
     }
 }
 
-// The bytes of a file after the first of these changes, where that is of its path, or as they are; and which changes are
-// left behind it. None where the change cannot be made.
+// The bytes of a file after the first of these changes, where that is of its path, or as they are;
+// and which changes are left behind it. None where the change cannot be made.
 fn next_bytes<'a>(
     alloc: Global,
     path: &str,
@@ -36,8 +36,10 @@ fn next_bytes<'a>(
     left: &'a [Change],
 ) -> Result<Option<(Vec<u8>, &'a [Change])>, NoMemory>
     ensures { IfOk result (λ found. MatchOption found
-        ((g : FileOf) (rest : List ChangeOf) → IsNext (record { path = path.now; bytes = text.now }) (map change_of left.now) g rest → ⊥)
-        (λ next. IsNext (record { path = path.now; bytes = text.now }) (map change_of left.now) (record { path = path.now; bytes = next.0.items }) (map change_of next.1.now))) }
+        ((g : FileOf) (rest : List ChangeOf)
+        → IsNext (record { path = path.now; bytes = text.now }) (map change_of left.now) g rest → ⊥)
+        (λ next. IsNext (record { path = path.now; bytes = text.now }) (map change_of left.now)
+        (record { path = path.now; bytes = next.0.items }) (map change_of next.1.now))) }
 {
     let Some((change, rest)) = left.split_first() else {
         return Ok(Some((Vec::from_slice(alloc, text)?, left)));
@@ -51,8 +53,8 @@ fn next_bytes<'a>(
     }
 }
 
-/// The files with changes, both in the order of their paths. None where a change is of a file that is not there or not
-/// as before it, or leaves a file that is too long.
+/// The files with changes, both in the order of their paths. None where a change is of a file that
+/// is not there or not as before it, or leaves a file that is too long.
 pub fn put_all(
     alloc: Global,
     files: &Files,

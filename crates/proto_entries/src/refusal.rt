@@ -7,7 +7,8 @@ use proto_faults::NoMemory;
 use std::alloc::{AllocError, AllocFailed};
 use thiserror::Error;
 
-/// Why an edit or an undo is refused: the least case that holds, by number. Want of memory may come in place of any.
+/// Why an edit or an undo is refused: the least case that holds, by number. Want of memory may come
+/// in place of any.
 #[derive(Debug, Drop, Error)]
 pub enum Refusal {
     /// No symbol has the name.
@@ -28,7 +29,8 @@ pub enum Refusal {
     /// A new name is the name of another symbol.
     #[error("a new name is the name of another symbol")]
     Collision,
-    /// A reference would mean something else. Its file, and the offset of its first token in bytes from 0.
+    /// A reference would mean something else. Its file, and the offset of its first token in bytes
+    /// from 0.
     #[error("a reference would mean something else: {path}: byte {offset}")]
     Captured { path: String, offset: u32 },
     /// The new name is reserved where the symbol stands.
@@ -52,7 +54,8 @@ pub enum Refusal {
     /// An import cycle would be closed.
     #[error("an import cycle would be closed")]
     Cycle,
-    /// A reference means a symbol that would no longer be seen. Its file, and the offset of its first token in bytes from 0.
+    /// A reference means a symbol that would no longer be seen. Its file, and the offset of its
+    /// first token in bytes from 0.
     #[error("a reference means a symbol that would no longer be seen: {path}: byte {offset}")]
     Needed { path: String, offset: u32 },
     /// A changed file would pass 1,048,576 bytes.
