@@ -13,25 +13,38 @@ use Rattle.proto_listing.specs.Listing.{last_token, whole}
 
 -- The token of a declaration is a name,
 abbrev pub DeclaredTokensAreNames : Type 0
-DeclaredTokensAreNames = (tree : Tree) (ls : List Lexeme) → Spells tree (classes 0 ls) → (p : Placed) → Contains (file_placed (items_in tree)) p
+DeclaredTokensAreNames =
+    (tree : Tree) (ls : List Lexeme) → Spells tree (classes 0 ls)
+    → (p : Placed) → Contains (file_placed (items_in tree)) p
     → (token : ℕ) → last_token (whole p) ≡ Some token → HasRole tree names token
 
 -- each token of a reference's words refers,
 abbrev pub UsedTokensRefer : Type 0
-UsedTokensRefer = (tree : Tree) (ls : List Lexeme) → Spells tree (classes 0 ls) → (u : Used ℕ) → Contains (file_names tree).used u
+UsedTokensRefer =
+    (tree : Tree) (ls : List Lexeme) → Spells tree (classes 0 ls)
+    → (u : Used ℕ) → Contains (file_names tree).used u
     → (token : ℕ) → Contains u.tokens token → HasRole tree refers token
 
 -- so none is both.
 abbrev pub NamesAreNoUses : Type 0
-NamesAreNoUses = (tree : Tree) (ls : List Lexeme) → Spells tree (classes 0 ls) → (p : Placed) → Contains (file_placed (items_in tree)) p
-    → (token : ℕ) → last_token (whole p) ≡ Some token → (u : Used ℕ) → Contains (file_names tree).used u → Contains u.tokens token → ⊥
+NamesAreNoUses =
+    (tree : Tree) (ls : List Lexeme) → Spells tree (classes 0 ls)
+    → (p : Placed) → Contains (file_placed (items_in tree)) p
+    → (token : ℕ) → last_token (whole p) ≡ Some token
+    → (u : Used ℕ) → Contains (file_names tree).used u → Contains u.tokens token → ⊥
 
 -- A token is one word of one reference.
 abbrev pub TokensAreUsedOnce : Type 0
-TokensAreUsedOnce = (tree : Tree) (ls : List Lexeme) → Spells tree (classes 0 ls) → (u v : Used ℕ) → Contains (file_names tree).used u → Contains (file_names tree).used v
-    → (xs ys zs ws : List ℕ) (token : ℕ) → u.tokens ≡ xs ++ token ∷ ys → v.tokens ≡ zs ++ token ∷ ws → (u ≡ v) × (xs ≡ zs)
+TokensAreUsedOnce =
+    (tree : Tree) (ls : List Lexeme) → Spells tree (classes 0 ls)
+    → (u v : Used ℕ) → Contains (file_names tree).used u → Contains (file_names tree).used v
+    → (xs ys zs ws : List ℕ) (token : ℕ)
+    → u.tokens ≡ xs ++ token ∷ ys → v.tokens ≡ zs ++ token ∷ ws → (u ≡ v) × (xs ≡ zs)
 
 -- Each word of a reference stands at the token of its number.
 abbrev pub UsedWordsStandApart : Type 0
-UsedWordsStandApart = (tree : Tree) (ls : List Lexeme) → Spells tree (classes 0 ls) → (u : Used ℕ) → Contains (file_names tree).used u
-    → (number other : ℕ) → number < length u.tokens → get_or u.tokens number other ≡ word_token u.first u.is_absolute number
+UsedWordsStandApart =
+    (tree : Tree) (ls : List Lexeme) → Spells tree (classes 0 ls)
+    → (u : Used ℕ) → Contains (file_names tree).used u
+    → (number other : ℕ) → number < length u.tokens
+    → get_or u.tokens number other ≡ word_token u.first u.is_absolute number

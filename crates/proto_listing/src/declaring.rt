@@ -62,12 +62,14 @@ pub fn links()
         → IsLinked (workspace_of text entry_name k) → (f : Fault) → ReferenceFault text k f → ⊥ }
 {}
 
-/// The tokens of what a file declares are in order, and each of its references stands in one of its declarations.
+/// The tokens of what a file declares are in order, and each of its references stands in one of its
+/// declarations.
 pub fn file_trees()
     ensures { (t : Tree) (ls : List Lexeme) → Spells t (classes 0 ls) → IsGrown (file_names t) }
 {}
 
-/// A token that names a declaration is no word of a reference. A token is one word of one reference, and these stand a dot apart.
+/// A token that names a declaration is no word of a reference. A token is one word of one
+/// reference, and these stand a dot apart.
 pub fn tokens()
     ensures names { DeclaredTokensAreNames }
     ensures uses { UsedTokensRefer }

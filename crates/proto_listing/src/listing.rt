@@ -57,6 +57,7 @@ pub struct Listing<'a> {
 }
 
 impl<'a> Listing<'a> {
+    /// No entries and no references yet.
     pub fn new(alloc: Global) -> Listing<'a>
         ensures declared { result.declared.items ≡ [] }
         ensures used { result.used.items ≡ [] }

@@ -1,7 +1,7 @@
 //! What a file imports, and its package.
 
-ghost use Rattle.std.specs.Prelude.{◌≡◌, [], ◌∷◌, map, IfOk, MatchOption};
-ghost use Rattle.proto_tree.specs.File.{item_tree, trees, tree_of_file};
+ghost use Rattle.std.specs.Prelude.{◌≡◌, [], map, IfOk, MatchOption};
+ghost use Rattle.proto_tree.specs.File.{item_tree, tree_of_file};
 ghost use Rattle.proto_tree.specs.References.{dotted};
 ghost use Rattle.proto_listing.specs.FromTree.{imports_in, items_in};
 ghost use Rattle.proto_listing.specs.Listing.{wanted_of, wanted_if};
