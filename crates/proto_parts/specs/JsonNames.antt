@@ -1,18 +1,22 @@
 -- The names of fields in JSON.
-use Rattle.std.specs.Prelude.{ℕ, false, List, Option, Some, None, codes}
+use Rattle.std.specs.Prelude.{false, Option, Some, None, codes}
 use Rattle.proto_case.specs.Camel.{camel_from}
+use Rattle.proto_faults.specs.Texts.{Text}
 use Rattle.proto_parts.specs.Options.{text_option}
 use Rattle.proto_parts.specs.Parts.{FieldOf}
 use Rattle.proto_parts.specs.Scenes.{Scene, text, value}
 
 -- the JSON name of a word: no `_`, and the character after one in upper case
-abbrev pub json_word : List ℕ → List ℕ
+abbrev pub json_word : Text → Text
 json_word word = camel_from false word
 
-abbrev pub written_or : Option (List ℕ) → List ℕ → List ℕ
+-- the name that is written, if one is; else the JSON name of the word
+abbrev pub written_or : Option Text → Text → Text
 written_or None word = json_word word
 written_or (Some name) word = name
 
--- as `json_name` says, where it is a text
-abbrev pub json_name_of : Scene → FieldOf → List ℕ
-json_name_of scene f = written_or (text_option (text scene) (value scene) (codes "json_name") f.options) (text scene f.name)
+-- the JSON name of a field: as its option `json_name` says, where that is a text
+abbrev pub json_name_of : Scene → FieldOf → Text
+json_name_of scene f =
+    written_or (text_option (text scene) (value scene) (codes "json_name") f.options)
+    (text scene f.name)

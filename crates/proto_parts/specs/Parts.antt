@@ -1,4 +1,5 @@
--- The parts of a tree that checks and descriptors read: fields, values, ranges, reserved names, options and blocks, by the indices of their tokens.
+-- The parts of a tree that checks and descriptors read: fields, values, ranges, reserved names,
+-- options and blocks, by the indices of their tokens.
 use Rattle.std.specs.Prelude.{ℕ, suc, List, [], ◌∷◌, ◌++◌, map, flat_map, Option, Some, None}
 use Rattle.proto_tree.specs.declared.tree.Separated.{Separated}
 use Rattle.proto_tree.specs.declared.tree.Constant.{Constant}
@@ -35,6 +36,7 @@ pub record OptionOf : Type 0 where
   pub name : ℕ
   pub value : Constant
 
+-- a setting between brackets as an option
 abbrev pub option_of_setting : Setting → OptionOf
 option_of_setting s = record { name = s.name; value = s.value }
 
@@ -43,6 +45,7 @@ abbrev pub settings_of : Option Settings → List OptionOf
 settings_of None = []
 settings_of (Some s) = map option_of_setting (separated s.list)
 
+-- the option that a statement is, if it is one
 abbrev pub statement_options : Statement → List OptionOf
 statement_options (statement.Option o) = record { name = o.name; value = o.value } ∷ []
 statement_options _ = []
@@ -53,7 +56,8 @@ options_in tree = flat_map statement_options (statements tree)
 
 -- ---- fields
 
--- A field: plain, of a oneof (by its place among the message's oneofs, from 0), or of a map (by the token of its key's type).
+-- A field: plain, of a oneof (by its place among the message's oneofs, from 0), or of a map (by the
+-- token of its key's type).
 pub record FieldOf : Type 0 where
   pub label : Option ℕ
   pub map_key : Option ℕ
@@ -63,13 +67,31 @@ pub record FieldOf : Type 0 where
   pub number : ℕ
   pub options : List OptionOf
 
+-- a field that is no map; of a oneof, if a place of one is given
 abbrev pub plain_field : Option ℕ → Field → FieldOf
-plain_field oneof f = record { label = f.label; map_key = None; oneof = oneof; kind = f.kind; name = f.name; number = f.number; options = settings_of f.settings }
+plain_field oneof f = record {
+  label = f.label;
+  map_key = None;
+  oneof = oneof;
+  kind = f.kind;
+  name = f.name;
+  number = f.number;
+  options = settings_of f.settings;
+}
 
--- its kind is that of its values
+-- a map field: its kind is that of its values
 abbrev pub map_field : MapField → FieldOf
-map_field f = record { label = None; map_key = Some f.key; oneof = None; kind = f.value; name = f.name; number = f.number; options = settings_of f.settings }
+map_field f = record {
+  label = None;
+  map_key = Some f.key;
+  oneof = None;
+  kind = f.value;
+  name = f.name;
+  number = f.number;
+  options = settings_of f.settings;
+}
 
+-- the field that a statement is, if it is one; of a oneof, if a place of one is given
 abbrev pub statement_fields : Option ℕ → Statement → List FieldOf
 statement_fields oneof (statement.Field f) = plain_field oneof f ∷ []
 statement_fields oneof (statement.MapField f) = map_field f ∷ []
@@ -79,7 +101,9 @@ statement_fields oneof _ = []
 abbrev pub fields_from : ℕ → Tree → List FieldOf
 fields_from before End = []
 fields_from before (Leaf s rest) = statement_fields None s ++ fields_from before rest
-fields_from before (Block (header.Oneof h) opens within closes rest) = flat_map (statement_fields (Some before)) (statements within) ++ fields_from (suc before) rest
+fields_from before (Block (header.Oneof h) opens within closes rest) =
+    flat_map (statement_fields (Some before)) (statements within)
+    ++ fields_from (suc before) rest
 fields_from before (Block h opens within closes rest) = fields_from before rest
 
 -- the fields of a message, in order
@@ -95,26 +119,31 @@ oneof_count (Block h opens within closes rest) = oneof_count rest
 
 -- ---- ranges and reserved names
 
+-- the ranges of a reserved list
 abbrev pub ranges_of : {N : Type 0} → ReservedList N → List (Range N)
 ranges_of (reserved_list.Names names) = []
 ranges_of (reserved_list.Ranges ranges) = separated ranges
 
+-- the tokens of the names of a reserved list
 abbrev pub names_of : {N : Type 0} → ReservedList N → List ℕ
 names_of (reserved_list.Names names) = separated names
 names_of (reserved_list.Ranges ranges) = []
 
+-- the ranges that a statement of a message reserves
 abbrev pub reserved_ranges : Statement → List (Range ℕ)
 reserved_ranges (statement.Reserved r) = ranges_of r.list
 reserved_ranges _ = []
 
+-- the ranges that a statement of a message leaves to extensions
 abbrev pub extension_ranges : Statement → List (Range ℕ)
 extension_ranges (statement.Extensions e) = separated e.ranges
 extension_ranges _ = []
 
--- of both kinds
+-- the ranges that a statement of a message reserves or leaves to extensions
 abbrev pub closed_ranges : Statement → List (Range ℕ)
 closed_ranges s = reserved_ranges s ++ extension_ranges s
 
+-- the ranges that a statement of an enum reserves
 abbrev pub enum_ranges : Statement → List (Range Signed)
 enum_ranges (statement.EnumReserved r) = ranges_of r.list
 enum_ranges _ = []
@@ -125,6 +154,7 @@ reserved_names (statement.Reserved r) = names_of r.list
 reserved_names (statement.EnumReserved r) = names_of r.list
 reserved_names _ = []
 
+-- the tokens of the reserved names of a block, in order
 abbrev pub reserved_names_in : Tree → List ℕ
 reserved_names_in tree = flat_map reserved_names (statements tree)
 
@@ -135,10 +165,12 @@ extension_words _ = []
 
 -- ---- values of an enum
 
+-- the value that a statement of an enum is, if it is one
 abbrev pub statement_values : Statement → List Value
 statement_values (statement.Value v) = v ∷ []
 statement_values _ = []
 
+-- the values of an enum, in order
 abbrev pub values_in : Tree → List Value
 values_in tree = flat_map statement_values (statements tree)
 
@@ -149,11 +181,13 @@ abbrev pub syntax_texts : Statement → List ℕ
 syntax_texts (statement.Syntax s) = s.text ∷ []
 syntax_texts _ = []
 
+-- the tokens of the strings of the syntax statements of a file
 abbrev pub syntax_texts_in : Tree → List ℕ
 syntax_texts_in tree = flat_map syntax_texts (statements tree)
 
 -- ---- blocks
 
+-- a block: its header, and what stands between its braces
 pub record BlockOf : Type 0 where
   pub header : Header
   pub within : Tree
@@ -162,4 +196,5 @@ pub record BlockOf : Type 0 where
 abbrev pub blocks_in : Tree → List BlockOf
 blocks_in End = []
 blocks_in (Leaf s rest) = blocks_in rest
-blocks_in (Block h opens within closes rest) = record { header = h; within = within } ∷ (blocks_in within ++ blocks_in rest)
+blocks_in (Block h opens within closes rest) =
+    record { header = h; within = within } ∷ (blocks_in within ++ blocks_in rest)

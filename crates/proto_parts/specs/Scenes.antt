@@ -1,8 +1,10 @@
--- What is read of a file: the texts of its tokens, the values of its strings, its numbers, its version, and what its references mean.
+-- What is read of a file: the texts of its tokens, the values of its strings, its numbers, its
+-- version, and what its references mean.
 use Rattle.std.specs.Prelude.{ℕ, ℤ, pos, Bool, false, List, [], find, Option, Some, None, codes, ◌==◌, min, slice_get}
 use Rattle.std.specs.List.{list_any}
 use Rattle.std.specs.Option.{option_and_then}
 use Rattle.std.specs.Str.{bytes_eq}
+use Rattle.proto_faults.specs.Texts.{Text}
 use Rattle.proto_text.specs.Texts.{word_at}
 use Rattle.proto_text.specs.Values.{value_of}
 use Rattle.proto_text.specs.declared.kind.TokenKind.{TokenKind}
@@ -17,16 +19,18 @@ use Rattle.proto_tree.specs.References.{first_of}
 use Rattle.proto_parts.specs.Numbers.{number_of, signed_by}
 use Rattle.proto_parts.specs.Parts.{statements}
 
--- what is read of an enum: whether its file is proto3, whether it has a first value that is not 0, and the names of its values
+-- what is read of an enum: whether its file is proto3, whether it has a first value that is not 0,
+-- and the names of its values
 pub record EnumOf : Type 0 where
   pub is_proto3 : Bool
   pub starts_past_zero : Bool
-  pub values : List (List ℕ)
+  pub values : List Text
 
--- what a reference means, by its first token: a full name, joined by dots, and the enum of that name, if it is one
+-- what a reference means, by its first token: a full name, joined by dots, and the enum of that
+-- name, if it is one
 pub record MeantOf : Type 0 where
   pub token : ℕ
-  pub name : List ℕ
+  pub name : Text
   pub enum : Option EnumOf
 
 -- A file as it is read. Where there is a cap, a number past it counts as the cap.
@@ -41,10 +45,11 @@ abbrev pub uncapped : Scene → Scene
 uncapped scene = record scene { cap = None }
 
 -- the text of the token with an index
-abbrev pub text : Scene → ℕ → List ℕ
+abbrev pub text : Scene → ℕ → Text
 text scene token = word_at scene.lexemes token
 
-abbrev pub value_or_none : TokenKind → Option (List ℕ) → List ℕ
+-- the value of a token of this kind: that of a string, if it has one; else nothing
+abbrev pub value_or_none : TokenKind → Option Text → Text
 value_or_none token_kind.Text (Some v) = v
 value_or_none token_kind.Text None = []
 value_or_none token_kind.Word v = []
@@ -52,30 +57,34 @@ value_or_none token_kind.Number v = []
 value_or_none token_kind.Punctuation v = []
 
 -- the value of a string token; nothing for another token
-abbrev pub string_of : Option Lexeme → List ℕ
+abbrev pub string_of : Option Lexeme → Text
 string_of None = []
 string_of (Some l) = value_or_none l.kind (value_of l.text)
 
-abbrev pub value_in : List Lexeme → ℕ → List ℕ
+-- the value of the string token with an index among the tokens of a file
+abbrev pub value_in : List Lexeme → ℕ → Text
 value_in lexemes token = string_of (slice_get lexemes token)
 
-abbrev pub value : Scene → ℕ → List ℕ
+-- the value of the string token with an index; nothing for another token
+abbrev pub value : Scene → ℕ → Text
 value scene token = value_in scene.lexemes token
 
+-- a number, or the cap where there is one and the number is past it
 abbrev pub up_to : Option ℕ → ℕ → ℕ
 up_to None n = n
 up_to (Some cap) n = min cap n
 
 -- what the text of a number token stands for
-abbrev pub number : Scene → List ℕ → ℕ
+abbrev pub number : Scene → Text → ℕ
 number scene w = up_to scene.cap (number_of w)
 
 -- ---- what a scene says
 
--- a number token, and a number with its sign
+-- what a number token stands for
 abbrev pub number_at : Scene → ℕ → ℤ
 number_at scene token = pos (number scene (text scene token))
 
+-- what a number with its sign stands for
 abbrev pub signed_at : Scene → Signed → ℤ
 signed_at scene s = signed_by (number scene) (text scene) s
 
@@ -89,10 +98,11 @@ enum_meant scene r = option_and_then (λ m. m.enum) (meant_by scene r)
 
 -- ---- the version of a file
 
-abbrev pub is_proto3_statement : (ℕ → List ℕ) → Statement → Bool
+-- whether a statement says that the file is proto3
+abbrev pub is_proto3_statement : (ℕ → Text) → Statement → Bool
 is_proto3_statement value (statement.Syntax s) = bytes_eq (value s.text) (codes "proto3")
 is_proto3_statement value _ = false
 
--- a file without a syntax statement is proto2
-abbrev pub is_proto3 : (ℕ → List ℕ) → Tree → Bool
+-- whether a file is proto3; one without a syntax statement is proto2
+abbrev pub is_proto3 : (ℕ → Text) → Tree → Bool
 is_proto3 value tree = list_any (is_proto3_statement value) (statements tree)

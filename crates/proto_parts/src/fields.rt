@@ -16,8 +16,8 @@ pub struct OptionAt<'a> {
     pub value: &'a Constant,
 }
 
-/// A field: plain, of a oneof (by its place among the message's oneofs, from 0), or of a map (by the token of its
-/// key's type). The kind of a map field is that of its values.
+/// A field: plain, of a oneof (by its place among the message's oneofs, from 0), or of a map (by
+/// the token of its key's type). The kind of a map field is that of its values.
 #[derive(Clone, Copy)]
 pub struct FieldAt<'a> {
     pub label: Option<u32>,

@@ -22,8 +22,8 @@ fn written_or(alloc: Global, written: Option<String>, word: &str) -> Result<Stri
     }
 }
 
-/// The name of a field in JSON: the text of its option `json_name`, where it has one; else its word without each `_`,
-/// the character after one in upper case.
+/// The name of a field in JSON: the text of its option `json_name`, where it has one; else its word
+/// without each `_`, the character after one in upper case.
 pub fn json_name(alloc: Global, scene: &Scene, field: FieldAt) -> Result<String, NoMemory>
     ensures { IfOk result (λ name. string_bytes name
         ≡ json_name_of scene.now (field_of field.entry)) }

@@ -1,4 +1,5 @@
-//! The parts of a schema's tree that checks and descriptors read: fields, ranges, options, numbers, and what references mean.
+//! The parts of a schema's tree that checks and descriptors read: fields, ranges, options, numbers,
+//! and what references mean.
 #![tactic(auto)]
 
 mod enum_values;

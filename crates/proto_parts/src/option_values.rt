@@ -81,7 +81,8 @@ fn is_of_kind(scene: &Scene, kind: ValueKind, value: &Constant) -> bool
     }
 }
 
-/// Whether an element may have the option, with such a value. What may be a default, the field's type says.
+/// Whether an element may have the option, with such a value. What may be a default, the field's
+/// type says.
 pub fn is_allowed(scene: &Scene, element: Element, option: OptionAt) -> bool
     ensures { result ≡ is_allowed (text scene.now) element (option_of option.entry) }
 {

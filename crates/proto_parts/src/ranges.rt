@@ -1,6 +1,6 @@
 //! Ranges of numbers, and those that are reserved, or left to extensions.
 
-ghost use Rattle.std.specs.Prelude.{◌≡◌, ◌&&◌, ◌++◌, [], ◌∷◌, int_le, map, flat_map, IfOk, OnOk};
+ghost use Rattle.std.specs.Prelude.{◌≡◌, ◌&&◌, ◌++◌, int_le, map, flat_map, IfOk, OnOk};
 ghost use Rattle.proto_tree.specs.File.{enum_item_tree, member_tree, trees};
 ghost use Rattle.proto_parts.specs.Parts.{closed_ranges, enum_ranges, extension_ranges, extension_words, ranges_of, reserved_ranges, statements};
 

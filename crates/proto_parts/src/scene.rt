@@ -1,4 +1,5 @@
-//! What is read of a file: its texts, strings and numbers, its version, and what its references mean.
+//! What is read of a file: its texts, strings and numbers, its version, and what its references
+//! mean.
 
 ghost use Rattle.std.specs.Prelude.{◌≡◌, ◌<◌, ◌==◌, AllPairs, Some, map, find, option_map, IfOk};
 ghost use Rattle.std.specs.String.{string_bytes};
@@ -13,8 +14,8 @@ use proto_tree::{Reference, Signed};
 use std::alloc::Global;
 use std::marker::Model;
 
-/// What is read of an enum: whether its file is proto3, whether it has a first value that is not 0, and the names of
-/// its values.
+/// What is read of an enum: whether its file is proto3, whether it has a first value that is not 0,
+/// and the names of its values.
 #[derive(Clone, Copy)]
 pub struct EnumAt<'a> {
     pub is_proto3: bool,
@@ -22,7 +23,8 @@ pub struct EnumAt<'a> {
     pub values: &'a [&'a str],
 }
 
-/// What a reference means, by its first token: a full name, and the enum of that name, if it is one.
+/// What a reference means, by its first token: a full name, and the enum of that name, if it is
+/// one.
 #[derive(Clone, Copy)]
 pub struct MeantAt<'a> {
     pub token: u32,
@@ -46,7 +48,12 @@ impl<'a> Model for Scene<'a> {
 
     ghost Value = { SceneOf };
 
-    ghost view = { λ s. record { lexemes = s.words; cap = Some past; is_proto3 = s.is_proto3; means = map meant_of s.means.items } };
+    ghost view = { λ s. record {
+      lexemes = s.words;
+      cap = Some past;
+      is_proto3 = s.is_proto3;
+      means = map meant_of s.means.items;
+    } };
 
     ghost invariant = { λ s. AllPairs (λ m n. m.token < n.token) s.means.items };
 }
@@ -62,7 +69,8 @@ fn meant_at<'a>(means: &[MeantAt<'a>], token: u32) -> Option<MeantAt<'a>>
 }
 
 impl<'a> Scene<'a> {
-    /// A file by the texts of its tokens, its version, and what its references mean, in the order of their first tokens.
+    /// A file by the texts of its tokens, its version, and what its references mean, in the order
+    /// of their first tokens.
     pub fn new(words: Words<'a>, is_proto3: bool, means: Vec<MeantAt<'a>>) -> Scene<'a>
         requires rising { AllPairs (λ m n. m.token < n.token) means.items }
         ensures { result ≡ record {
