@@ -1,21 +1,26 @@
--- The flaws of a file that is linked: each is a token of the file, and the kind of the fault that stands there.
+-- The flaws of a file that is linked: each is a token of the file, and the kind of the fault that
+-- stands there.
 use Rattle.std.specs.Prelude.{◌≡◌, ℕ, Bool, false, ◌||◌, ◌&&◌, ◌==◌, nat_lt, if◌then◌else◌, List, [], ◌∷◌, ◌++◌, Option, Some, None}
 use Rattle.std.specs.List.{list_any}
 use Rattle.proto_faults.specs.declared.fault.FaultKind.{FaultKind}
 use Rattle.proto_faults.specs.FaultTable.{number_of}
 use Rattle.proto_numbers.specs.declared.flaw.Flaw.{Flaw}
 
+-- a fault of the kind, at the token
 abbrev pub flaw : FaultKind → ℕ → Flaw
 flaw kind token = record { token = token; kind = kind }
 
+-- the flaw where this holds, and none where it does not
 abbrev pub flaw_if : Bool → FaultKind → ℕ → List Flaw
 flaw_if holds kind token = if holds then flaw kind token ∷ [] else []
 
--- for each element, whether one before it is so with it
+-- for each of some elements, whether an element before it is so with it: one of those given as
+-- before all of them, or one of themselves
 abbrev pub earlier : {K : Type 0} → (K → K → Bool) → List K → List K → List Bool
 earlier so before [] = []
 earlier so before (k ∷ ks) = list_any (λ p. so p k) before ∷ earlier so (before ++ k ∷ []) ks
 
+-- for each of some elements, whether an earlier one of them is so with it
 abbrev pub after_earlier : {K : Type 0} → (K → K → Bool) → List K → List Bool
 after_earlier so keys = earlier so [] keys
 
@@ -29,7 +34,9 @@ marked kind (t ∷ ts) (b ∷ bs) = flaw_if b kind t ++ marked kind ts bs
 
 -- by token, then by number
 abbrev pub comes_before : Flaw → Flaw → Bool
-comes_before a b = nat_lt a.token b.token || (a.token == b.token && nat_lt (number_of a.kind) (number_of b.kind))
+comes_before a b =
+    nat_lt a.token b.token
+    || (a.token == b.token && nat_lt (number_of a.kind) (number_of b.kind))
 
 -- none of them holds, or this one does and no other comes before it
 abbrev pub IsLeast : (Flaw → Type 0) → Option Flaw → Type 0

@@ -18,21 +18,29 @@ use Rattle.proto_numbers.specs.Flaws.{flaw_if, after_earlier, marked}
 
 -- ---- numbers, by the first tokens that they stand at
 
+-- the number of a field, which is one token
 abbrev pub number_of_field : Scene → FieldOf → NumberAt
 number_of_field scene f = record { token = f.number; number = number_at scene f.number }
 
+-- the minus before a number, where there is one, and else the number's own token
 abbrev pub first_of : Option ℕ → ℕ → ℕ
 first_of None number = number
 first_of (Some minus) number = minus
 
+-- the first token of a number that may have a minus
 abbrev pub first_of_signed : Signed → ℕ
 first_of_signed s = first_of s.minus s.number
 
+-- the number of a value of an enum, which may have a minus
 abbrev pub number_of_value : Scene → Value → NumberAt
-number_of_value scene v = record { token = first_of_signed v.number; number = signed_at scene v.number }
+number_of_value scene v = record {
+  token = first_of_signed v.number;
+  number = signed_at scene v.number;
+}
 
 -- ---- ranges
 
+-- the number behind `to`, where `max` is the most that there is
 abbrev pub bound_of : {N : Type 0} → ℤ → (N → ℤ) → RangeEnd N → ℤ
 bound_of most number (range_end.Number n) = number n
 bound_of most number (range_end.Max i) = most
@@ -42,67 +50,87 @@ abbrev pub end_of : {N : Type 0} → ℤ → (N → ℤ) → N → Option (UpTo 
 end_of most number first None = number first
 end_of most number first (Some up_to) = bound_of most number up_to.end
 
--- `max` of a message's ranges, and of an enum's
+-- the last field number, which is `max` of a message's ranges
 abbrev pub most_field : ℤ
 most_field = pos 536870911
 
+-- the last number of a value of an enum, which is `max` of an enum's ranges
 abbrev pub most_value : ℤ
 most_value = pos 2147483647
 
+-- the first number of a value of an enum
 abbrev pub least_value : ℤ
 least_value = negsuc 2147483647
 
+-- the numbers of a range of a message, both of its bounds among them
 abbrev pub range_of : Scene → Range ℕ → RangeAt
-range_of scene r = record { token = r.first; first = number_at scene r.first; last = end_of most_field (number_at scene) r.first r.up_to }
+range_of scene r = record {
+  token = r.first;
+  first = number_at scene r.first;
+  last = end_of most_field (number_at scene) r.first r.up_to;
+}
 
+-- the same of a range of an enum
 abbrev pub enum_range_of : Scene → Range Signed → RangeAt
-enum_range_of scene r = record { token = first_of_signed r.first; first = signed_at scene r.first; last = end_of most_value (signed_at scene) r.first r.up_to }
+enum_range_of scene r = record {
+  token = first_of_signed r.first;
+  first = signed_at scene r.first;
+  last = end_of most_value (signed_at scene) r.first r.up_to;
+}
 
 -- ---- sentences
 
+-- a number is one of those from the least to the most, both among them
 abbrev pub is_within : ℤ → ℤ → ℤ → Bool
 is_within least most n = int_le least n && int_le n most
 
--- 1 to 536870911 without 19000 to 19999
+-- a number that a field may have: 1 to 536870911 without 19000 to 19999
 abbrev pub is_field_number : ℤ → Bool
 is_field_number n = is_within (pos 1) most_field n && not (is_within (pos 19000) (pos 19999) n)
 
+-- a number that a value of an enum may have: -2147483648 to 2147483647
 abbrev pub is_value_number : ℤ → Bool
 is_value_number n = is_within least_value most_value n
 
--- a number outside its limits
+-- 17 NumberRange at each number outside its limits
 abbrev pub outside : (ℤ → Bool) → List NumberAt → List Flaw
 outside limits ns = flat_map (λ n. flaw_if (not (limits n.number)) kind.NumberRange n.token) ns
 
--- a bound outside its limits, or a range that ends before it begins
+-- both bounds of a range are within the limits, and it does not end before it begins
 abbrev pub is_sound_range : ℤ → ℤ → RangeAt → Bool
-is_sound_range least most r = is_within least most r.first && (is_within least most r.last && int_le r.first r.last)
+is_sound_range least most r =
+    is_within least most r.first && (is_within least most r.last && int_le r.first r.last)
 
+-- 17 NumberRange at each range with a bound outside the limits, or that ends before it begins
 abbrev pub broken_ranges : ℤ → ℤ → List RangeAt → List Flaw
-broken_ranges least most rs = flat_map (λ r. flaw_if (not (is_sound_range least most r)) kind.NumberRange r.token) rs
+broken_ranges least most rs =
+    flat_map (λ r. flaw_if (not (is_sound_range least most r)) kind.NumberRange r.token) rs
 
--- a number inside one of the ranges
+-- a number is inside a range
 abbrev pub is_inside : ℤ → RangeAt → Bool
 is_inside n r = is_within r.first r.last n
 
+-- 19 ReservedNumber at each number inside one of the ranges
 abbrev pub reserved_numbers : List RangeAt → List NumberAt → List Flaw
-reserved_numbers rs ns = flat_map (λ n. flaw_if (list_any (is_inside n.number) rs) kind.ReservedNumber n.token) ns
+reserved_numbers rs ns =
+    flat_map (λ n. flaw_if (list_any (is_inside n.number) rs) kind.ReservedNumber n.token) ns
 
 -- two ranges share a number: neither ends before it begins, or before the other
 abbrev pub share : RangeAt → RangeAt → Bool
 share a b = int_le a.first a.last && (int_le b.first b.last && (int_le a.first b.last && int_le b.first a.last))
 
--- a range that shares a number with an earlier one
+-- 21 RangeOverlap at each range that shares a number with an earlier one
 abbrev pub overlaps : List RangeAt → List Flaw
 overlaps rs = marked kind.RangeOverlap (map (λ r. r.token) rs) (after_earlier share rs)
 
--- a number that an earlier one is
+-- for each number, whether an earlier one is equal
 abbrev pub repeated_numbers : List NumberAt → List Bool
 repeated_numbers ns = after_earlier int_eq (map (λ n. n.number) ns)
 
 -- ---- of a message
 
--- the number flaws of a message's fields and ranges
+-- what is wrong with the numbers of a message's fields, given twice also (18 DuplicateNumber), and
+-- with its ranges
 abbrev pub field_number_flaws : List RangeAt → List NumberAt → List Flaw
 field_number_flaws ranges numbers =
     outside is_field_number numbers

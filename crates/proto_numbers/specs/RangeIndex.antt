@@ -4,15 +4,16 @@ use Rattle.std.specs.List.{list_any, filter}
 use Rattle.std.specs.List.Sorted.{IsPermutation}
 use Rattle.proto_parts.specs.declared.ranges.RangeAt.{RangeAt}
 
--- it does not end before it begins
+-- a range holds a number: it does not end before it begins
 abbrev pub has_numbers : RangeAt → Bool
 has_numbers r = int_le r.first r.last
 
--- in the order of their first numbers
+-- ranges are in the order of their first numbers
 abbrev pub AreInOrder : List RangeAt → Type 0
-AreInOrder rs = (i j : ℕ) (d : RangeAt) → i ≤ j → j < length rs → int_le (get_or rs i d).first (get_or rs j d).first ≡ true
+AreInOrder rs = (i j : ℕ) (d : RangeAt) → i ≤ j → j < length rs
+    → int_le (get_or rs i d).first (get_or rs j d).first ≡ true
 
--- one of them ends at the number or past it
+-- one of the ranges ends at the number or past it
 abbrev pub reach : ℤ → List RangeAt → Bool
 reach n rs = list_any (λ r. int_le n r.last) rs
 
@@ -24,8 +25,10 @@ reaches n (Some r) = int_le n r.last
 -- the same ranges, each ending where it or one before it ends last
 pub record AreRaised (rs raised : List RangeAt) : Type 0 where
   pub len : length raised ≡ length rs
-  pub first : (k : ℕ) (d : RangeAt) → k < length rs → (get_or raised k d).first ≡ (get_or rs k d).first
-  pub last : (k : ℕ) (d : RangeAt) (n : ℤ) → k < length rs → int_le n (get_or raised k d).last ≡ reach n (take (k + 1) rs)
+  pub first : (k : ℕ) (d : RangeAt) → k < length rs
+      → (get_or raised k d).first ≡ (get_or rs k d).first
+  pub last : (k : ℕ) (d : RangeAt) (n : ℤ) → k < length rs
+      → int_le n (get_or raised k d).last ≡ reach n (take (k + 1) rs)
 
 -- an index of the ranges that have numbers
 pub record IsIndexOf (rs index : List RangeAt) : Type 0 where

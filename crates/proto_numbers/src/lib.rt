@@ -1,4 +1,5 @@
-//! Flaws of a file, and those of its numbers and ranges: outside their limits, reserved, given twice, overlapping.
+//! Flaws of a file, and those of its numbers and ranges: outside their limits, reserved, given
+//! twice, overlapping.
 #![tactic(auto)]
 
 mod flaw;

@@ -3,7 +3,7 @@
 ghost use Rattle.std.specs.Prelude.{◌≡◌, map, IfOk};
 ghost use Rattle.proto_parts.specs.Scenes.{number_at, signed_at};
 ghost use Rattle.proto_parts.specs.Views.{field_of};
-ghost use Rattle.proto_numbers.specs.NumberFlaws.{bound_of, end_of, enum_range_of, first_of_signed, most_field, most_value, number_of_field, number_of_value, range_of};
+ghost use Rattle.proto_numbers.specs.NumberFlaws.{bound_of, enum_range_of, first_of_signed, most_field, most_value, number_of_field, number_of_value, range_of};
 
 use crate::numbers::{MOST_FIELD, MOST_VALUE, NumberAt};
 use proto_faults::NoMemory;

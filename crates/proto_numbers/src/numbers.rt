@@ -4,7 +4,7 @@ ghost use Rattle.std.specs.Prelude.{◌≡◌, ◌||◌, ◌++◌, List, map, If
 ghost use Rattle.std.specs.List.{list_any};
 ghost use Rattle.proto_faults.specs.declared.fault.FaultKind.TheVariants as kind;
 ghost use Rattle.proto_numbers.specs.Flaws.{earlier, after_earlier, marked};
-ghost use Rattle.proto_numbers.specs.NumberFlaws.{is_within, is_field_number, is_value_number, is_sound_range, is_inside, most_field, most_value, least_value, outside, broken_ranges, reserved_numbers, share, overlaps, repeated_numbers, field_number_flaws};
+ghost use Rattle.proto_numbers.specs.NumberFlaws.{is_within, is_field_number, is_value_number, is_sound_range, is_inside, most_value, least_value, outside, broken_ranges, reserved_numbers, share, overlaps, repeated_numbers, field_number_flaws};
 ghost use Rattle.proto_parts.specs.declared.ranges.RangeAt.{RangeAt as RangeOf};
 ghost use Rattle.proto_numbers.specs.RangeIndex.{IsIndexOf};
 
@@ -17,9 +17,10 @@ use std::alloc::{AllocError, Global};
 /// The last field number.
 pub(crate) const MOST_FIELD: i128 = 536_870_911;
 
-/// The last number of a value of an enum, and the first.
+/// The last number of a value of an enum.
 pub const MOST_VALUE: i128 = 2_147_483_647;
 
+/// The first number of a value of an enum.
 pub const LEAST_VALUE: i128 = -2_147_483_648;
 
 /// So many ranges are compared in halves.
@@ -182,8 +183,8 @@ fn shares_again(index: &[RangeAt], range: RangeAt, is_known: bool) -> bool
     shares(index, range) || is_known
 }
 
-/// Adds, for each range, whether it shares a number with one that is indexed or with an earlier one of these; whether
-/// it does with one of these is known.
+/// Adds, for each range, whether it shares a number with one that is indexed or with an earlier one
+/// of these; whether it does with one of these is known.
 fn add_sharing(
     flags: &mut Vec<bool>,
     index: &[RangeAt],
@@ -200,8 +201,8 @@ fn add_sharing(
     Ok(())
 }
 
-/// For each range, whether it shares a number with an earlier one. The second half is looked up in an index of the
-/// first, so that many ranges take little longer than a sort.
+/// For each range, whether it shares a number with an earlier one. The second half is looked up in
+/// an index of the first, so that many ranges take little longer than a sort.
 fn sharing(alloc: Global, ranges: &[RangeAt]) -> Result<Vec<bool>, NoMemory>
     ensures { IfOk result (λ flags. flags.items ≡ after_earlier share ranges.now) }
 {

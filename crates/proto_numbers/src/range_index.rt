@@ -1,6 +1,6 @@
 //! Ranges in order, for looking up which share a number with another.
 
-ghost use Rattle.std.specs.Prelude.{◌≡◌, ℕ, ℤ, ◌<◌, ◌≤◌, ◌-◌, ◌||◌, ◌&&◌, nat_lt, int_le, true, false, List, length, get_or, IfOk};
+ghost use Rattle.std.specs.Prelude.{◌≡◌, ℤ, ◌≤◌, ◌-◌, ◌||◌, ◌&&◌, nat_lt, int_le, true, false, List, length, get_or, IfOk};
 ghost use Rattle.std.specs.List.{list_any, filter};
 ghost use Rattle.std.specs.List.Sorted.{IsPermutation, IsPartitionPoint};
 ghost use Rattle.proto_parts.specs.declared.ranges.RangeAt.{RangeAt as RangeOf};
