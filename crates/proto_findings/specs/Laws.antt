@@ -7,4 +7,5 @@ use Rattle.proto_findings.specs.Rules.{identifier, number}
 
 -- The order of rules is that of the bytes of their identifiers.
 abbrev pub IdentifiersRise : Type 0
-IdentifiersRise = (r s : Rule) → nat_cmp (number r) (number s) ≡ slice_cmp nat_cmp (identifier r) (identifier s)
+IdentifiersRise = (r s : Rule)
+    → nat_cmp (number r) (number s) ≡ slice_cmp nat_cmp (identifier r) (identifier s)

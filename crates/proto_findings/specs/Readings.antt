@@ -1,6 +1,7 @@
 -- What the rules read of a file.
 use Rattle.std.specs.Prelude.{ℕ, ◌==◌, List, [], map, find, get_or, Option, Some, None}
 use Rattle.std.specs.Option.{option_and_then}
+use Rattle.proto_faults.specs.Texts.{Text}
 use Rattle.proto_text.specs.declared.lexer.Token.{Token}
 use Rattle.proto_text.specs.Texts.{word_at}
 use Rattle.proto_text.specs.Tokens.{Lexeme, lexeme_at}
@@ -13,29 +14,32 @@ use Rattle.proto_names.specs.LinkOfFiles.{TextMeant, meant_by_link, meant_by_use
 use Rattle.proto_names.specs.FileReferences.{uses_of}
 use Rattle.proto_findings.specs.declared.reading.Reading.{Reading as Read}
 
--- its tokens, these with their texts, and what its references mean
+-- a file as the rules read it: its tokens, these with their texts, and what its references mean
 pub record Reading : Type 0 where
   pub tokens : List Token
   pub lexemes : List Lexeme
   pub means : List TextMeant
 
-abbrev pub text : Reading → ℕ → List ℕ
+-- the text of a token by its index, and nothing where there is none
+abbrev pub text : Reading → ℕ → Text
 text r token = word_at r.lexemes token
 
-abbrev pub or_nothing : Option (List ℕ) → List ℕ
+-- a name, and nothing where there is none
+abbrev pub or_nothing : Option Text → Text
 or_nothing None = []
 or_nothing (Some name) = name
 
--- the full name that the reference with this first token means
-abbrev pub meant : Reading → ℕ → List ℕ
+-- the full name that the reference with this first token means, and nothing where it means none
+abbrev pub meant : Reading → ℕ → Text
 meant r token = or_nothing (option_and_then (λ m. m.text) (find (λ m. m.token == token) r.means))
 
 -- the words of a file's package, none without one
-abbrev pub package_words : Reading → Tree → List (List ℕ)
+abbrev pub package_words : Reading → Tree → List Text
 package_words r tree = map (text r) (package_of (items_in tree))
 
 -- ---- what is read of the files
 
+-- what is read of a file, by its number
 abbrev pub read_of_file : List FileOf → List ReadOf → ℕ → Reading
 read_of_file files reads file = record {
   tokens = (read_at reads file).tokens;
@@ -45,5 +49,10 @@ read_of_file files reads file = record {
 
 -- ---- the same in code
 
+-- what a reading of the code says of its file
 abbrev pub reading_of : Read → Reading
-reading_of r = record { tokens = r.tokens.now; lexemes = r.words; means = map (meant_by_link r.link.now) (get_or r.link.now.meant r.file []) }
+reading_of r = record {
+  tokens = r.tokens.now;
+  lexemes = r.words;
+  means = map (meant_by_link r.link.now) (get_or r.link.now.meant r.file []);
+}

@@ -1,9 +1,11 @@
 -- The rules, by their identifiers.
 use Rattle.std.specs.Prelude.{ℕ, Bool, false, List, codes, slice_index_or}
+use Rattle.proto_faults.specs.Texts.{Text}
 use Rattle.proto_findings.specs.declared.rule.Rule.{Rule}
 use Rattle.proto_findings.specs.declared.rule.Rule.TheVariants as rule
 
-abbrev pub identifier : Rule → List ℕ
+-- the identifier of a rule, by which it is chosen and printed
+abbrev pub identifier : Rule → Text
 identifier rule.DirectorySamePackage = codes "DIRECTORY_SAME_PACKAGE"
 identifier rule.EnumFirstValueZero = codes "ENUM_FIRST_VALUE_ZERO"
 identifier rule.EnumNoAllowAlias = codes "ENUM_NO_ALLOW_ALIAS"
@@ -32,7 +34,7 @@ identifier rule.ServicePascalCase = codes "SERVICE_PASCAL_CASE"
 identifier rule.ServiceSuffix = codes "SERVICE_SUFFIX"
 identifier rule.SyntaxSpecified = codes "SYNTAX_SPECIFIED"
 
--- their order, which is that of their identifiers
+-- the number of a rule in the order of identifiers
 abbrev pub number : Rule → ℕ
 number rule.DirectorySamePackage = 0
 number rule.EnumFirstValueZero = 1
@@ -64,5 +66,6 @@ number rule.SyntaxSpecified = 26
 
 -- ---- sets of rules, as a mark for each
 
+-- a rule is in the set
 abbrev pub is_chosen : List Bool → Rule → Bool
 is_chosen marks r = slice_index_or marks (number r) false

@@ -5,8 +5,15 @@ use Rattle.proto_findings.specs.declared.found.Found.{Found as FoundAt}
 use Rattle.proto_findings.specs.Listings.{FindingOf}
 use Rattle.proto_findings.specs.Placed.{Found}
 
+-- what a finding of one file says
 abbrev pub found_of : FoundAt → Found
 found_of f = record { offset = f.offset; rule = f.rule; name = string_bytes f.name }
 
+-- what a finding of a workspace says
 abbrev pub finding_of : Finding → FindingOf
-finding_of f = record { path = string_bytes f.path; offset = f.offset; rule = f.rule; name = string_bytes f.name }
+finding_of f = record {
+  path = string_bytes f.path;
+  offset = f.offset;
+  rule = f.rule;
+  name = string_bytes f.name;
+}

@@ -6,7 +6,8 @@ ghost use Rattle.proto_findings.specs.Views.{finding_of};
 
 use crate::rule::Rule;
 
-/// What a rule found: the path of the file, the offset in bytes from 0, the rule, and the name that is printed.
+/// What a rule found: the path of the file, the offset in bytes from 0, the rule, and the name that
+/// is printed.
 #[derive(PartialEq, Eq, PartialOrd, Ord, Drop)]
 pub struct Finding {
     pub path: String,

@@ -1,6 +1,6 @@
 //! What rules find in one file.
 
-ghost use Rattle.std.specs.Prelude.{◌≡◌, ◌++◌, map, IfOk, OnOk};
+ghost use Rattle.std.specs.Prelude.{◌≡◌, ◌++◌, map, IfOk, OnErr, OnOk};
 ghost use Rattle.std.specs.String.{string_bytes};
 ghost use Rattle.proto_findings.specs.Placed.{below, found_at, unless};
 ghost use Rattle.proto_findings.specs.Readings.{reading_of, text};
@@ -19,7 +19,8 @@ pub struct Found {
     pub name: String,
 }
 
-/// A name right below another, or outermost where that is empty. Only want of memory is refused, here and below.
+/// A name right below another, or outermost where that is empty. Only want of memory is refused,
+/// here and below.
 pub fn below(alloc: Global, scope: &str, word: &str) -> Result<String, NoMemory>
     ensures { IfOk result (λ s. string_bytes s ≡ below scope.now word.now) }
 {
@@ -31,7 +32,7 @@ pub fn below(alloc: Global, scope: &str, word: &str) -> Result<String, NoMemory>
     Ok(name)
 }
 
-/// Adds a name at a token, unless it passes.
+/// Adds a name at a token, unless it passes. After want of memory nothing is added.
 pub fn add_unless(
     alloc: Global,
     found: &mut Vec<Found>,
@@ -41,8 +42,9 @@ pub fn add_unless(
     token: u32,
     name: &str,
 ) -> Result<(), NoMemory>
-    ensures { OnOk result (map found_of found.new.items ≡ map found_of found.old.items
+    ensures added { OnOk result (map found_of found.new.items ≡ map found_of found.old.items
         ++ map (found_at (reading_of reading.now) rule) (unless passes token name.now)) }
+    ensures unchanged { OnErr result (found.new.items ≡ found.old.items) }
 {
     if !passes {
         let offset = reading.offset(token);
@@ -52,7 +54,8 @@ pub fn add_unless(
     Ok(())
 }
 
-/// Adds a name that stands right in a scope, at its own token, unless it passes.
+/// Adds a name that stands right in a scope, at its own token, unless it passes. After want of
+/// memory nothing is added.
 pub fn add_below_unless(
     alloc: Global,
     found: &mut Vec<Found>,
@@ -62,9 +65,10 @@ pub fn add_below_unless(
     scope: &str,
     token: u32,
 ) -> Result<(), NoMemory>
-    ensures { OnOk result (map found_of found.new.items ≡ map found_of found.old.items ++ map
+    ensures added { OnOk result (map found_of found.new.items ≡ map found_of found.old.items ++ map
         (found_at (reading_of reading.now) rule)
         (unless passes token (below scope.now (text (reading_of reading.now) token)))) }
+    ensures unchanged { OnErr result (found.new.items ≡ found.old.items) }
 {
     if !passes {
         let offset = reading.offset(token);

@@ -2,7 +2,6 @@
 
 ghost use Rattle.std.specs.Prelude.{◌≡◌, ◌<◌, List, length};
 ghost use Rattle.proto_text.specs.Texts.{offset_at};
-ghost use Rattle.proto_tree.specs.declared.tree.Reference.{Reference};
 ghost use Rattle.proto_tree.specs.References.{first_of};
 ghost use Rattle.proto_files.specs.FilesRead.{AreRead, ReadOf};
 ghost use Rattle.proto_names.specs.LinkOfFiles.{IsLinkOf};
@@ -13,7 +12,8 @@ use proto_names::Link;
 use proto_text::Token;
 use proto_tree::Reference;
 
-/// A file as the rules read it: its tokens, their texts, and what its references mean; with its number in the workspace.
+/// A file as the rules read it: its tokens, their texts, and what its references mean; with its
+/// number in the workspace.
 #[derive(Drop)]
 pub struct Reading<'a> {
     tokens: &'a [Token],

@@ -31,7 +31,8 @@ impl RuleSet {
         }
     }
 
-    /// Adds a rule to the set, where it may be already; the others stay as they were. Takes no memory.
+    /// Adds a rule to the set, where it may be already; the others stay as they were. Takes no
+    /// memory.
     pub fn insert(&mut self, rule: Rule)
         ensures chosen { is_chosen self.new.chosen rule ≡ true }
         ensures others { (other : Rule) → other ≢ rule

@@ -20,7 +20,7 @@ returns-in-Value c =
     let v = c.in-Value.value in
     let told : Bool → List Found = λ passes. map (found_at r rule.EnumFirstValueZero) (unless passes v.name (below c.args.scope.now (text r v.name))) in
     let new = map found_of c.add_below_unless.new.found.items in
-    let same = subst (λ (fs : List FoundAt). OnOk c.add_below_unless.result (new ≡ map found_of fs ++ told c.is_zero-passes.result)) c.loop-item.invariant.same c.add_below_unless.ensures in
+    let same = subst (λ (fs : List FoundAt). OnOk c.add_below_unless.result (new ≡ map found_of fs ++ told c.is_zero-passes.result)) c.loop-item.invariant.same c.add_below_unless.ensures.added in
     subst (λ (fs : List Found). OnOk c.add_below_unless.result (new ≡ map found_of c.args.found.now.items ++ fs)) found
     (subst (λ (passes : Bool). OnOk c.add_below_unless.result (new ≡ map found_of c.args.found.now.items ++ told passes)) c.is_zero-passes.ensures same)
 
