@@ -10,4 +10,6 @@ use Rattle.proto_checks.specs.FileFlaws.{file_flaws}
 
 -- the least flaw is the same with the cap and without it
 abbrev pub CapsKeepTheLeast : Type 0
-CapsKeepTheLeast = (scene : Scene) (tree : Tree) (r : Option Flaw) → scene.cap ≡ Some past → IsLeast (Contains (file_flaws scene tree)) r → IsLeast (Contains (file_flaws (uncapped scene) tree)) r
+CapsKeepTheLeast = (scene : Scene) (tree : Tree) (r : Option Flaw) → scene.cap ≡ Some past
+    → IsLeast (Contains (file_flaws scene tree)) r
+    → IsLeast (Contains (file_flaws (uncapped scene) tree)) r

@@ -8,7 +8,7 @@ ghost use Rattle.proto_parts.specs.Parts.{enum_ranges, options_in, reserved_name
 ghost use Rattle.proto_parts.specs.Scenes.{text};
 ghost use Rattle.proto_parts.specs.Views.{option_of};
 ghost use Rattle.proto_parts.specs.declared.options.Element.TheVariants as element;
-ghost use Rattle.proto_numbers.specs.Flaws.{flaw_if, marked};
+ghost use Rattle.proto_numbers.specs.Flaws.{marked};
 ghost use Rattle.proto_checks.specs.FieldFlaws.{option_flaws};
 ghost use Rattle.proto_numbers.specs.NumberFlaws.{enum_range_of, number_of_value, repeated_numbers};
 ghost use Rattle.proto_checks.specs.FileFlaws.{allows_alias, enum_flaws, first_value_flaws, is_true, name_flaws, value_number_flaws, value_option_flaws};
@@ -47,7 +47,8 @@ fn add_first_value(
 }
 
 fn is_alias_option(scene: &Scene, option: OptionAt) -> bool
-    ensures { result ≡ (is_named (text scene.now) (codes "allow_alias") (option_of option.entry) && is_true (truth_of (text scene.now) option.entry.value.now)) }
+    ensures { result ≡ (is_named (text scene.now) (codes "allow_alias") (option_of option.entry)
+        && is_true (truth_of (text scene.now) option.entry.value.now)) }
 {
     scene.text(option.name) == "allow_alias" && truth(scene, option.value) == Some(true)
 }

@@ -1,10 +1,7 @@
 //! What is wrong with one field: its label, its type, its options and its default.
 
 ghost use Rattle.std.specs.Prelude.{◌≡◌, ◌++◌, map, option_map, OnOk};
-ghost use Rattle.proto_faults.specs.declared.fault.FaultKind.TheVariants as kind;
 ghost use Rattle.proto_parts.specs.Views.{enum_of, field_of, option_of};
-ghost use Rattle.proto_numbers.specs.Flaws.{flaw_if};
-ghost use Rattle.proto_parts.specs.Labels.{has_label};
 ghost use Rattle.proto_checks.specs.FieldFlaws.{type_token, enum_of_type, lacks_label, required_flaws, map_key_flaws, starts_wrong, has_closed_enum, is_unpackable, is_packable_type, may_be_packed, packed_flaws, type_flaws, field_flaws};
 
 use crate::defaults::{add_default_flaws, add_proto3_defaults};

@@ -1,10 +1,7 @@
 //! What is wrong with a file, block by block.
 
 ghost use Rattle.std.specs.Prelude.{◌≡◌, ◌++◌, IfOk, OnOk};
-ghost use Rattle.proto_tree.specs.File.{enum_tree, field_tree, item_tree, member_tree, message_tree, method_tree, oneof_tree, service_item_tree, service_tree, tree_of_file, trees};
-ghost use Rattle.proto_parts.specs.Parts.{options_in};
-ghost use Rattle.proto_parts.specs.declared.options.Element.TheVariants as element;
-ghost use Rattle.proto_checks.specs.FieldFlaws.{option_flaws};
+ghost use Rattle.proto_tree.specs.File.{enum_tree, item_tree, member_tree, message_tree, method_tree, oneof_tree, service_item_tree, service_tree, tree_of_file, trees};
 ghost use Rattle.proto_checks.specs.FileFlaws.{file_flaws, flaws_in_blocks};
 
 use crate::enums::add_enum_flaws;
@@ -188,7 +185,8 @@ fn add_items(
     Ok(())
 }
 
-/// What is wrong with a file that is linked, each by its token: first its options, then block by block.
+/// What is wrong with a file that is linked, each by its token: first its options, then block by
+/// block. Only want of memory is refused.
 pub fn file_flaws(alloc: Global, scene: &Scene, file: &File) -> Result<Vec<Flaw>, NoMemory>
     ensures { IfOk result (λ found. found.items ≡ file_flaws scene.now (tree_of_file file.now)) }
 {

@@ -12,5 +12,4 @@ mod names;
 mod options;
 
 pub use file::file_flaws;
-pub use proto_numbers::{Flaw, NumberAt, RangeAt, field_ranges, least, value_ranges};
-pub use proto_parts::{is_allowed, json_name, option_named, text_value, truth, word};
+pub use proto_numbers::{Flaw, least};

@@ -89,7 +89,8 @@ fn add_repeated_names(
     add_marked(found, FaultKind::ReservedName, tokens, &flags)
 }
 
-/// Adds the names that are reserved, by their tokens, and the reserved names that were given before.
+/// Adds the names that are reserved, by their tokens, and the reserved names that were given
+/// before.
 pub(crate) fn add_name_flaws(
     alloc: Global,
     found: &mut Vec<Flaw>,

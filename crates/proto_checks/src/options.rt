@@ -44,7 +44,8 @@ fn add_repeated(
     add_marked(found, FaultKind::BadOption, &tokens, &flags)
 }
 
-/// Adds the options that the element may not have, or not with such a value, and those that were given before.
+/// Adds the options that the element may not have, or not with such a value, and those that were
+/// given before.
 pub(crate) fn add_option_flaws(
     alloc: Global,
     found: &mut Vec<Flaw>,
