@@ -1,5 +1,6 @@
 -- The blocks of a file, each with the full name of what it stands in.
-use Rattle.std.specs.Prelude.{ℕ, List, [], ◌∷◌, ◌++◌}
+use Rattle.std.specs.Prelude.{List, [], ◌∷◌, ◌++◌}
+use Rattle.proto_faults.specs.Texts.{Text}
 use Rattle.proto_tree.specs.declared.piece.Header.{Header}
 use Rattle.proto_tree.specs.declared.piece.Header.TheVariants as header
 use Rattle.proto_tree.specs.Tree.{Tree, End, Leaf, Block}
@@ -9,12 +10,12 @@ use Rattle.proto_findings.specs.Placed.{below}
 
 -- a block in a scope: a full name, empty for none
 pub record Scoped : Type 0 where
-  pub scope : List ℕ
+  pub scope : Text
   pub header : Header
   pub within : Tree
 
 -- the scope in a block (what stands in an enum or in a oneof is declared beside it)
-abbrev pub scope_within : Reading → List ℕ → Header → List ℕ
+abbrev pub scope_within : Reading → Text → Header → Text
 scope_within r scope (header.Message h) = below scope (text r h.name)
 scope_within r scope (header.Service h) = below scope (text r h.name)
 scope_within r scope (header.Oneof h) = scope
@@ -22,11 +23,13 @@ scope_within r scope (header.Enum h) = scope
 scope_within r scope (header.Method s) = scope
 
 -- the blocks of a tree, each before those in it
-abbrev pub blocks_in : Reading → List ℕ → Tree → List Scoped
+abbrev pub blocks_in : Reading → Text → Tree → List Scoped
 blocks_in r scope End = []
 blocks_in r scope (Leaf s rest) = blocks_in r scope rest
-blocks_in r scope (Block h opens within closes rest) = record { scope = scope; header = h; within = within } ∷ (blocks_in r (scope_within r scope h) within ++ blocks_in r scope rest)
+blocks_in r scope (Block h opens within closes rest) =
+    record { scope = scope; header = h; within = within }
+    ∷ (blocks_in r (scope_within r scope h) within ++ blocks_in r scope rest)
 
--- the blocks of a file
+-- the blocks of a file, whose scope is its package
 abbrev pub file_blocks : Reading → Tree → List Scoped
 file_blocks r tree = blocks_in r (joined (package_words r tree)) tree

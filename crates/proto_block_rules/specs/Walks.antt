@@ -1,5 +1,7 @@
--- What the walk through a file's blocks finds, and the messages of methods where services stand outermost.
-use Rattle.std.specs.Prelude.{ℕ, List, [], ◌++◌}
+-- What the walk through a file's blocks finds, and the messages of methods where services stand
+-- outermost.
+use Rattle.std.specs.Prelude.{List, [], ◌++◌}
+use Rattle.proto_faults.specs.Texts.{Text}
 use Rattle.proto_tree.specs.Tree.{Tree, End, Leaf, Block}
 use Rattle.proto_findings.specs.Placed.{Found}
 use Rattle.proto_findings.specs.Readings.{Reading, reading_of}
@@ -7,12 +9,15 @@ use Rattle.proto_block_rules.specs.declared.walk.Walk.{Walk}
 use Rattle.proto_block_rules.specs.Blocks.{blocks_in}
 use Rattle.proto_block_rules.specs.BlockFinds.{block_messages, blocks_finds}
 
--- in the blocks of a tree, in a scope
-abbrev pub walk_finds : Walk → List ℕ → Tree → List Found
-walk_finds w scope tree = blocks_finds w.rules.now.chosen (reading_of w.reading.now) w.messages.now (blocks_in (reading_of w.reading.now) scope tree)
+-- what a walk finds in the blocks of a tree, in a scope
+abbrev pub walk_finds : Walk → Text → Tree → List Found
+walk_finds w scope tree =
+    blocks_finds w.rules.now.chosen (reading_of w.reading.now) w.messages.now
+    (blocks_in (reading_of w.reading.now) scope tree)
 
 -- the messages of the methods of services that stand right in a file
-abbrev pub outer_messages : Reading → Tree → List (List ℕ)
+abbrev pub outer_messages : Reading → Tree → List Text
 outer_messages r End = []
 outer_messages r (Leaf s rest) = outer_messages r rest
-outer_messages r (Block h opens within closes rest) = block_messages r h within ++ outer_messages r rest
+outer_messages r (Block h opens within closes rest) =
+    block_messages r h within ++ outer_messages r rest

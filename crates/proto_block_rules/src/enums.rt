@@ -9,7 +9,7 @@ ghost use Rattle.proto_parts.specs.Options.{truth_of};
 ghost use Rattle.proto_parts.specs.Parts.{statements, values_in};
 ghost use Rattle.proto_case.specs.Cases.{is_upper_snake};
 ghost use Rattle.proto_findings.specs.declared.rule.Rule.TheVariants as rule;
-ghost use Rattle.proto_findings.specs.Placed.{below, found_at, found_by, unless_word};
+ghost use Rattle.proto_findings.specs.Placed.{found_at, found_by, unless_word};
 ghost use Rattle.proto_findings.specs.Readings.{reading_of, text};
 ghost use Rattle.proto_findings.specs.Views.{found_of};
 ghost use Rattle.proto_block_rules.specs.NameRules.{allowed_alias, enum_finds, enum_first_value_zero, enum_no_allow_alias, enum_pascal_case, enum_value_prefix, enum_value_upper_snake_case, enum_zero_value_suffix, is_true, is_zero, value_prefix};
@@ -48,15 +48,8 @@ fn add_first_value(
     for item in items {
         if let EnumItem::Value(value) = item {
             let passes = is_zero(reading, value);
-            return add_below_unless(
-                alloc,
-                found,
-                reading,
-                Rule::EnumFirstValueZero,
-                passes,
-                scope,
-                value.name,
-            );
+            let rule = Rule::EnumFirstValueZero;
+            return add_below_unless(alloc, found, reading, rule, passes, scope, value.name);
         }
     }
     Ok(())
@@ -75,7 +68,11 @@ fn add_zero_suffix(
     scope: &str,
     item: &EnumItem,
 ) -> Result<(), NoMemory>
-    ensures { OnOk result (map found_of found.new.items ≡ map found_of found.old.items ++ map (found_at (reading_of reading.now) rule.EnumZeroValueSuffix) (flat_map (λ v. unless_word (reading_of reading.now) (λ w. not (is_zero (reading_of reading.now) v) || ends_with nat_eq w (codes "_UNSPECIFIED")) scope.now v.name) (values_in (enum_item_tree item.now)))) }
+    ensures { OnOk result (map found_of found.new.items ≡ map found_of found.old.items ++ map
+        (found_at (reading_of reading.now) rule.EnumZeroValueSuffix)
+        (flat_map (λ v. unless_word (reading_of reading.now)
+        (λ w. not (is_zero (reading_of reading.now) v) || ends_with nat_eq w (codes "_UNSPECIFIED"))
+        scope.now v.name) (values_in (enum_item_tree item.now)))) }
 {
     match item {
         EnumItem::Value(value) => {
@@ -266,7 +263,9 @@ fn is_true(reading: &Reading, value: &Constant) -> bool
 }
 
 fn allows_alias(reading: &Reading, option: &Option_) -> bool
-    ensures { result ≡ (bytes_eq (text (reading_of reading.now) option.now.name) (codes "allow_alias") && is_true (truth_of (text (reading_of reading.now)) option.now.value)) }
+    ensures { result ≡ (bytes_eq (text (reading_of reading.now) option.now.name)
+        (codes "allow_alias") && is_true (truth_of (text (reading_of reading.now))
+        option.now.value)) }
 {
     reading.text(option.name) == "allow_alias" && is_true(reading, &option.value)
 }

@@ -1,4 +1,5 @@
-//! The lint rules of blocks: names of messages, fields, oneofs, enums, values and services, and methods.
+//! The lint rules of blocks: names of messages, fields, oneofs, enums, values and services, and
+//! methods.
 #![tactic(auto)]
 
 mod enums;

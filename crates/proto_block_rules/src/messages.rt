@@ -51,16 +51,9 @@ fn add_each_field(
         (map field_of fields.now))) }
 {
     for field in fields {
+        let rule = Rule::FieldLowerSnakeCase;
         let passes = is_lower_snake(reading.text(field.name));
-        add_below_unless(
-            alloc,
-            found,
-            reading,
-            Rule::FieldLowerSnakeCase,
-            passes,
-            message,
-            field.name,
-        )?;
+        add_below_unless(alloc, found, reading, rule, passes, message, field.name)?;
     }
     Ok(())
 }

@@ -44,8 +44,8 @@ fn add_file_messages<'a>(
     Ok(())
 }
 
-/// The full names of the inputs and outputs of all methods, in order; empty where a reference means none. Only want of memory
-/// is refused.
+/// The full names of the inputs and outputs of all methods, in order; empty where a reference means
+/// none. Only want of memory is refused.
 pub fn all_messages<'a>(
     alloc: Global,
     files: &'a Files,

@@ -210,7 +210,8 @@ fn add_shared(
 
 // ---- all of them
 
-/// Adds what the rules find at a method of a service, where these are the messages of all methods of the workspace.
+/// Adds what the rules find at a method of a service, where these are the messages of all methods
+/// of the workspace.
 pub(crate) fn add_method(
     alloc: Global,
     found: &mut Vec<Found>,

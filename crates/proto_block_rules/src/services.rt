@@ -142,8 +142,8 @@ fn add_methods(
     )
 }
 
-/// Adds what the rules find at a service in a scope: its name, and its methods, where these are the messages of all
-/// methods of the workspace.
+/// Adds what the rules find at a service in a scope: its name, and its methods, where these are the
+/// messages of all methods of the workspace.
 pub(crate) fn add_service(
     alloc: Global,
     found: &mut Vec<Found>,

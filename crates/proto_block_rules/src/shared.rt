@@ -1,8 +1,8 @@
 //! The messages of methods, and which of them stand more than once.
 
-ghost use Rattle.std.specs.Prelude.{◌≡◌, [], ◌∷◌, ◌++◌, map, IfOk, OnOk};
+ghost use Rattle.std.specs.Prelude.{◌≡◌, ℕ, List, [], ◌∷◌, ◌++◌, map, IfOk, OnOk};
 ghost use Rattle.std.specs.Cmp.Lexicographic.{slice_cmp};
-ghost use Rattle.std.specs.List.Sorted.{IsSortedBy};
+ghost use Rattle.std.specs.List.Sorted.{IsPermutation, IsSortedBy};
 ghost use Rattle.std.specs.Ordering.{is_lt, nat_cmp};
 ghost use Rattle.proto_tree.specs.File.{service_item_tree, trees};
 ghost use Rattle.proto_findings.specs.Readings.{reading_of};
@@ -22,16 +22,12 @@ pub struct Messages<'a> {
 }
 
 impl<'a> Model for Messages<'a> {
-    ghost use Rattle.std.specs.Prelude.{ℕ, List, map};
-    ghost use Rattle.std.specs.List.Sorted.{IsPermutation, IsSortedBy};
-    ghost use Rattle.std.specs.Ordering.{is_lt, nat_cmp};
-    ghost use Rattle.std.specs.Cmp.Lexicographic.{slice_cmp};
-
     ghost Value = { List (List ℕ) };
 
     ghost view = { λ m. map (λ s. s.now) m.all.items };
 
-    ghost invariant = { λ m. IsPermutation m.all.items m.sorted.items × IsSortedBy (λ s t. is_lt (slice_cmp nat_cmp s.now t.now)) m.sorted.items };
+    ghost invariant = { λ m. IsPermutation m.all.items m.sorted.items
+        × IsSortedBy (λ s t. is_lt (slice_cmp nat_cmp s.now t.now)) m.sorted.items };
 }
 
 // Whether a name stands more than once among names that rise.

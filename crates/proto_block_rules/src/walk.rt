@@ -18,7 +18,8 @@ use proto_findings::{Found, Reading, RuleSet, below};
 use proto_tree::{File, Item, Member, Message};
 use std::alloc::Global;
 
-/// What a file is walked with: the rules, the file as they read it, and the messages of all methods of the workspace.
+/// What a file is walked with: the rules, the file as they read it, and the messages of all methods
+/// of the workspace.
 #[derive(Clone, Copy)]
 pub struct Walk<'a> {
     pub rules: &'a RuleSet,
@@ -106,8 +107,8 @@ fn add_item(
     }
 }
 
-/// Adds what the rules find at the blocks of a file, each before those in it. The scope is the package, empty for none.
-/// Only want of memory is refused.
+/// Adds what the rules find at the blocks of a file, each before those in it. The scope is the
+/// package, empty for none. Only want of memory is refused.
 pub fn add_blocks(
     alloc: Global,
     found: &mut Vec<Found>,
