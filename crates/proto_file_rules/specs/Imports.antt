@@ -1,6 +1,7 @@
 -- The rules of imports.
 use Rattle.std.specs.Prelude.{ℕ, Bool, false, not, ◌||◌, ◌&&◌, ◌==◌, List, [], ◌∷◌, ◌++◌, flat_map, Option, Some, None, is_some}
 use Rattle.std.specs.List.{list_any}
+use Rattle.proto_faults.specs.Texts.{Path, Text}
 use Rattle.proto_text.specs.Values.{value_of}
 use Rattle.proto_tree.specs.declared.tree.Import.{Import}
 use Rattle.proto_tree.specs.declared.piece.Statement.{Statement}
@@ -14,6 +15,7 @@ use Rattle.proto_findings.specs.declared.rule.Rule.TheVariants as rule
 use Rattle.proto_findings.specs.Placed.{Found, Named, found_by, unless}
 use Rattle.proto_findings.specs.Readings.{Reading, text}
 
+-- the import that a statement is
 abbrev pub statement_imports : Statement → List Import
 statement_imports (statement.Import i) = i ∷ []
 statement_imports _ = []
@@ -23,39 +25,46 @@ abbrev pub imports_in : Tree → List Import
 imports_in tree = flat_map statement_imports (statements tree)
 
 -- the path that an import names
-abbrev pub path_of : Reading → Import → List ℕ
+abbrev pub path_of : Reading → Import → Path
 path_of r i = value_or_none (value_of (text r i.path))
 
--- an import at its word `import`, with the path that it names
+-- an import at its word `import`, with the path that it names, unless it passes
 abbrev pub import_unless : Reading → Bool → Import → List Named
 import_unless r passes i = unless passes i.keyword (path_of r i)
 
+-- IMPORT_NO_PUBLIC: a public import
 abbrev pub import_no_public : Reading → Import → List Named
 import_no_public r i = import_unless r (not (is_some i.public)) i
 
 -- ---- imports that are used
 
--- a symbol of this name is declared in a file that is reached from another by public imports
-abbrev pub is_reached : Workspace → ℕ → Option (List (List ℕ)) → Bool
+-- a symbol of this name is declared in a file, or in one that is reached from it by public imports
+abbrev pub is_reached : Workspace → ℕ → Option (List Text) → Bool
 is_reached w to None = false
-is_reached w to (Some name) = list_any (λ s. same_name s.name name && reaches w.imports w.files to s.file) w.symbols
+is_reached w to (Some name) =
+    list_any (λ s. same_name s.name name && reaches w.imports w.files to s.file) w.symbols
 
--- some reference of the file means such a symbol
+-- some reference of a file means a symbol of another, or of one that is reached from that
 abbrev pub is_used : Workspace → ℕ → Option ℕ → Bool
 is_used w file None = false
-is_used w file (Some to) = list_any (λ u. u.file == file && is_reached w to (meaning w u)) w.references
+is_used w file (Some to) =
+    list_any (λ u. u.file == file && is_reached w to (meaning w u)) w.references
 
--- a public import is for others, and needs no use
-abbrev pub import_used : Workspace → List (List ℕ) → Reading → ℕ → Import → List Named
-import_used w paths r file i = import_unless r (is_some i.public || is_used w file (file_of paths (path_of r i))) i
+-- IMPORT_USED: an import that is not public, where no reference of the file means a symbol of the
+-- imported file or of one that is reached from it (a public import is for others, and needs no use)
+abbrev pub import_used : Workspace → List Path → Reading → ℕ → Import → List Named
+import_used w paths r file i =
+    import_unless r (is_some i.public || is_used w file (file_of paths (path_of r i))) i
 
 -- ---- what they find
 
--- of an import of this file, in this workspace with these paths
-abbrev pub import_finds : List Bool → Workspace → List (List ℕ) → Reading → ℕ → Import → List Found
+-- what the rules find at an import of a file, by its number, in a workspace with these paths
+abbrev pub import_finds : List Bool → Workspace → List Path → Reading → ℕ → Import → List Found
 import_finds rules w paths r file i =
     found_by rules r rule.ImportNoPublic (import_no_public r i)
     ++ found_by rules r rule.ImportUsed (import_used w paths r file i)
 
-abbrev pub imports_finds : List Bool → Workspace → List (List ℕ) → Reading → ℕ → Tree → List Found
-imports_finds rules w paths r file tree = flat_map (import_finds rules w paths r file) (imports_in tree)
+-- what the rules find at the imports of a file
+abbrev pub imports_finds : List Bool → Workspace → List Path → Reading → ℕ → Tree → List Found
+imports_finds rules w paths r file tree =
+    flat_map (import_finds rules w paths r file) (imports_in tree)

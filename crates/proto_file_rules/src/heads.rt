@@ -21,8 +21,8 @@ use proto_text::Token;
 use std::alloc::Global;
 use std::marker::Model;
 
-/// What is read of a file: its path, the words of its package (none without one), where the package's name begins (0
-/// without), and whether it has a syntax statement.
+/// What is read of a file: its path, the words of its package (none without one), where the
+/// package's name begins (0 without), and whether it has a syntax statement.
 #[derive(Drop)]
 pub struct FileHead<'a> {
     path: &'a str,
@@ -42,12 +42,19 @@ impl<'a> Model for FileHead<'a> {
 
     ghost Value = { Head };
 
-    ghost view = { λ h. record { path = h.path.now; words = map (λ w. w.now) h.words.items; offset = h.offset; has_syntax = h.has_syntax } };
+    ghost view = { λ h. record {
+      path = h.path.now;
+      words = map (λ w. w.now) h.words.items;
+      offset = h.offset;
+      has_syntax = h.has_syntax;
+    } };
 
-    ghost invariant = { λ h. (string_bytes h.name ≡ joined (map (λ w. w.now) h.words.items)) × IsProtoPath h.path.now };
+    ghost invariant = { λ h. (string_bytes h.name ≡ joined (map (λ w. w.now) h.words.items))
+        × IsProtoPath h.path.now };
 }
 
-/// The heads of all files of a workspace, in their order, with the places of the first file of each directory and of each package.
+/// The heads of all files of a workspace, in their order, with the places of the first file of each
+/// directory and of each package.
 #[derive(Drop)]
 pub struct Heads<'a> {
     heads: Vec<FileHead<'a>>,
@@ -64,7 +71,8 @@ impl<'a> Model for Heads<'a> {
 
     ghost view = { λ h. h.heads.items };
 
-    ghost invariant = { λ h. IsFileIndex h.directories (map directory h.heads.items) × IsFileIndex h.packages (map package_name h.heads.items) };
+    ghost invariant = { λ h. IsFileIndex h.directories (map directory h.heads.items)
+        × IsFileIndex h.packages (map package_name h.heads.items) };
 }
 
 // ---- parts of paths and names
@@ -90,6 +98,7 @@ fn file_name_of(path: &str) -> &str
 }
 
 impl<'a> FileHead<'a> {
+    /// The path of the file.
     pub(crate) fn path(&self) -> &str
         ensures { result.now ≡ self.now.path }
     {
@@ -117,12 +126,14 @@ impl<'a> FileHead<'a> {
         self.offset
     }
 
+    /// Whether it has a syntax statement.
     pub(crate) fn has_syntax(&self) -> bool
         ensures { result ≡ self.now.has_syntax }
     {
         self.has_syntax
     }
 
+    /// What stands before the last slash of the path, or nothing.
     pub(crate) fn directory(&self) -> &str
         ensures { result.now ≡ directory self.now }
     {

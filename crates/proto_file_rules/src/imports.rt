@@ -109,7 +109,8 @@ fn public_of(
     requires { file < length files.now }
     ensures { IfOk result (λ public. (paths : List (List ℕ))
         → IsFileIndex index.now paths → (reads : List ReadOf) → AreRead files.now reads
-        → public.items ≡ public_targets paths (λ i. text_of files.now reads (at file i)) (wanted_in (read_at reads file).tree)) }
+        → public.items ≡ public_targets paths (λ i. text_of files.now reads (at file i))
+        (wanted_in (read_at reads file).tree)) }
 {
     let words = Words::new(files, file);
     let wanted = wanted::imports(alloc, files.tree(file))?;
@@ -126,7 +127,8 @@ fn all_public(
     ensures len { IfOk result (λ public. length public.items ≡ length files.now) }
     ensures each { IfOk result (λ public. (paths : List (List ℕ))
         → IsFileIndex index.now paths → (reads : List ReadOf) → AreRead files.now reads
-        → Each (λ k v. v.items ≡ public_targets paths (λ i. text_of files.now reads (at k i)) (wanted_in (read_at reads k).tree)) public.items) }
+        → Each (λ k v. v.items ≡ public_targets paths (λ i. text_of files.now reads (at k i))
+        (wanted_in (read_at reads k).tree)) public.items) }
 {
     let mut public = Vec::new(alloc);
     for file in 0..files.len() {
@@ -150,7 +152,8 @@ impl Imports {
         })
     }
 
-    /// Whether public imports of any number lead from the file with this path to one that is marked.
+    /// Whether public imports of any number lead from the file with this path to one that is
+    /// marked.
     fn leads(
         &self,
         alloc: Global,
@@ -161,7 +164,8 @@ impl Imports {
         requires imports { AreImportsOf files.now self.now }
         requires marks { length marks.now ≡ length files.now }
         ensures { IfOk result (λ leads. (reads : List ReadOf) → AreRead files.now reads
-            → (leads ≡ true) ↔ LeadsToMarked (link_imports files.now reads) (file_of (paths_of files.now) path.now) marks.now) }
+            → (leads ≡ true) ↔ LeadsToMarked (link_imports files.now reads)
+            (file_of (paths_of files.now) path.now) marks.now) }
     {
         match place_of(&self.files, path) {
             Some(file) => {
@@ -218,7 +222,10 @@ fn add_import_used(
     requires marks { is_chosen rules.now.chosen rule.ImportUsed
         ≡ true → MarksUsed files.now reading.now.file marks.now }
     ensures { OnOk result ((reads : List ReadOf) → AreRead files.now reads
-        → map found_of found.new.items ≡ map found_of found.old.items ++ found_by rules.now.chosen (reading_of reading.now) rule.ImportUsed (import_used (names_of_files files.now reads) (paths_of files.now) (reading_of reading.now) reading.now.file import.now)) }
+        → map found_of found.new.items ≡ map found_of found.old.items
+        ++ found_by rules.now.chosen (reading_of reading.now) rule.ImportUsed
+        (import_used (names_of_files files.now reads) (paths_of files.now)
+        (reading_of reading.now) reading.now.file import.now)) }
 {
     let rule = Rule::ImportUsed;
     if rules.has(rule) && import.public.is_none() {
@@ -252,7 +259,9 @@ fn add_import(
     requires marks { is_chosen rules.now.chosen rule.ImportUsed
         ≡ true → MarksUsed files.now reading.now.file marks.now }
     ensures { OnOk result ((reads : List ReadOf) → AreRead files.now reads
-        → map found_of found.new.items ≡ map found_of found.old.items ++ import_finds rules.now.chosen (names_of_files files.now reads) (paths_of files.now) (reading_of reading.now) reading.now.file import.now) }
+        → map found_of found.new.items ≡ map found_of found.old.items
+        ++ import_finds rules.now.chosen (names_of_files files.now reads)
+        (paths_of files.now) (reading_of reading.now) reading.now.file import.now) }
 {
     add_import_no_public(alloc, found, rules, reading, import)?;
     add_import_used(alloc, found, rules, reading, files, imports, marks, import)?;
@@ -320,7 +329,10 @@ fn add_statements(
     requires marks { is_chosen rules.now.chosen rule.ImportUsed
         ≡ true → MarksUsed files.now reading.now.file marks.now }
     ensures { OnOk result ((reads : List ReadOf) → AreRead files.now reads
-        → map found_of found.new.items ≡ map found_of found.old.items ++ flat_map (import_finds rules.now.chosen (names_of_files files.now reads) (paths_of files.now) (reading_of reading.now) reading.now.file) (map (λ i. i.now) statements.now)) }
+        → map found_of found.new.items ≡ map found_of found.old.items
+        ++ flat_map (import_finds rules.now.chosen (names_of_files files.now reads)
+        (paths_of files.now) (reading_of reading.now) reading.now.file)
+        (map (λ i. i.now) statements.now)) }
 {
     for import in statements {
         add_import(alloc, found, rules, reading, files, imports, marks, import)?;
@@ -344,7 +356,10 @@ pub fn add_imports(
     requires imports { AreImportsOf files.now imports.now }
     requires link { IsLinkOf files.now link.now }
     ensures { OnOk result ((reads : List ReadOf) → AreRead files.now reads
-        → map found_of found.new.items ≡ map found_of found.old.items ++ imports_finds rules.now.chosen (names_of_files files.now reads) (paths_of files.now) (reading_of reading.now) reading.now.file (read_at reads reading.now.file).tree) }
+        → map found_of found.new.items ≡ map found_of found.old.items
+        ++ imports_finds rules.now.chosen (names_of_files files.now reads)
+        (paths_of files.now) (reading_of reading.now) reading.now.file
+        (read_at reads reading.now.file).tree) }
 {
     // Each file has tokens and a tree.
     are_read(files);

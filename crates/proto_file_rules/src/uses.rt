@@ -43,7 +43,8 @@ fn meant_files(alloc: Global, link: &Link, file: u32, count: usize) -> Result<Ve
     Ok(marks)
 }
 
-/// Marks of files: an import of this file is used where public imports lead from its file to one of these.
+/// Marks of files: an import of this file is used where public imports lead from its file to one of
+/// these.
 pub(crate) fn used_files(
     alloc: Global,
     files: &Files,
