@@ -14,35 +14,58 @@ use Rattle.proto_meaning.specs.Tree.{Placed, file_placed, place}
 use Rattle.proto_listing.specs.FromTree.{items_in}
 use Rattle.proto_parts.specs.Parts.{BlockOf, FieldOf, blocks_in, fields_in, values_in}
 
--- the field is declared below the path, and the entry of a map field beside it
+-- a field is declared below a path, and the entry of a map field beside it
 abbrev pub IsDeclaredField : List Placed → List (Source ℕ) → FieldOf → Type 0
-IsDeclaredField declared path f = Contains declared (place path (Token f.name) Field) × (is_some f.map_key ≡ true → Contains declared (place path (EntryOf f.name) Entry))
+IsDeclaredField declared path f =
+    Contains declared (place path (Token f.name) Field)
+    × (is_some f.map_key ≡ true → Contains declared (place path (EntryOf f.name) Entry))
 
--- A block is declared: a message with its fields below it, a oneof and an enum with what they hold beside them. No other block has fields or values.
+-- A block is declared: a message with its fields below it, a oneof and an enum with what they hold
+-- beside them. No other block has fields or values.
 abbrev pub IsDeclared : List Placed → Header → Tree → Type 0
 IsDeclared declared (header.Message h) within =
-    (path : List (Source ℕ)) × Contains declared (place path (Token h.name) Message) × ((f : FieldOf) → Contains (fields_in within) f → IsDeclaredField declared (path ++ Token h.name ∷ []) f) × (values_in within ≡ [])
+    (path : List (Source ℕ)) × Contains declared (place path (Token h.name) Message)
+    × ((f : FieldOf) → Contains (fields_in within) f
+    → IsDeclaredField declared (path ++ Token h.name ∷ []) f)
+    × (values_in within ≡ [])
 IsDeclared declared (header.Oneof h) within =
-    (path : List (Source ℕ)) × Contains declared (place path (Token h.name) Oneof) × ((f : FieldOf) → Contains (fields_in within) f → IsDeclaredField declared path f) × (values_in within ≡ [])
+    (path : List (Source ℕ)) × Contains declared (place path (Token h.name) Oneof)
+    × ((f : FieldOf) → Contains (fields_in within) f → IsDeclaredField declared path f)
+    × (values_in within ≡ [])
 IsDeclared declared (header.Enum h) within =
-    (path : List (Source ℕ)) × Contains declared (place path (Token h.name) Enum) × ((v : ValueParts) → Contains (values_in within) v → Contains declared (place path (Token v.name) Value)) × (fields_in within ≡ [])
-IsDeclared declared (header.Service h) within = (path : List (Source ℕ)) × Contains declared (place path (Token h.name) Service) × (fields_in within ≡ []) × (values_in within ≡ [])
-IsDeclared declared (header.Method s) within = (path : List (Source ℕ)) × Contains declared (place path (Token s.name) Method) × (fields_in within ≡ []) × (values_in within ≡ [])
+    (path : List (Source ℕ)) × Contains declared (place path (Token h.name) Enum)
+    × ((v : ValueParts) → Contains (values_in within) v
+    → Contains declared (place path (Token v.name) Value))
+    × (fields_in within ≡ [])
+IsDeclared declared (header.Service h) within =
+    (path : List (Source ℕ)) × Contains declared (place path (Token h.name) Service)
+    × (fields_in within ≡ []) × (values_in within ≡ [])
+IsDeclared declared (header.Method s) within =
+    (path : List (Source ℕ)) × Contains declared (place path (Token s.name) Method)
+    × (fields_in within ≡ []) × (values_in within ≡ [])
 
 -- Each block of a tree that was read is declared,
 abbrev pub BlocksAreDeclared : Type 0
-BlocksAreDeclared = (tree : Tree) (ls : List Lexeme) → Spells tree (classes 0 ls) → (b : BlockOf) → Contains (blocks_in tree) b → IsDeclared (file_placed (items_in tree)) b.header b.within
+BlocksAreDeclared = (tree : Tree) (ls : List Lexeme) → Spells tree (classes 0 ls)
+    → (b : BlockOf) → Contains (blocks_in tree) b
+    → IsDeclared (file_placed (items_in tree)) b.header b.within
 
 -- so each field of a block is,
 abbrev pub FieldsAreDeclared : Type 0
-FieldsAreDeclared = (tree : Tree) (ls : List Lexeme) → Spells tree (classes 0 ls) → (b : BlockOf) (f : FieldOf) → Contains (blocks_in tree) b → Contains (fields_in b.within) f
+FieldsAreDeclared = (tree : Tree) (ls : List Lexeme) → Spells tree (classes 0 ls)
+    → (b : BlockOf) (f : FieldOf) → Contains (blocks_in tree) b → Contains (fields_in b.within) f
     → (path : List (Source ℕ)) × IsDeclaredField (file_placed (items_in tree)) path f
 
 -- and each value, beside its enum.
 abbrev pub ValuesAreDeclared : Type 0
-ValuesAreDeclared = (tree : Tree) (ls : List Lexeme) → Spells tree (classes 0 ls) → (b : BlockOf) (v : ValueParts) → Contains (blocks_in tree) b → Contains (values_in b.within) v
-    → (h : Heading) × (path : List (Source ℕ)) × (b.header ≡ header.Enum h) × Contains (file_placed (items_in tree)) (place path (Token h.name) Enum) × Contains (file_placed (items_in tree)) (place path (Token v.name) Value)
+ValuesAreDeclared = (tree : Tree) (ls : List Lexeme) → Spells tree (classes 0 ls)
+    → (b : BlockOf) (v : ValueParts) → Contains (blocks_in tree) b → Contains (values_in b.within) v
+    → (h : Heading) × (path : List (Source ℕ)) × (b.header ≡ header.Enum h)
+    × Contains (file_placed (items_in tree)) (place path (Token h.name) Enum)
+    × Contains (file_placed (items_in tree)) (place path (Token v.name) Value)
 
 -- The name tokens of a block's fields rise.
 abbrev pub FieldNamesRise : Type 0
-FieldNamesRise = (tree : Tree) (ls : List Lexeme) → Spells tree (classes 0 ls) → (b : BlockOf) → Contains (blocks_in tree) b → AllPairs (λ f g. f.name < g.name) (fields_in b.within)
+FieldNamesRise = (tree : Tree) (ls : List Lexeme) → Spells tree (classes 0 ls)
+    → (b : BlockOf) → Contains (blocks_in tree) b
+    → AllPairs (λ f g. f.name < g.name) (fields_in b.within)

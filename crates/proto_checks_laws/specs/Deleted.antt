@@ -1,5 +1,6 @@
--- What the deletion of a field leaves of the flaws of its message: where there were none, there are none with its number and its name
--- reserved in its place. The other sentences are asked of each field, range and option by itself.
+-- What the deletion of a field leaves of the flaws of its message: where there were none, there are
+-- none with its number and its name reserved in its place. The other sentences are asked of each
+-- field, range and option by itself.
 use Rattle.std.specs.Prelude.{◌≡◌, ℕ, ℤ, false, List, [], ◌∷◌, ◌++◌, map}
 use Rattle.std.specs.List.{All}
 use Rattle.std.specs.Str.{bytes_eq}
@@ -15,13 +16,15 @@ use Rattle.proto_checks.specs.FileFlaws.{json_clashes, name_flaws}
 abbrev pub range_of_one : ℕ → ℤ → RangeAt
 range_of_one token n = record { token = token; first = n; last = n }
 
--- the numbers of the others, with the number reserved at any place among the ranges
+-- Where nothing is wrong with the numbers of a message, nothing is with those of the fields that
+-- stay when one is deleted, and its number reserved at any place among the ranges.
 abbrev pub DeletionsKeepNumbers : Type 0
 DeletionsKeepNumbers = (rs qs : List RangeAt) (ms ns : List NumberAt) (deleted : NumberAt) (token : ℕ)
     → field_number_flaws (rs ++ qs) (ms ++ deleted ∷ ns) ≡ []
     → field_number_flaws (rs ++ range_of_one token deleted.number ∷ qs) (ms ++ ns) ≡ []
 
--- the names of the others, with a name reserved that is not reserved yet, and that none of them has
+-- Where nothing is wrong with some names, nothing is with one more name reserved that is not
+-- reserved yet, and that none of them is.
 abbrev pub DeletionsKeepNames : Type 0
 DeletionsKeepNames = (scene : Scene) (rs qs names : List ℕ) (name : ℕ)
     → name_flaws scene (rs ++ qs) names ≡ []
@@ -29,7 +32,7 @@ DeletionsKeepNames = (scene : Scene) (rs qs names : List ℕ) (name : ℕ)
     → All (λ t. bytes_eq (value scene name) (text scene t) ≡ false) names
     → name_flaws scene (rs ++ name ∷ qs) names ≡ []
 
--- the JSON names of the others
+-- Where no JSON names clash, none do of the fields that stay when one is deleted.
 abbrev pub DeletionsKeepJsonNames : Type 0
 DeletionsKeepJsonNames = (scene : Scene) (fs gs : List FieldOf) (deleted : FieldOf)
     → json_clashes scene (fs ++ deleted ∷ gs) ≡ [] → json_clashes scene (fs ++ gs) ≡ []

@@ -11,24 +11,33 @@ use Rattle.proto_checks.specs.FieldFlaws.{default_flaws}
 use Rattle.proto_checks.specs.FileFlaws.{file_flaws, json_clashes, name_flaws}
 use Rattle.proto_checks_laws.specs.Renamed.{but_names, is_of_names}
 
--- those that names decide
+-- those of the flaws that names decide
 abbrev pub of_names : List Flaw → List Flaw
 of_names flaws = filter (λ (f : Flaw). is_of_names f.kind) flaws
 
--- of a message its defaults, reserved names and JSON names, of an enum its reserved names
+-- the flaws of a block that names decide: of a message those of defaults, reserved names and JSON
+-- names, of an enum those of reserved names
 abbrev pub flaws_of_block : Scene → Header → Tree → List Flaw
 flaws_of_block scene (header.Message h) within =
-    flat_map (default_flaws scene) (fields_in within) ++ (name_flaws scene (reserved_names_in within) (map (λ f. f.name) (fields_in within)) ++ json_clashes scene (fields_in within))
-flaws_of_block scene (header.Enum h) within = name_flaws scene (reserved_names_in within) (map (λ v. v.name) (values_in within))
+    flat_map (default_flaws scene) (fields_in within)
+    ++ (name_flaws scene (reserved_names_in within) (map (λ f. f.name) (fields_in within))
+    ++ json_clashes scene (fields_in within))
+flaws_of_block scene (header.Enum h) within =
+    name_flaws scene (reserved_names_in within) (map (λ v. v.name) (values_in within))
 flaws_of_block scene (header.Oneof h) within = []
 flaws_of_block scene (header.Service h) within = []
 flaws_of_block scene (header.Method s) within = []
 
 -- The flaws of a file that names decide are those of its blocks.
 abbrev pub FlawsOfNames : Type 0
-FlawsOfNames = (scene : Scene) (tree : Tree) → of_names (file_flaws scene tree) ≡ flat_map (λ b. flaws_of_block scene b.header b.within) (blocks_in tree)
+FlawsOfNames = (scene : Scene) (tree : Tree)
+    → of_names (file_flaws scene tree)
+    ≡ flat_map (λ b. flaws_of_block scene b.header b.within) (blocks_in tree)
 
--- So where the other flaws are the same in a second scene, and no block has one of these there, a file without a flaw has none.
+-- So where the other flaws are the same in a second scene, and no block has one of these there, a
+-- file without a flaw has none.
 abbrev pub NoFlawComesIn : Type 0
-NoFlawComesIn = (a b : Scene) (tree : Tree) → file_flaws a tree ≡ [] → but_names (file_flaws a tree) ≡ but_names (file_flaws b tree)
-    → ((x : BlockOf) → Contains (blocks_in tree) x → flaws_of_block b x.header x.within ≡ []) → file_flaws b tree ≡ []
+NoFlawComesIn = (a b : Scene) (tree : Tree) → file_flaws a tree ≡ []
+    → but_names (file_flaws a tree) ≡ but_names (file_flaws b tree)
+    → ((x : BlockOf) → Contains (blocks_in tree) x → flaws_of_block b x.header x.within ≡ [])
+    → file_flaws b tree ≡ []

@@ -1,4 +1,5 @@
-//! Laws of what is wrong with a file: what a rename, a change of imports and a deletion leave of it. No code needs them.
+//! Laws of what is wrong with a file: what a rename, a change of imports and a deletion leave of
+//! it. No code needs them.
 #![tactic(auto)]
 
 mod laws;
