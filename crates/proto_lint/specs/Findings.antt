@@ -13,17 +13,21 @@ use Rattle.proto_file_rules.specs.Packages.{head_finds}
 use Rattle.proto_file_rules.specs.Heads.{head_of_file, heads}
 pub use Rattle.proto_findings.specs.Listings.{FindingOf, IsListingOf}
 
--- in a file: by its head, its imports and its blocks
+-- what the rules find in a file, by its number: at its head, its imports and its blocks
 abbrev pub file_finds : List Bool → List FileOf → List ReadOf → ℕ → List Found
 file_finds rules files reads file =
     head_finds rules (heads files reads) (head_of_file files reads file)
-    ++ (imports_finds rules (names_of_files files reads) (paths_of files) (read_of_file files reads file) file (read_at reads file).tree
-    ++ blocks_finds rules (read_of_file files reads file) (all_messages files reads) (file_blocks (read_of_file files reads file) (read_at reads file).tree))
+    ++ (imports_finds rules (names_of_files files reads) (paths_of files)
+    (read_of_file files reads file) file (read_at reads file).tree
+    ++ blocks_finds rules (read_of_file files reads file) (all_messages files reads)
+    (file_blocks (read_of_file files reads file) (read_at reads file).tree))
 
--- in the files from this number on
+-- what the rules find in the files from this number on
 abbrev pub findings_from : List Bool → List FileOf → List ReadOf → ℕ → List ReadOf → List FindingOf
 findings_from rules files reads file [] = []
-findings_from rules files reads file (r ∷ rs) = map (found_in (file_at files file).path) (file_finds rules files reads file) ++ findings_from rules files reads (suc file) rs
+findings_from rules files reads file (r ∷ rs) =
+    map (found_in (file_at files file).path) (file_finds rules files reads file)
+    ++ findings_from rules files reads (suc file) rs
 
 -- the findings of the chosen rules, file by file
 abbrev pub findings : List Bool → List FileOf → List ReadOf → List FindingOf

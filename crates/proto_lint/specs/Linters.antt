@@ -7,9 +7,13 @@ use Rattle.proto_file_rules.specs.Heads.{heads}
 use Rattle.proto_file_rules.specs.ImportTables.{AreImportsOf}
 use Rattle.proto_lint.specs.declared.linting.Linter.{Linter}
 
+-- a linter has a workspace that is linked, and looks up in it what is so: the heads of its files,
+-- their imports, and the messages of all methods
 pub record IsLinter (l : Linter) : Type 0 where
   pub linked : IsLinkOf l.files.now l.link.now
   pub read : (reads : List ReadOf) × AreRead l.files.now reads
-  pub heads_are : (reads : List ReadOf) → AreRead l.files.now reads → l.heads ≡ heads l.files.now reads
+  pub heads_are : (reads : List ReadOf) → AreRead l.files.now reads
+      → l.heads ≡ heads l.files.now reads
   pub imports_are : AreImportsOf l.files.now l.imports
-  pub messages_are : (reads : List ReadOf) → AreRead l.files.now reads → l.messages ≡ all_messages l.files.now reads
+  pub messages_are : (reads : List ReadOf) → AreRead l.files.now reads
+      → l.messages ≡ all_messages l.files.now reads

@@ -120,8 +120,8 @@ impl<'a> Linter<'a> {
     }
 }
 
-/// What the rules of the set find in linked files, in the order of path, offset, rule identifier and name; each finding
-/// once.
+/// What the rules of the set find in linked files, in the order of path, offset, rule identifier
+/// and name; each finding once.
 pub fn lint(
     alloc: Global,
     files: &Files,
