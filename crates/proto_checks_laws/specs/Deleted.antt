@@ -19,7 +19,8 @@ range_of_one token n = record { token = token; first = n; last = n }
 -- Where nothing is wrong with the numbers of a message, nothing is with those of the fields that
 -- stay when one is deleted, and its number reserved at any place among the ranges.
 abbrev pub DeletionsKeepNumbers : Type 0
-DeletionsKeepNumbers = (rs qs : List RangeAt) (ms ns : List NumberAt) (deleted : NumberAt) (token : ℕ)
+DeletionsKeepNumbers = (rs qs : List RangeAt) (ms ns : List NumberAt)
+    → (deleted : NumberAt) (token : ℕ)
     → field_number_flaws (rs ++ qs) (ms ++ deleted ∷ ns) ≡ []
     → field_number_flaws (rs ++ range_of_one token deleted.number ∷ qs) (ms ++ ns) ≡ []
 
