@@ -2,12 +2,14 @@
 use Rattle.std.specs.Prelude.{◌≡◌, ◌⊎◌, ℕ, ◌+◌, ◌-◌, ◌≤◌, nat_le, List, reverse, String, Option, None, Some, Result, MatchResult, IsTrue, is_err, if◌then◌else◌}
 use Rattle.std.specs.Global.{Vec, Global}
 use Rattle.std.specs.BTreeMap.{BTreeMap}
+use Rattle.proto_faults.specs.Texts.{Path}
 use Rattle.proto_files.specs.GivenFiles.{FileOf, files_of}
 use Rattle.proto_store.specs.Stores.{Held, bytes_at}
 use Rattle.proto_store.specs.declared.memory.PlannedFailure.{PlannedFailure}
 use Rattle.proto_store.specs.declared.memory.Turn.{Turn}
 use Rattle.proto_store.specs.declared.memory.Turn.TheVariants.{Works, Fails, Lands}
 
+-- the files that a map from paths to bytes stands for, in the order of their paths
 abbrev pub files_in : BTreeMap (String Global) (Vec ℕ) → List FileOf
 files_in files = files_of files.entries
 
@@ -20,7 +22,8 @@ pub record MemoryOf : Type 0 where
 -- each path has the bytes that were given last for it
 abbrev pub KeepsLatest : Option Held → List FileOf → Type 0
 KeepsLatest None given = Unit {0}
-KeepsLatest (Some held) given = (path : List ℕ) → bytes_at path held.files ≡ bytes_at path (reverse given)
+KeepsLatest (Some held) given =
+    (path : Path) → bytes_at path held.files ≡ bytes_at path (reverse given)
 
 -- the next call is to fail
 abbrev pub IsDue : Option PlannedFailure → Type 0
@@ -41,7 +44,8 @@ IsTurn planned Lands = IsDueToLand planned
 -- a failure is one call nearer after each call, and over with the one that fails
 abbrev pub one_call_later : Option PlannedFailure → Option PlannedFailure
 one_call_later None = None
-one_call_later (Some failure) = if nat_le failure.calls 1 then None else Some (record failure { calls = failure.calls - 1 })
+one_call_later (Some failure) =
+    if nat_le failure.calls 1 then None else Some (record failure { calls = failure.calls - 1 })
 
 -- a call leaves the store with this; if it failed it is counted
 abbrev pub after_call : {T E : Type 0} → Held → MemoryOf → Result T E → MemoryOf
@@ -51,8 +55,10 @@ after_call held s result = record {
   planned = one_call_later s.planned;
 }
 
--- a replace leaves the store with the new bytes; where it fails, with the old ones, or with the new if it was to fail so
+-- a replace leaves the store with the new bytes; where it fails,
+-- with the old ones, or with the new if it was to fail so
 abbrev pub Replaces : {T E : Type 0} → Held → MemoryOf → MemoryOf → Result T E → Type 0
 Replaces replaced old new result = MatchResult result
     (λ _. new ≡ after_call replaced old result)
-    (λ _. (new ≡ after_call old.held old result) ⊎ (IsDueToLand old.planned × (new ≡ after_call replaced old result)))
+    (λ _. (new ≡ after_call old.held old result)
+    ⊎ (IsDueToLand old.planned × (new ≡ after_call replaced old result)))

@@ -4,12 +4,13 @@ use Rattle.std.specs.List.Sorted.{IsPermutation, IsStrictlySortedBy}
 use Rattle.std.specs.Cmp.Lexicographic.{slice_cmp}
 use Rattle.std.specs.Ordering.{nat_cmp}
 use Rattle.std.specs.Str.{bytes_eq}
+use Rattle.proto_faults.specs.Texts.{Path, Text}
 use Rattle.proto_files.specs.GivenFiles.{FileOf, paths_of}
 
 -- the files of a store, in the order of their paths, each path once, and the bytes of its journal
 pub record Held : Type 0 where
   pub files : List FileOf
-  pub journal : List ℕ
+  pub journal : Text
 
 -- what is said of the holdings of a store that no contract can tell
 abbrev pub unknown : Option Held
@@ -20,21 +21,25 @@ abbrev pub AreInPathOrder : List FileOf → Type 0
 AreInPathOrder files = IsStrictlySortedBy (slice_cmp nat_cmp) (paths_of files)
 
 -- the bytes of the first file at the path
-abbrev pub bytes_at : List ℕ → List FileOf → Option (List ℕ)
+abbrev pub bytes_at : Path → List FileOf → Option Text
 bytes_at path [] = None
-bytes_at path (file ∷ files) = if bytes_eq path file.path then Some file.bytes else bytes_at path files
+bytes_at path (file ∷ files) =
+    if bytes_eq path file.path then Some file.bytes else bytes_at path files
 
 -- the first file at the path gets the bytes, and nothing else changes
-abbrev pub with_bytes : List ℕ → List ℕ → List FileOf → List FileOf
+abbrev pub with_bytes : Path → Text → List FileOf → List FileOf
 with_bytes path bytes [] = []
-with_bytes path bytes (file ∷ files) = if bytes_eq path file.path then record file { bytes = bytes } ∷ files else file ∷ with_bytes path bytes files
+with_bytes path bytes (file ∷ files) =
+    if bytes_eq path file.path
+    then record file { bytes = bytes } ∷ files
+    else file ∷ with_bytes path bytes files
 
 -- the file at the path gets the bytes, and the journal stays
-abbrev pub with_file : List ℕ → List ℕ → Held → Held
+abbrev pub with_file : Path → Text → Held → Held
 with_file path bytes held = record held { files = with_bytes path bytes held.files }
 
 -- the journal gets the bytes, and the files stay
-abbrev pub with_journal : List ℕ → Held → Held
+abbrev pub with_journal : Text → Held → Held
 with_journal bytes held = record held { journal = bytes }
 
 -- the files of a store, where they are known
@@ -42,17 +47,18 @@ abbrev pub files_held : Option Held → Option (List FileOf)
 files_held held = option_map (λ h. h.files) held
 
 -- the paths are those of the files, each once; of unknown files nothing is said, here and below
-abbrev pub ListsPaths : Option Held → List (List ℕ) → Type 0
+abbrev pub ListsPaths : Option Held → List Path → Type 0
 ListsPaths None paths = Unit {0}
-ListsPaths (Some held) paths = AreInPathOrder held.files × IsPermutation paths (paths_of held.files)
+ListsPaths (Some held) paths =
+    AreInPathOrder held.files × IsPermutation paths (paths_of held.files)
 
 -- a file stands at the path
-abbrev pub IsListed : Option Held → List ℕ → Type 0
+abbrev pub IsListed : Option Held → Path → Type 0
 IsListed None path = Unit {0}
 IsListed (Some held) path = IsSome (bytes_at path held.files)
 
 -- the bytes are those of the file at the path
-abbrev pub HoldsBytes : Option Held → List ℕ → List ℕ → Type 0
+abbrev pub HoldsBytes : Option Held → Path → Text → Type 0
 HoldsBytes None path bytes = Unit {0}
 HoldsBytes (Some held) path bytes = bytes_at path held.files ≡ Some bytes
 
@@ -62,7 +68,7 @@ HoldsFiles None files = Unit {0}
 HoldsFiles (Some held) files = files ≡ held.files
 
 -- the bytes of the journal
-abbrev pub HoldsJournal : Option Held → List ℕ → Type 0
+abbrev pub HoldsJournal : Option Held → Text → Type 0
 HoldsJournal None bytes = Unit {0}
 HoldsJournal (Some held) bytes = bytes ≡ held.journal
 

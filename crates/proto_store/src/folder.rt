@@ -17,10 +17,11 @@ const JOURNAL: &str = ".protoref-journal";
 // A journal is at most this long. One byte more is read, which tells that it is longer.
 const JOURNAL_BYTES: usize = 16_777_216;
 
-/// The `.proto` files below a folder, as they lie there, and the file `.protoref-journal` in it. Names that begin with a
-/// dot are passed over, and so is all that is neither a folder nor a regular file whose name ends in `.proto`. A root
-/// that is the empty word names no folder, so each call fails. No symbolic link below the root is followed. No contract
-/// can say what a folder holds.
+/// The `.proto` files below a folder, as they lie there, and the file
+/// `.protoref-journal` in it. Names that begin with a dot are passed over, and so
+/// is all that is neither a folder nor a regular file whose name ends in `.proto`.
+/// A root that is the empty word names no folder, so each call fails. No symbolic
+/// link below the root is followed. No contract can say what a folder holds.
 #[derive(Drop)]
 pub struct FolderStore<'a, R: Files + AllocGlobal> {
     rt: &'a R,
@@ -49,10 +50,11 @@ impl<'a, R: Files + AllocGlobal> FolderStore<'a, R> {
         }
     }
 
-    /// Removes the files `.protoref-new` that writes which were cut off have left, in the root and in each folder below it that
-    /// `list` goes through. A symbolic link of that name goes itself, and a folder of that name stays. What the store holds
-    /// stays, since `list` passes over that name. Fails where the root is no folder, or where a folder cannot be read or such a
-    /// file not be removed; those that are left then can be removed later.
+    /// Removes the files `.protoref-new` that writes which were cut off have left, in the root and
+    /// in each folder below it that `list` goes through. A symbolic link of that name goes itself,
+    /// and a folder of that name stays. What the store holds stays, since `list` passes over that
+    /// name. Fails where the root is no folder, or where a folder cannot be read or such a file not
+    /// be removed; those that are left then can be removed later.
     pub fn clear_leftovers(&mut self) -> Result<(), StoreFault>
         requires { self.old.failures < 2 ^ 64 - 1 }
         ensures same { ⟦<FolderStore<'a, R> as Store>⟧.holds self.new
@@ -120,7 +122,8 @@ impl<'a, R: Files + AllocGlobal> FolderStore<'a, R> {
         Ok(())
     }
 
-    // The path from where the program runs. Behind an empty root it would be that of another folder.
+    // The path from where the program runs. Behind an
+    // empty root it would be that of another folder.
     fn full_path(&self, path: &str) -> io::Result<String>
         ensures { self.now.root.now ≡ [] → IsErr result }
     {
@@ -149,7 +152,8 @@ impl<'a, R: Files + AllocGlobal> FolderStore<'a, R> {
         Ok(names)
     }
 
-    // Notes a name of the folder, if it is that of a folder, of a schema file or of what a write has left.
+    // Notes a name of the folder, if it is that of a
+    // folder, of a schema file or of what a write has left.
     fn visit(&self, walk: &mut Walk, folder: &str, name: &[u8]) -> io::Result<()> {
         if name == SECOND.as_bytes() {
             walk.leftovers
@@ -183,8 +187,8 @@ impl<'a, R: Files + AllocGlobal> FolderStore<'a, R> {
         Ok(root)
     }
 
-    // The full path of a file, where each part before the last is a folder that the walk goes through. That the last is
-    // a regular file is for the caller to see.
+    // The full path of a file, where each part before the last is a folder that the walk goes
+    // through. That the last is a regular file is for the caller to see.
     fn walked_path(&self, path: &str) -> io::Result<String>
         ensures { self.now.root.now ≡ [] → IsErr result }
     {
@@ -325,7 +329,8 @@ impl<R: Files + AllocGlobal> Store for FolderStore<'_, R> {
         }
     }
 
-    /// The bytes of `.protoref-journal`. Of one that is longer than 16,777,216 bytes one byte more than these.
+    /// The bytes of `.protoref-journal`. Of one that is
+    /// longer than 16,777,216 bytes one byte more than these.
     fn read_journal(&mut self) -> Result<Vec<u8>, StoreFault>
         requires { self.old.failures < 2 ^ 64 - 1 }
         ensures bytes { IfOk result (λ bytes. HoldsJournal unknown bytes.items) }

@@ -13,7 +13,8 @@ use std::alloc::Global;
 use std::collections::BTreeMap;
 use std::marker::Model;
 
-/// A store whose files and journal are in memory. It fails where memory runs out, and at the call that it is told to.
+/// A store whose files and journal are in memory. It fails
+/// where memory runs out, and at the call that it is told to.
 #[derive(Drop)]
 pub struct MemoryStore {
     alloc: Global,
@@ -45,11 +46,16 @@ impl Model for MemoryStore {
 
     ghost Value = { MemoryOf };
 
-    ghost view = { λ s. record { held = record { files = files_in s.files; journal = s.journal.items }; failures = s.failures; planned = s.planned } };
+    ghost view = { λ s. record {
+      held = record { files = files_in s.files; journal = s.journal.items };
+      failures = s.failures;
+      planned = s.planned;
+    } };
 }
 
 impl MemoryStore {
-    /// A store of these files, the later of two with one path, and this journal. No call of it is to fail yet.
+    /// A store of these files, the later of two with one
+    /// path, and this journal. No call of it is to fail yet.
     pub fn new(
         alloc: Global,
         files: Vec<(String, Vec<u8>)>,
@@ -75,8 +81,9 @@ impl MemoryStore {
         })
     }
 
-    /// Lets the call with this number from now on, counted from 1, fail. If that call is a replace, it leaves the new
-    /// bytes where it `lands` and memory is there for them, and else the old ones.
+    /// Lets the call with this number from now on, counted from 1,
+    /// fail. If that call is a replace, it leaves the new bytes where
+    /// it `lands` and memory is there for them, and else the old ones.
     pub fn fail_at(&mut self, call: u64, lands: bool)
         requires { 0 < call }
         ensures { self.new
@@ -173,7 +180,8 @@ impl Store for MemoryStore {
 
     ghost failure_count = { λ s. s.failures };
 
-    /// The paths of all files, in their order. The call that is to fail fails; any other only where memory runs out.
+    /// The paths of all files, in their order. The call that
+    /// is to fail fails; any other only where memory runs out.
     fn list(&mut self) -> Result<Vec<String>, StoreFault>
         requires { self.old.failures < 2 ^ 64 - 1 }
         ensures paths { IfOk result (λ paths. ListsPaths
@@ -189,7 +197,8 @@ impl Store for MemoryStore {
         }
     }
 
-    /// A copy of the bytes of the file at a path. The call that is to fail fails; any other only where memory runs out.
+    /// A copy of the bytes of the file at a path. The call that
+    /// is to fail fails; any other only where memory runs out.
     fn read(&mut self, path: &str) -> Result<Vec<u8>, StoreFault>
         requires room { self.old.failures < 2 ^ 64 - 1 }
         requires listed { IsListed (Some self.old.held) path.now }
@@ -206,8 +215,8 @@ impl Store for MemoryStore {
         }
     }
 
-    /// Puts a copy of the bytes in the place of those of the file at a path. The call that is to fail fails; any other
-    /// only where memory runs out, and then nothing has changed.
+    /// Puts a copy of the bytes in the place of those of the file at a path. The call that is to
+    /// fail fails; any other only where memory runs out, and then nothing has changed.
     fn replace(&mut self, path: &str, bytes: &[u8]) -> Result<(), StoreFault>
         requires room { self.old.failures < 2 ^ 64 - 1 }
         requires listed { IsListed (Some self.old.held) path.now }
@@ -232,7 +241,8 @@ impl Store for MemoryStore {
         }
     }
 
-    /// A copy of the bytes of the journal. The call that is to fail fails; any other only where memory runs out.
+    /// A copy of the bytes of the journal. The call that is
+    /// to fail fails; any other only where memory runs out.
     fn read_journal(&mut self) -> Result<Vec<u8>, StoreFault>
         requires { self.old.failures < 2 ^ 64 - 1 }
         ensures bytes { IfOk result (λ bytes. HoldsJournal (Some self.old.held) bytes.items) }
@@ -247,8 +257,8 @@ impl Store for MemoryStore {
         }
     }
 
-    /// Puts a copy of the bytes in the place of those of the journal. The call that is to fail fails; any other only
-    /// where memory runs out, and then nothing has changed.
+    /// Puts a copy of the bytes in the place of those of the journal. The call that is to fail
+    /// fails; any other only where memory runs out, and then nothing has changed.
     fn replace_journal(&mut self, bytes: &[u8]) -> Result<(), StoreFault>
         requires { self.old.failures < 2 ^ 64 - 1 }
         ensures ok { OnOk result (self.new.held ≡ with_journal bytes.now self.old.held) }

@@ -6,16 +6,18 @@ use std::os::unix::fs::OpenOptionsExt;
 use std::rt::Files;
 use std::{fs, io};
 
-// Lies beside the file that is replaced. Its name begins with a dot, so it is never listed, and is short, so it fits
-// where the other name does.
+// Lies beside the file that is replaced. Its name begins with a dot, so it is never listed, and is
+// short, so it fits where the other name does.
 pub(crate) const SECOND: &str = ".protoref-new";
 
-// The mode of a file that replaces none, and of one until it has the mode of the file that it replaces.
+// The mode of a file that replaces none, and of one
+// until it has the mode of the file that it replaces.
 const NEW_MODE: u32 = 0o644;
 
 const SECRET_MODE: u32 = 0o600;
 
-// The regular file at a path, or none where nothing is there. Anything else there, a symbolic link among it, fails.
+// The regular file at a path, or none where nothing is there.
+// Anything else there, a symbolic link among it, fails.
 pub(crate) fn regular_file<R: Files>(rt: &R, path: &str) -> io::Result<Option<Metadata>> {
     match fs::symlink_metadata(rt, path) {
         Ok(metadata) if metadata.is_file() => Ok(Some(metadata)),
@@ -25,8 +27,8 @@ pub(crate) fn regular_file<R: Files>(rt: &R, path: &str) -> io::Result<Option<Me
     }
 }
 
-// Puts a file of these bytes at a path of a folder, with these permissions where one is replaced. The file at the path
-// is the old one or the whole new one at any time.
+// Puts a file of these bytes at a path of a folder, with these permissions where one is replaced.
+// The file at the path is the old one or the whole new one at any time.
 pub(crate) fn put_file<R: Files + AllocGlobal>(
     rt: &R,
     path: &str,

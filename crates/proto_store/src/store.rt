@@ -32,8 +32,8 @@ impl StoreFault {
     }
 }
 
-/// A place that keeps files by their paths, and a journal. A call that fails is counted. It leaves all as it was, but
-/// that a replace which fails may leave the new bytes.
+/// A place that keeps files by their paths, and a journal. A call that fails is counted. It leaves
+/// all as it was, but that a replace which fails may leave the new bytes.
 pub trait Store {
     /// What it holds, where that is known.
     ghost holds: { Self → Option Held };
@@ -57,8 +57,8 @@ pub trait Store {
         ensures same { holds self.new ≡ holds self.old }
         ensures count { Counts (failure_count self.old) (failure_count self.new) result };
 
-    /// Puts the bytes in the place of those of the file at a path that `list` answers. Other files and the journal
-    /// stay. Where it fails, the file has its old bytes or the new ones.
+    /// Puts the bytes in the place of those of the file at a path that `list` answers. Other files
+    /// and the journal stay. Where it fails, the file has its old bytes or the new ones.
     fn replace(&mut self, path: &str, bytes: &[u8]) -> Result<(), StoreFault>
         requires room { failure_count self.old < 2 ^ 64 - 1 }
         requires listed { IsListed (holds self.old) path.now }
@@ -75,8 +75,8 @@ pub trait Store {
         ensures same { holds self.new ≡ holds self.old }
         ensures count { Counts (failure_count self.old) (failure_count self.new) result };
 
-    /// Puts the bytes in the place of those of the journal. The files stay. Where it fails, the journal has its old
-    /// bytes or the new ones.
+    /// Puts the bytes in the place of those of the journal. The files stay. Where it fails, the
+    /// journal has its old bytes or the new ones.
     fn replace_journal(&mut self, bytes: &[u8]) -> Result<(), StoreFault>
         requires { failure_count self.old < 2 ^ 64 - 1 }
         ensures ok { OnOk result (holds self.new
