@@ -1,10 +1,12 @@
 -- The numbers and names of the faults of a journal: the table of this product.
-use Rattle.std.specs.Prelude.{ℕ, List, Bool, ◌==◌, if◌then◌else◌, codes}
+use Rattle.std.specs.Prelude.{ℕ, Bool, ◌==◌, if◌then◌else◌, codes}
+use Rattle.proto_faults.specs.Texts.{Text}
 use Rattle.proto_entries.specs.declared.refusal.Refusal.{Refusal}
 use Rattle.proto_entries.specs.RefusalTable as refusals
 use Rattle.proto_records.specs.declared.fault.JournalFault.{JournalFault}
 use Rattle.proto_records.specs.declared.fault.JournalFault.TheVariants.{BadJournal, NothingToUndo, OpenEntry, Store, JournalFull, NoMemory, Refused}
 
+-- the number of a journal's fault; a refusal has its own number, and has 0 here
 abbrev pub number_of : JournalFault → ℕ
 number_of BadJournal = 1
 number_of NothingToUndo = 2
@@ -14,7 +16,8 @@ number_of JournalFull = 5
 number_of NoMemory = 6
 number_of (Refused refusal) = 0
 
-abbrev pub name_of : JournalFault → List ℕ
+-- the name of a journal's fault; a refusal has its own name, beside this one
+abbrev pub name_of : JournalFault → Text
 name_of BadJournal = codes "BadJournal"
 name_of NothingToUndo = codes "NothingToUndo"
 name_of OpenEntry = codes "OpenEntry"

@@ -33,7 +33,8 @@ pub enum JournalFault {
 }
 
 impl JournalFault {
-    /// The number in the table of these faults, from 1 to 6; 0 for a refusal, which has its own number.
+    /// The number in the table of these faults, from 1
+    /// to 6; 0 for a refusal, which has its own number.
     pub fn number(&self) -> u32
         ensures { result ≡ number_of self.now }
     {

@@ -30,7 +30,8 @@ pub fn last_is_open(records: &[Record]) -> bool
     }
 }
 
-// The first line with its line feed, and what stands behind it. All is in the first line where no line feed is.
+// The first line with its line feed, and what stands behind
+// it. All is in the first line where no line feed is.
 fn first_line(bytes: &[u8]) -> (&[u8], &[u8])
     ensures { IsFirstLine bytes.now result.0.now result.1.now }
 {
@@ -44,8 +45,9 @@ fn first_line(bytes: &[u8]) -> (&[u8], &[u8])
     (bytes, &[])
 }
 
-/// The records of a journal, exactly where the bytes are one: at most 16,777,216 bytes that are texts of records, each
-/// record done that another one follows. Otherwise BadJournal; beside that only want of memory is answered.
+/// The records of a journal, exactly where the bytes are one: at most 16,777,216 bytes that are
+/// texts of records, each record done that another one follows. Otherwise BadJournal; beside that
+/// only want of memory is answered.
 pub fn read_records(alloc: Global, bytes: &[u8]) -> Result<Vec<Record>, JournalFault>
     ensures ok { IfOk result (λ records. IsJournal bytes.now records.items) }
     ensures err { IfErr result (λ e. (e ≡ JournalFault.BadJournal) ⊎ (e ≡ JournalFault.NoMemory)) }

@@ -1,4 +1,5 @@
-//! The text of the journal: its records, a line each, and what may be wrong with a journal. No schema is needed here.
+//! The text of the journal: its records, a line each, and what
+//! may be wrong with a journal. No schema is needed here.
 #![tactic(auto)]
 
 mod fault;

@@ -148,7 +148,8 @@ fn read_changes(alloc: Global, values: &Vec<Value>) -> Result<Option<Vec<Change>
 }
 
 fn read_state(value: &Value) -> Option<State>
-    ensures { (s : StateOf) → option_and_then as_str (get (codes "state") (view value.now)) ≡ Some (state_name s)
+    ensures { (s : StateOf)
+        → option_and_then as_str (get (codes "state") (view value.now)) ≡ Some (state_name s)
         → result ≡ Some s }
 {
     let text = text_at(value, "state")?;
@@ -223,8 +224,9 @@ fn is_text_of(alloc: Global, bytes: &[u8], noted: &Record) -> Result<bool, NoMem
     Ok(text.as_bytes() == bytes)
 }
 
-/// The record that has these bytes for its text: a line with its line feed. Each record has one spelling, and any other
-/// is BadJournal, as are bytes that are no record's text. Beside that only want of memory is answered.
+/// The record that has these bytes for its text: a line with its line feed. Each record has one
+/// spelling, and any other is BadJournal, as are bytes that are no record's text. Beside that only
+/// want of memory is answered.
 pub fn read_entry(alloc: Global, bytes: &[u8]) -> Result<Record, JournalFault>
     ensures ok { IfOk result (λ r. (record_text r ≡ bytes.now) × IsRecord r) }
     ensures err { IfErr result (λ e. (e ≡ JournalFault.BadJournal) ⊎ (e ≡ JournalFault.NoMemory)) }
