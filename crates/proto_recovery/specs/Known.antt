@@ -21,6 +21,7 @@ abbrev pub CountsFault : ℕ → ℕ → JournalFault → Type 0
 CountsFault before after fault.Store = after ≡ before + 1
 CountsFault before after _ = after ≡ before
 
+-- the same of the answer of a call: where it is well, no call of the store failed
 abbrev pub CountsStore : {T : Type 0} → ℕ → ℕ → Result T JournalFault → Type 0
 CountsStore before after (Ok value) = after ≡ before
 CountsStore before after (Err f) = CountsFault before after f

@@ -10,12 +10,14 @@ IsUnreadable held = (records : List Record) → IsJournal held.journal records �
 
 -- the journal's last entry is open
 abbrev pub HasOpenEntry : Held → Type 0
-HasOpenEntry held = (records : List Record) × IsJournal held.journal records × (is_last_open records ≡ true)
+HasOpenEntry held =
+    (records : List Record) × IsJournal held.journal records × (is_last_open records ≡ true)
 
 -- the journal is that of these records, of which none is open
 pub record IsReadyWith (records : List Record) (held : Held) : Type 0 where
   pub journal : IsJournal held.journal records
   pub closed : is_last_open records ≡ false
 
+-- the journal is that of some records, of which none is open
 abbrev pub IsReady : Held → Type 0
 IsReady held = (records : List Record) × IsReadyWith records held

@@ -3,6 +3,7 @@ use Rattle.std.specs.Prelude.{◌≡◌, ◌⊎◌, ℕ, List, [], ◌∷◌, �
 use Rattle.std.specs.Global.{Vec}
 use Rattle.std.specs.List.{Contains, list_any}
 use Rattle.std.specs.Str.{bytes_eq}
+use Rattle.proto_faults.specs.Texts.{Path, Text}
 use Rattle.proto_text.specs.Edits.{Puts}
 use Rattle.proto_files.specs.GivenFiles.{FileOf}
 use Rattle.proto_entries.specs.Entries.{ChangeOf, turned_round}
@@ -17,34 +18,39 @@ use Rattle.proto_recovery.specs.Torn.{IsAsAfter, IsAsBefore}
 -- ---- the open entry
 
 -- the last entry of a journal where it is open, or none where no entry is; or why there is neither
-abbrev pub OpenOutcome : List ℕ → Result (Option (List ChangeOf)) JournalFault → Type 0
-OpenOutcome journal (Ok (Some entry)) = (records : List Record) × IsJournal journal (records ++ opened entry ∷ [])
-OpenOutcome journal (Ok None) = (records : List Record) × IsJournal journal records × (is_last_open records ≡ Bool.false)
-OpenOutcome journal (Err fault.BadJournal) = (records : List Record) → IsJournal journal records → ⊥
+abbrev pub OpenOutcome : Text → Result (Option (List ChangeOf)) JournalFault → Type 0
+OpenOutcome journal (Ok (Some entry)) =
+    (records : List Record) × IsJournal journal (records ++ opened entry ∷ [])
+OpenOutcome journal (Ok None) =
+    (records : List Record) × IsJournal journal records × (is_last_open records ≡ Bool.false)
+OpenOutcome journal (Err fault.BadJournal) =
+    (records : List Record) → IsJournal journal records → ⊥
 OpenOutcome journal (Err fault.NoMemory) = Unit {0}
 OpenOutcome journal (Err _) = ⊥
 
 -- ---- which files
 
 -- the paths are those of the files
-abbrev pub IsAskedFor : List (List ℕ) → List FileOf → Type 0
-IsAskedFor paths files = (path : List ℕ) → list_any (bytes_eq path) paths ≡ is_some (bytes_at path files)
+abbrev pub IsAskedFor : List Path → List FileOf → Type 0
+IsAskedFor paths files =
+    (path : Path) → list_any (bytes_eq path) paths ≡ is_some (bytes_at path files)
 
 -- the text that a file gets where it is as after its change; none where it is as before it
-abbrev pub IsOldText : ChangeOf → List ℕ → Option (Vec ℕ) → Type 0
+abbrev pub IsOldText : ChangeOf → Text → Option (Vec ℕ) → Type 0
 IsOldText c text None = IsAsBefore c text
-IsOldText c text (Some old) = IsAsAfter c text × Puts 0 text (turned_round c).splices old.items
+IsOldText c text (Some old) =
+    IsAsAfter c text × Puts 0 text (turned_round c).splices old.items
 
 -- the file of a change is as before it
 pub record StaysAt (c : ChangeOf) (files : List FileOf) : Type 0 where
-  pub text : List ℕ
+  pub text : Text
   pub there : bytes_at c.path files ≡ Some text
   pub before : IsAsBefore c text
 
 -- the file of a change is as after it, and this is the file before it
 pub record GoesBackTo (c : ChangeOf) (files : List FileOf) (f : FileOf) : Type 0 where
   pub path : f.path ≡ c.path
-  pub text : List ℕ
+  pub text : Text
   pub there : bytes_at c.path files ≡ Some text
   pub after : IsAsAfter c text
   pub puts : Puts 0 text (turned_round c).splices f.bytes
@@ -58,15 +64,18 @@ IsOldFile c files (Some f) = GoesBackTo c files f
 abbrev pub AreOldFiles : List ChangeOf → List FileOf → List FileOf → Type 0
 AreOldFiles [] files olds = olds ≡ []
 AreOldFiles (c ∷ cs) files olds = (StaysAt c files × AreOldFiles cs files olds)
-    ⊎ ((f : FileOf) × (rest : List FileOf) × (olds ≡ f ∷ rest) × GoesBackTo c files f × AreOldFiles cs files rest)
+    ⊎ ((f : FileOf) × (rest : List FileOf) × (olds ≡ f ∷ rest)
+    × GoesBackTo c files f × AreOldFiles cs files rest)
 
 -- the text is neither as before a change nor as after it; beside that only memory may run out
-abbrev pub IsNeither : ChangeOf → List ℕ → JournalFault → Type 0
+abbrev pub IsNeither : ChangeOf → Text → JournalFault → Type 0
 IsNeither c text fault.NoMemory = Unit {0}
-IsNeither c text (fault.Refused refusal.Stale) = (IsAsBefore c text → ⊥) × (IsAsAfter c text → ⊥)
+IsNeither c text (fault.Refused refusal.Stale) =
+    (IsAsBefore c text → ⊥) × (IsAsAfter c text → ⊥)
 IsNeither c text _ = ⊥
 
--- a refusal comes for staleness alone, which is this; beside it the store may fail and memory run out
+-- a refusal comes for staleness alone, which is this;
+-- beside it the store may fail and memory run out
 abbrev pub IsStaleOnly : Type 0 → JournalFault → Type 0
 IsStaleOnly stale fault.Store = Unit {0}
 IsStaleOnly stale fault.NoMemory = Unit {0}
@@ -80,9 +89,11 @@ abbrev pub with_all : List FileOf → List FileOf → List FileOf
 with_all [] files = files
 with_all (f ∷ fs) files = with_all fs (with_bytes f.path f.bytes files)
 
+-- what a store holds, with these files in their places; the journal stays
 abbrev pub with_files : List FileOf → Held → Held
 with_files fs held = record held { files = with_all fs held.files }
 
+-- a file of the store stands at the path of each of these
 abbrev pub AreListed : Option Held → List FileOf → Type 0
 AreListed held fs = (f : FileOf) → Contains fs f → IsListed held f.path
 

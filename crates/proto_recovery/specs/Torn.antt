@@ -1,6 +1,7 @@
 -- A store in the midst of an entry.
-use Rattle.std.specs.Prelude.{◌≡◌, ◌⊎◌, ℕ, List, [], ◌∷◌, ◌++◌, Some, length}
+use Rattle.std.specs.Prelude.{◌≡◌, ◌⊎◌, List, [], ◌∷◌, ◌++◌, Some, length}
 use Rattle.std.specs.List.{Contains}
+use Rattle.proto_faults.specs.Texts.{Path, Text}
 use Rattle.proto_text.specs.Edits.{Puts}
 use Rattle.proto_files.specs.GivenFiles.{FileOf, paths_of}
 use Rattle.proto_entries.specs.Entries.{ChangeOf, turned_round}
@@ -18,29 +19,31 @@ pub record Keeps (files : List FileOf) (records : List Record) (held : Held) : T
 -- each file has its bytes from the one list of files or from the other
 pub record IsBetween (before after files : List FileOf) : Type 0 where
   pub paths : paths_of files ≡ paths_of before
-  pub bytes : (path : List ℕ) → (bytes_at path files ≡ bytes_at path before) ⊎ (bytes_at path files ≡ bytes_at path after)
+  pub bytes : (path : Path)
+      → (bytes_at path files ≡ bytes_at path before) ⊎ (bytes_at path files ≡ bytes_at path after)
 
--- Torn between the files before and after an entry, over the records of the entries before it: the journal has the entry
--- behind them, open.
-pub record IsTornBetween (records : List Record) (entry : List ChangeOf) (before after : List FileOf) (held : Held) : Type 0 where
+-- Torn between the files before and after an entry, over the records of the entries before it: the
+-- journal has the entry behind them, open.
+pub record IsTornBetween (records : List Record) (entry : List ChangeOf)
+    (before after : List FileOf) (held : Held) : Type 0 where
   pub journal : IsJournal held.journal (records ++ opened entry ∷ [])
   pub files : IsBetween before after held.files
 
 -- ---- torn
 
 -- a text is as before a change: it has the length before, and each old text at its place
-pub record IsAsBefore (c : ChangeOf) (text : List ℕ) : Type 0 where
+pub record IsAsBefore (c : ChangeOf) (text : Text) : Type 0 where
   pub len : length text ≡ c.before
-  pub new : List ℕ
+  pub new : Text
   pub puts : Puts 0 text c.splices new
 
 -- a text is as after a change: it has the length after, and each new text at its place
-abbrev pub IsAsAfter : ChangeOf → List ℕ → Type 0
+abbrev pub IsAsAfter : ChangeOf → Text → Type 0
 IsAsAfter c text = IsAsBefore (turned_round c) text
 
 -- the file of a change is there, and is as before or as after it
 pub record IsEitherWay (files : List FileOf) (c : ChangeOf) : Type 0 where
-  pub text : List ℕ
+  pub text : Text
   pub there : bytes_at c.path files ≡ Some text
   pub either : IsAsBefore c text ⊎ IsAsAfter c text
 

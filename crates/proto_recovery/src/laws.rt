@@ -1,4 +1,5 @@
-//! What holds of torn stores and of their recovery, for whoever builds on them. None of these does anything.
+//! What holds of torn stores and of their recovery, for
+//! whoever builds on them. None of these does anything.
 
 ghost use Rattle.proto_recovery.specs.Laws.{CutStaysTorn, NoTextIsBoth, RecoveriesAreOne, RecoveryGoesOn, TornBetweenIsTorn, TornComesBack};
 
@@ -10,7 +11,8 @@ pub fn torn_stores()
     ensures apart { NoTextIsBoth }
 {}
 
-/// Where no call of a store fails and memory is there, the store decides what a recovery answers, and what it leaves.
+/// Where no call of a store fails and memory is there, the
+/// store decides what a recovery answers, and what it leaves.
 pub fn recoveries_are_one()
     ensures { RecoveriesAreOne }
 {

@@ -1,4 +1,5 @@
-//! Bringing a store back that a failed call left in the midst of an entry. No schema is needed here.
+//! Bringing a store back that a failed call left in
+//! the midst of an entry. No schema is needed here.
 #![tactic(auto)]
 
 pub mod laws;

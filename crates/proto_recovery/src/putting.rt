@@ -23,7 +23,8 @@ fn put_files<S: Store>(store: &mut S, files: &[(String, Vec<u8>)]) -> Result<(),
     Ok(())
 }
 
-// Puts the files in their places, and then the journal. Where a call of the store fails, it goes no further.
+// Puts the files in their places, and then the journal.
+// Where a call of the store fails, it goes no further.
 pub(crate) fn put_back<S: Store>(
     store: &mut S,
     files: &[(String, Vec<u8>)],

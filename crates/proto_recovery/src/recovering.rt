@@ -27,15 +27,16 @@ fn open_entry(alloc: Global, journal: &[u8]) -> Result<Option<Entry>, JournalFau
     }
 }
 
-/// Brings a torn store back to before the last entry, which is open: each of its files that is as after it gets the old
-/// texts, no other file is replaced, and then the entry is taken off the journal. The answer is true. Where the last entry
-/// is not open, or there is none, the answer is false, and nothing changes. All that is written is made before the first
-/// write.
+/// Brings a torn store back to before the last entry, which is open: each of its files that is as
+/// after it gets the old texts, no other file is replaced, and then the entry is taken off the
+/// journal. The answer is true. Where the last entry is not open, or there is none, the answer is
+/// false, and nothing changes. All that is written is made before the first write.
 ///
-/// Refused are a journal that is none (`BadJournal`), and an open entry with a file that is not there, or is neither as
-/// before nor as after it (`Refused`, always `Stale`). `NoMemory` may come in place of any answer. After these the store is
-/// as before. `Store` comes exactly where a call of the store failed; then the store is as before, or it was torn and is so
-/// still, or it is recovered. A later call goes on from there.
+/// Refused are a journal that is none (`BadJournal`), and an open entry with a file that is not
+/// there, or is neither as before nor as after it (`Refused`, always `Stale`). `NoMemory` may come
+/// in place of any answer. After these the store is as before. `Store` comes exactly where a call
+/// of the store failed; then the store is as before, or it was torn and is so still, or it is
+/// recovered. A later call goes on from there.
 pub fn recover<S: Store>(alloc: Global, store: &mut S) -> Result<bool, JournalFault>
     requires { S.failure_count store.old < 2 ^ 64 - 1 }
     ensures outcome { RecoverOutcome (S.holds store.old) (S.holds store.new) result }

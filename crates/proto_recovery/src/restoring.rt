@@ -35,7 +35,8 @@ fn changed(alloc: Global, change: &Change, text: &[u8]) -> Result<Option<Vec<u8>
     }
 }
 
-// The text before a change, where this one is as after it; none where it is as before it. The other change leads back.
+// The text before a change, where this one is as after it;
+// none where it is as before it. The other change leads back.
 fn old_text(
     alloc: Global,
     change: &Change,
