@@ -18,32 +18,41 @@ pub record Stays (from to : List FileOf) (old new : Option Held) : Type 0 where
   pub workspace : to ≡ from
   pub store : new ≡ old
 
--- The edit is made and journalled: where the journal was that of records of which none is open, it now has the entry behind
--- them, done, and the files are those of the workspace after the edit.
-pub record IsCommitted (e : Asked) (entry : List ChangeOf) (from to : List FileOf) (old new : Option Held) : Type 0 where
+-- The edit is made and journalled: where the journal was that of records of which none is open, it
+-- now has the entry behind them, done, and the files are those of the workspace after the edit.
+pub record IsCommitted (e : Asked) (entry : List ChangeOf) (from to : List FileOf)
+    (old new : Option Held) : Type 0 where
   pub step : IsMappedStep from e entry to
-  pub store : OverBoth old new (λ then now. (records : List Record) × IsReadyWith records then × Keeps to (records ++ done entry ∷ []) now)
+  pub store : OverBoth old new (λ then now. (records : List Record)
+      × IsReadyWith records then × Keeps to (records ++ done entry ∷ []) now)
 
--- A store call failed: the store is as before; or the edit can be made, and the store is torn between the files before and
--- after it over the old records, or as after the commit.
+-- A store call failed: the store is as before; or the edit can be made, and the store is torn
+-- between the files before and after it over the old records, or as after the commit.
 abbrev pub IsCommitCut : Asked → List FileOf → Option Held → Option Held → Type 0
-IsCommitCut e from old new = (new ≡ old) ⊎ ((entry : List ChangeOf) × (made : List FileOf) × IsMappedStep from e entry made
+IsCommitCut e from old new = (new ≡ old)
+    ⊎ ((entry : List ChangeOf) × (made : List FileOf) × IsMappedStep from e entry made
     × OverBoth old new (λ then now. (records : List Record) × IsReadyWith records then
     × (IsTornBetween records entry from made now ⊎ Keeps made (records ++ done entry ∷ []) now)))
 
 -- the edit can be made, but the journal with its entry would pass the limit
 abbrev pub IsFull : Asked → List FileOf → Option Held → Type 0
-IsFull e from old = (entry : List ChangeOf) × (made : List FileOf) × IsMappedStep from e entry made
-    × Over old (λ then. (records : List Record) × IsReadyWith records then × (journal_limit < length (journal_text (records ++ done entry ∷ []))))
+IsFull e from old =
+    (entry : List ChangeOf) × (made : List FileOf) × IsMappedStep from e entry made
+    × Over old (λ then. (records : List Record) × IsReadyWith records then
+    × (journal_limit < length (journal_text (records ++ done entry ∷ []))))
 
 -- An answer, the workspace's files before and after, and the store then and now.
-abbrev pub CommitOutcome : Asked → List FileOf → List FileOf → Option Held → Option Held → Result (List ChangeOf) JournalFault → Type 0
+abbrev pub CommitOutcome : Asked → List FileOf → List FileOf → Option Held → Option Held
+    → Result (List ChangeOf) JournalFault → Type 0
 CommitOutcome e from to old new (Ok entry) = IsCommitted e entry from to old new
-CommitOutcome e from to old new (Err fault.BadJournal) = Stays from to old new × Over old IsUnreadable
+CommitOutcome e from to old new (Err fault.BadJournal) =
+    Stays from to old new × Over old IsUnreadable
 CommitOutcome e from to old new (Err fault.NothingToUndo) = ⊥
-CommitOutcome e from to old new (Err fault.OpenEntry) = Stays from to old new × Over old HasOpenEntry
+CommitOutcome e from to old new (Err fault.OpenEntry) =
+    Stays from to old new × Over old HasOpenEntry
 CommitOutcome e from to old new (Err fault.Store) = (to ≡ from) × IsCommitCut e from old new
 CommitOutcome e from to old new (Err fault.JournalFull) = Stays from to old new × IsFull e from old
 CommitOutcome e from to old new (Err fault.NoMemory) = Stays from to old new
 CommitOutcome e from to old new (Err (fault.Refused refusal.NoMemory)) = ⊥
-CommitOutcome e from to old new (Err (fault.Refused r)) = Stays from to old new × Over old IsReady × IsRefusal from e r
+CommitOutcome e from to old new (Err (fault.Refused r)) =
+    Stays from to old new × Over old IsReady × IsRefusal from e r

@@ -1,6 +1,7 @@
 -- What is read of a store.
 use Rattle.std.specs.Prelude.{◌≡◌, ℕ, ◌+◌, List, codes, Option, Result, Ok, Err}
 use Rattle.proto_faults.specs.FaultTable.{number_of, name_of}
+use Rattle.proto_faults.specs.Texts.{Text}
 use Rattle.proto_files.specs.Faults.{IsLeastFault, fault_at}
 use Rattle.proto_files.specs.GivenFiles.{FileOf}
 use Rattle.proto_schema.specs.Whole.{WorkspaceFaults}
@@ -16,7 +17,8 @@ use Rattle.proto_recovery.specs.Known.{Over}
 -- a workspace of the store's files, which compile; or their least fault
 abbrev pub LoadOutcome : Option Held → Result (List FileOf) LoadFault → Type 0
 LoadOutcome held (Ok files) = AreCompiled files × HoldsFiles held files
-LoadOutcome held (Err (load.Schema f)) = Over held (λ now. IsLeastFault (WorkspaceFaults now.files) (fault_at f))
+LoadOutcome held (Err (load.Schema f)) =
+    Over held (λ now. IsLeastFault (WorkspaceFaults now.files) (fault_at f))
 LoadOutcome held (Err load.Store) = Unit {0}
 LoadOutcome held (Err load.NoMemory) = Unit {0}
 
@@ -46,12 +48,14 @@ abbrev pub CountsLoad : {T : Type 0} → ℕ → ℕ → Result T LoadFault → 
 CountsLoad before after (Err load.Store) = after ≡ before + 1
 CountsLoad before after _ = after ≡ before
 
+-- the number of a schemas' fault in the table of faults, and 0 of what is no fault of theirs
 abbrev pub fault_number : LoadFault → ℕ
 fault_number (load.Schema f) = number_of f.kind
 fault_number load.Store = 0
 fault_number load.NoMemory = 0
 
-abbrev pub fault_name : LoadFault → List ℕ
+-- the name of a schemas' fault in the table of faults, and of what else may go wrong in loading
+abbrev pub fault_name : LoadFault → Text
 fault_name (load.Schema f) = name_of f.kind
 fault_name load.Store = codes "Store"
 fault_name load.NoMemory = codes "NoMemory"

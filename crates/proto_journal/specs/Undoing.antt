@@ -18,31 +18,40 @@ use Rattle.proto_recovery.specs.Torn.{IsTornBetween, Keeps}
 abbrev pub EndsIn : List Record → List ChangeOf → Held → Type 0
 EndsIn records entry held = IsJournal held.journal (records ++ done entry ∷ [])
 
--- The last entry is undone: the workspace and the store have the files from before it, and the journal is without it.
-pub record IsUndone (entry : List ChangeOf) (from to : List FileOf) (old new : Option Held) : Type 0 where
+-- The last entry is undone: the workspace and the store have
+-- the files from before it, and the journal is without it.
+pub record IsUndone (entry : List ChangeOf) (from to : List FileOf) (old new : Option Held)
+    : Type 0 where
   pub files : IsUndo from entry to
-  pub store : OverBoth old new (λ then now. (records : List Record) × EndsIn records entry then × Keeps to records now)
+  pub store : OverBoth old new (λ then now. (records : List Record)
+      × EndsIn records entry then × Keeps to records now)
 
--- A store call failed: the store is as before; or the last entry can be undone, and the store is torn between the files
--- before and after the entry over the records before it, or as after the undo.
+-- A store call failed: the store is as before; or the last entry
+-- can be undone, and the store is torn between the files before and
+-- after the entry over the records before it, or as after the undo.
 abbrev pub IsUndoCut : List FileOf → Option Held → Option Held → Type 0
-IsUndoCut from old new = (new ≡ old) ⊎ ((entry : List ChangeOf) × (made : List FileOf) × IsUndo from entry made
+IsUndoCut from old new = (new ≡ old)
+    ⊎ ((entry : List ChangeOf) × (made : List FileOf) × IsUndo from entry made
     × OverBoth old new (λ then now. (records : List Record) × EndsIn records entry then
     × (IsTornBetween records entry made from now ⊎ Keeps made records now)))
 
--- The last entry can't be undone: its files are not as it left them, or what was before it would not compile.
+-- The last entry can't be undone: its files are not as
+-- it left them, or what was before it would not compile.
 abbrev pub IsStale : List FileOf → Option Held → Type 0
 IsStale from old = (entry : List ChangeOf) × ((before : List FileOf) → IsUndo from entry before → ⊥)
     × Over old (λ then. (records : List Record) × EndsIn records entry then)
 
 -- An answer, the workspace's files before and after, and the store then and now.
-abbrev pub UndoOutcome : List FileOf → List FileOf → Option Held → Option Held → Result (List ChangeOf) JournalFault → Type 0
+abbrev pub UndoOutcome : List FileOf → List FileOf → Option Held → Option Held
+    → Result (List ChangeOf) JournalFault → Type 0
 UndoOutcome from to old new (Ok entry) = IsUndone entry from to old new
 UndoOutcome from to old new (Err fault.BadJournal) = Stays from to old new × Over old IsUnreadable
-UndoOutcome from to old new (Err fault.NothingToUndo) = Stays from to old new × Over old (λ then. then.journal ≡ [])
+UndoOutcome from to old new (Err fault.NothingToUndo) =
+    Stays from to old new × Over old (λ then. then.journal ≡ [])
 UndoOutcome from to old new (Err fault.OpenEntry) = Stays from to old new × Over old HasOpenEntry
 UndoOutcome from to old new (Err fault.Store) = (to ≡ from) × IsUndoCut from old new
 UndoOutcome from to old new (Err fault.JournalFull) = ⊥
 UndoOutcome from to old new (Err fault.NoMemory) = Stays from to old new
-UndoOutcome from to old new (Err (fault.Refused refusal.Stale)) = Stays from to old new × IsStale from old
+UndoOutcome from to old new (Err (fault.Refused refusal.Stale)) =
+    Stays from to old new × IsStale from old
 UndoOutcome from to old new (Err (fault.Refused _)) = ⊥

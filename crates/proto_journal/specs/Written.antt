@@ -1,5 +1,6 @@
 -- Where a store stands while files and journal are written, and what is made before.
-use Rattle.std.specs.Prelude.{◌≡◌, ◌⊎◌, ℕ, ◌<◌, List, [], ◌∷◌, ◌++◌, length, true, false, Option, option_map, Result, Ok, Err}
+use Rattle.std.specs.Prelude.{◌≡◌, ◌⊎◌, ◌<◌, List, [], ◌∷◌, ◌++◌, length, true, false, Option, option_map, Result, Ok, Err}
+use Rattle.proto_faults.specs.Texts.{Text}
 use Rattle.proto_files.specs.GivenFiles.{FileOf}
 use Rattle.proto_entries.specs.Entries.{ChangeOf}
 use Rattle.proto_entries.specs.declared.refusal.Refusal.TheVariants as refusal
@@ -15,15 +16,18 @@ use Rattle.proto_recovery.specs.Torn.{IsBetween}
 
 -- ---- written
 
-abbrev pub held : List FileOf → List ℕ → Held
+-- a store of these files and this journal
+abbrev pub held : List FileOf → Text → Held
 held files journal = record { files = files; journal = journal }
 
+-- a store with these files in place of its own; the journal stays
 abbrev pub with_files : List FileOf → Held → Held
 with_files files h = record h { files = files }
 
 -- a file has its bytes of afterwards: they were written, or it had them
 abbrev pub IsReplaced : FileOf → FileOf → Option Held → Option Held → Type 0
-IsReplaced from to old new = (new ≡ option_map (with_file to.path to.bytes) old) ⊎ ((from.bytes ≡ to.bytes) × (new ≡ old))
+IsReplaced from to old new = (new ≡ option_map (with_file to.path to.bytes) old)
+    ⊎ ((from.bytes ≡ to.bytes) × (new ≡ old))
 
 -- a write of a file failed: it has its old bytes or the new ones
 abbrev pub IsHalfReplaced : FileOf → Option Held → Option Held → Type 0
@@ -31,10 +35,12 @@ IsHalfReplaced to old new = (new ≡ old) ⊎ (new ≡ option_map (with_file to.
 
 -- the journal is as it was, and each file is as before or as after
 abbrev pub AreBetween : List FileOf → List FileOf → Option Held → Option Held → Type 0
-AreBetween before after old new = OverBoth old new (λ then now. (now.journal ≡ then.journal) × IsBetween before after now.files)
+AreBetween before after old new = OverBoth old new (λ then now.
+    (now.journal ≡ then.journal) × IsBetween before after now.files)
 
--- as before the first write; between the files, with the first text; or with the new files and the last text
-abbrev pub Passes : List FileOf → List FileOf → List ℕ → List ℕ → Option Held → Option Held → Type 0
+-- as before the first write; between the files, with the
+-- first text; or with the new files and the last text
+abbrev pub Passes : List FileOf → List FileOf → Text → Text → Option Held → Option Held → Type 0
 Passes before after first last old new = (new ≡ old)
     ⊎ (OverBoth old new (λ then now. (now.journal ≡ first) × IsBetween before after now.files)
     ⊎ (new ≡ option_map (λ h. held after last) old))
@@ -42,20 +48,26 @@ Passes before after first last old new = (new ≡ old)
 -- ---- made before
 
 -- the text is this journal with one more record
-abbrev pub AddsTo : List ℕ → Record → List ℕ → Type 0
-AddsTo journal r text = (records : List Record) → IsJournal journal records → is_last_open records ≡ false → IsJournal text (records ++ r ∷ [])
+abbrev pub AddsTo : Text → Record → Text → Type 0
+AddsTo journal r text = (records : List Record)
+    → IsJournal journal records → is_last_open records ≡ false
+    → IsJournal text (records ++ r ∷ [])
 
 -- the text is this journal without its last record
-abbrev pub Shortens : List ℕ → List ℕ → Type 0
-Shortens journal text = (records : List Record) (r : Record) → IsJournal journal (records ++ r ∷ []) → IsJournal text records
+abbrev pub Shortens : Text → Text → Type 0
+Shortens journal text = (records : List Record) (r : Record)
+    → IsJournal journal (records ++ r ∷ []) → IsJournal text records
 
 -- the text is this journal with its last entry, which was done, open
-abbrev pub Reopens : List ℕ → List ChangeOf → List ℕ → Type 0
-Reopens journal entry text = (records : List Record) → IsJournal journal (records ++ done entry ∷ []) → IsJournal text (records ++ opened entry ∷ [])
+abbrev pub Reopens : Text → List ChangeOf → Text → Type 0
+Reopens journal entry text = (records : List Record)
+    → IsJournal journal (records ++ done entry ∷ []) → IsJournal text (records ++ opened entry ∷ [])
 
--- Why a commit over this journal is not prepared: the edit is refused, or the journal with its entry would pass the limit.
-abbrev pub IsUnprepared : List FileOf → Asked → List ℕ → JournalFault → Type 0
-IsUnprepared from e journal fault.JournalFull = (entry : List ChangeOf) × (made : List FileOf) × IsMappedStep from e entry made
+-- Why a commit over this journal is not prepared: the edit is refused, or the journal with its
+-- entry would pass the limit.
+abbrev pub IsUnprepared : List FileOf → Asked → Text → JournalFault → Type 0
+IsUnprepared from e journal fault.JournalFull =
+    (entry : List ChangeOf) × (made : List FileOf) × IsMappedStep from e entry made
     × (journal_limit < length (journal ++ record_text (done entry)))
 IsUnprepared from e journal fault.NoMemory = Unit {0}
 IsUnprepared from e journal fault.BadJournal = ⊥
@@ -66,10 +78,13 @@ IsUnprepared from e journal (fault.Refused refusal.NoMemory) = ⊥
 IsUnprepared from e journal (fault.Refused r) = IsRefusal from e r
 
 -- the last entry of a journal, which is done; or why there is none to undo
-abbrev pub LastOutcome : List ℕ → Result (List ChangeOf) JournalFault → Type 0
-LastOutcome journal (Ok entry) = (records : List Record) × IsJournal journal (records ++ done entry ∷ [])
-LastOutcome journal (Err fault.BadJournal) = (records : List Record) → IsJournal journal records → ⊥
-LastOutcome journal (Err fault.OpenEntry) = (records : List Record) × IsJournal journal records × (is_last_open records ≡ true)
+abbrev pub LastOutcome : Text → Result (List ChangeOf) JournalFault → Type 0
+LastOutcome journal (Ok entry) =
+    (records : List Record) × IsJournal journal (records ++ done entry ∷ [])
+LastOutcome journal (Err fault.BadJournal) =
+    (records : List Record) → IsJournal journal records → ⊥
+LastOutcome journal (Err fault.OpenEntry) =
+    (records : List Record) × IsJournal journal records × (is_last_open records ≡ true)
 LastOutcome journal (Err fault.NothingToUndo) = journal ≡ []
 LastOutcome journal (Err fault.NoMemory) = Unit {0}
 LastOutcome journal (Err fault.Store) = ⊥

@@ -59,14 +59,16 @@ fn prepare(
     })
 }
 
-/// Makes an edit: writes it into the journal as open, replaces the changed files in the order of their paths, marks it as
-/// done, and puts the workspace in place. All that is written is made before the first write.
+/// Makes an edit: writes it into the journal as open, replaces the changed
+/// files in the order of their paths, marks it as done, and puts the
+/// workspace in place. All that is written is made before the first write.
 ///
-/// Refused are, in this order: a journal that is none (`BadJournal`), one whose last entry is open (`OpenEntry`), an edit that
-/// is not admissible (`Refused`), and an edit with which the journal would pass 16,777,216 bytes (`JournalFull`). `NoMemory`
-/// may come in place of any answer. After these, store and workspace are as before. `Store` comes exactly where a call of the
-/// store failed; then the workspace is as before, and the store is as before, torn between the files before and after the
-/// edit, or as after it.
+/// Refused are, in this order: a journal that is none (`BadJournal`), one whose last entry is open
+/// (`OpenEntry`), an edit that is not admissible (`Refused`), and an edit with which the journal
+/// would pass 16,777,216 bytes (`JournalFull`). `NoMemory` may come in place of any answer. After
+/// these, store and workspace are as before. `Store` comes exactly where a call of the store
+/// failed; then the workspace is as before, and the store is as before, torn between the files
+/// before and after the edit, or as after it.
 pub fn commit<S: Store>(
     alloc: Global,
     store: &mut S,

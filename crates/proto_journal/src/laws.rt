@@ -1,4 +1,5 @@
-//! What holds of commits, undos and torn stores, for whoever builds on them. None of these does anything.
+//! What holds of commits, undos and torn stores, for
+//! whoever builds on them. None of these does anything.
 
 ghost use Rattle.proto_journal.specs.Laws.{CommitsAreOne, CutCommitsComeBack, CutUndosComeBack, TornUndoIsTorn, UndosAreOne};
 ghost use Rattle.proto_recovery.specs.Laws.{TornBetweenIsTorn};
@@ -7,8 +8,8 @@ use proto_edit::laws::answers_are_one as edits_are_one;
 use proto_records::laws::{journals_are_read_in_one_way, journals_grow_and_shrink};
 use proto_recovery::laws::{recoveries_are_one, torn_stores_come_back};
 
-/// Where no call of a store fails and memory is there, the store and the workspace decide what a commit or an undo answers,
-/// and what it leaves.
+/// Where no call of a store fails and memory is there, the store and the workspace decide what a
+/// commit or an undo answers, and what it leaves.
 pub fn answers_are_one()
     ensures commits { CommitsAreOne }
     ensures undos { UndosAreOne }
@@ -17,7 +18,8 @@ pub fn answers_are_one()
     edits_are_one();
 }
 
-/// Where a commit or an undo leaves a store torn, each file of the entry is as before or as after it.
+/// Where a commit or an undo leaves a store torn, each
+/// file of the entry is as before or as after it.
 pub fn torn_stores()
     ensures made { TornBetweenIsTorn }
     ensures undone { TornUndoIsTorn }

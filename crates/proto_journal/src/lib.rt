@@ -1,4 +1,5 @@
-//! The journal of a store: edits that are written down before they are made, and the way back, also from a torn store.
+//! The journal of a store: edits that are written down before
+//! they are made, and the way back, also from a torn store.
 #![tactic(auto)]
 
 mod committing;

@@ -70,8 +70,9 @@ impl<T: Drop> From<AllocFailed<T>> for LoadFault {
     }
 }
 
-/// All files of the store, in the order of their paths. It ends with `Store` at the first call of the store that fails, and
-/// with `NoMemory` where memory runs out; `Schema` never comes. The store is as before.
+/// All files of the store, in the order of their paths. It ends with
+/// `Store` at the first call of the store that fails, and with `NoMemory`
+/// where memory runs out; `Schema` never comes. The store is as before.
 pub fn all_files<S: Store>(
     alloc: Global,
     store: &mut S,
@@ -94,8 +95,9 @@ pub fn all_files<S: Store>(
     Ok(files)
 }
 
-/// The workspace of the store's files, where they compile; else `Schema` with their least fault. It ends with `Store` at the
-/// first call of the store that fails, and with `NoMemory` where memory runs out. The store is as before.
+/// The workspace of the store's files, where they compile; else `Schema` with their least fault. It
+/// ends with `Store` at the first call of the store that fails, and with `NoMemory` where memory
+/// runs out. The store is as before.
 pub fn load<S: Store>(alloc: Global, store: &mut S) -> Result<Workspace, LoadFault>
     requires { S.failure_count store.old < 2 ^ 64 - 1 }
     ensures outcome { LoadOutcome (S.holds store.old) result }

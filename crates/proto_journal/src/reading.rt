@@ -9,8 +9,9 @@ use proto_records::{JournalFault, last_is_open, read_records};
 use proto_store::{Store, StoreFault};
 use std::alloc::Global;
 
-/// Whether edits and undo may begin. `BadJournal` comes where the journal is none, `OpenEntry` where its last entry is open;
-/// `Store` at the first call of the store that fails, and `NoMemory` where memory runs out. The store is as before.
+/// Whether edits and undo may begin. `BadJournal` comes where the journal is none, `OpenEntry`
+/// where its last entry is open; `Store` at the first call of the store that fails, and `NoMemory`
+/// where memory runs out. The store is as before.
 pub fn ready<S: Store>(alloc: Global, store: &mut S) -> Result<(), JournalFault>
     requires { S.failure_count store.old < 2 ^ 64 - 1 }
     ensures outcome { ReadyOutcome (S.holds store.old) result }

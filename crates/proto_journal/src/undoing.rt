@@ -47,13 +47,15 @@ fn reopened(alloc: Global, journal: &[u8], entry: &Entry) -> Result<Vec<u8>, NoM
     with_record(alloc, before, State::Open, entry)
 }
 
-/// Undoes the last entry: marks it in the journal as open, puts its files back to before it, in the order of their paths,
-/// takes it off the journal, and puts the workspace in place. All that is written is made before the first write.
+/// Undoes the last entry: marks it in the journal as open, puts its files back to before it, in the
+/// order of their paths, takes it off the journal, and puts the workspace in place. All that is
+/// written is made before the first write.
 ///
-/// Refused are, in this order: a journal that is none (`BadJournal`), one whose last entry is open (`OpenEntry`), an empty one
-/// (`NothingToUndo`), and an entry that is stale (`Refused`). `NoMemory` may come in place of any answer. After these, store
-/// and workspace are as before. `Store` comes exactly where a call of the store failed; then the workspace is as before, and
-/// the store is as before, torn between the files before and after the entry, or as after the undo.
+/// Refused are, in this order: a journal that is none (`BadJournal`), one whose last entry is open
+/// (`OpenEntry`), an empty one (`NothingToUndo`), and an entry that is stale (`Refused`).
+/// `NoMemory` may come in place of any answer. After these, store and workspace are as before.
+/// `Store` comes exactly where a call of the store failed; then the workspace is as before, and the
+/// store is as before, torn between the files before and after the entry, or as after the undo.
 pub fn undo_last<S: Store>(
     alloc: Global,
     store: &mut S,

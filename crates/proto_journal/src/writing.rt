@@ -49,8 +49,8 @@ fn replace_files<S: Store>(store: &mut S, before: &Files, after: &Files) -> Resu
     Ok(())
 }
 
-// Replaces the journal by the first text, then each file that differs, in the order of the paths, then the journal by the
-// last text. Where a call of the store fails, it goes no further.
+// Replaces the journal by the first text, then each file that differs, in the order of the paths,
+// then the journal by the last text. Where a call of the store fails, it goes no further.
 pub(crate) fn write_through<S: Store>(
     store: &mut S,
     first: &[u8],
