@@ -11,19 +11,22 @@ use Rattle.proto_output.specs.declared.status.Status.{Status}
 use Rattle.proto_output.specs.declared.status.Status.TheVariants.{Done}
 use Rattle.proto_store.specs.Stores.{Held}
 
+-- the text that an answer prints
 abbrev pub text_of : Answer → List ℕ
 text_of (Text text status) = string_bytes text
 text_of (Changed entry) = changed_lines entry
 text_of (Recovery recovered) = recovery_line recovered
 
+-- how the command of an answer ends; changes and recoveries end well
 abbrev pub status_of : Answer → Status
 status_of (Text text status) = status
 status_of (Changed entry) = Done
 status_of (Recovery recovered) = Done
 
--- What a command answers before it writes: the text and the status that it prints; or that a store call failed, which may have cut it;
--- or want of memory, which leaves the store.
-abbrev pub IsAnswer : (List ℕ → Status → Type 0) → Type 0 → Option Held → Option Held → Result Answer RunFault → Type 0
+-- What a command answers before it writes: the text and the status that it prints; or that a store
+-- call failed, which may have cut it; or want of memory, which leaves the store.
+abbrev pub IsAnswer : (List ℕ → Status → Type 0) → Type 0
+    → Option Held → Option Held → Result Answer RunFault → Type 0
 IsAnswer Prints Cut before after (Ok answer) = Prints (text_of answer) (status_of answer)
 IsAnswer Prints Cut before after (Err Store) = Cut
 IsAnswer Prints Cut before after (Err NoMemory) = after ≡ before

@@ -1,21 +1,25 @@
--- How a command ends: its status, or the fault for which it has no answer (the choice of this program).
-use Rattle.std.specs.Prelude.{◌≡◌, ℕ, ◌+◌, List, codes, Result, Err}
+-- How a command ends: its status, or the fault for
+-- which it has no answer (the choice of this program).
+use Rattle.std.specs.Prelude.{◌≡◌, ℕ, ◌+◌, codes, Result, Err}
+use Rattle.proto_faults.specs.Texts.{Text}
 use Rattle.proto_output.specs.declared.run_fault.RunFault.{RunFault}
 use Rattle.proto_output.specs.declared.run_fault.RunFault.TheVariants.{Store, NoMemory, Output}
 use Rattle.proto_output.specs.declared.status.Status.{Status}
 use Rattle.proto_output.specs.declared.status.Status.TheVariants.{Done, Problem}
 
+-- the number that the program ends with
 abbrev pub code_of : Status → ℕ
 code_of Done = 0
 code_of Problem = 1
 
-abbrev pub fault_name : RunFault → List ℕ
+-- the name of what stops a command
+abbrev pub fault_name : RunFault → Text
 fault_name Store = codes "Store"
 fault_name NoMemory = codes "NoMemory"
 fault_name Output = codes "Output"
 
 -- the line for standard error
-abbrev pub fault_text : RunFault → List ℕ
+abbrev pub fault_text : RunFault → Text
 fault_text Store = codes "protoref: store failed"
 fault_text NoMemory = codes "protoref: no memory"
 fault_text Output = codes "protoref: output failed"

@@ -1,6 +1,7 @@
 -- The line of a finding in one of the files: the choice of this project.
 use Rattle.std.specs.Prelude.{ℕ, List, [], ◌++◌, codes, decimal}
 use Rattle.std.specs.Option.{unwrap_or}
+use Rattle.proto_faults.specs.Texts.{Path, Text}
 use Rattle.proto_files.specs.GivenFiles.{FileOf}
 use Rattle.proto_findings.specs.Listings.{FindingOf}
 use Rattle.proto_findings.specs.Rules.{identifier}
@@ -8,15 +9,16 @@ use Rattle.proto_store.specs.Stores.{bytes_at}
 use Rattle.proto_text.specs.Lines.{column_at, line_at}
 
 -- the text of the file at a path
-abbrev pub text_at : List ℕ → List FileOf → List ℕ
+abbrev pub text_at : Path → List FileOf → Text
 text_at path files = unwrap_or (bytes_at path files) []
 
 -- `path:line:column: RULE name`
-abbrev pub line_of : FindingOf → ℕ → ℕ → List ℕ
+abbrev pub line_of : FindingOf → ℕ → ℕ → Text
 line_of f line column =
     f.path ++ (codes ":" ++ (decimal line ++ (codes ":" ++ (decimal column
     ++ (codes ": " ++ (identifier f.rule ++ (codes " " ++ (f.name ++ codes "\n"))))))))
 
 -- the line of a finding in one of the files
-abbrev pub found_line : List FileOf → FindingOf → List ℕ
-found_line files f = line_of f (line_at (text_at f.path files) f.offset) (column_at (text_at f.path files) f.offset)
+abbrev pub found_line : List FileOf → FindingOf → Text
+found_line files f =
+    line_of f (line_at (text_at f.path files) f.offset) (column_at (text_at f.path files) f.offset)

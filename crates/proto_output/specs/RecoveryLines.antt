@@ -1,13 +1,15 @@
 -- What is printed of a recovery: the choice of this program.
-use Rattle.std.specs.Prelude.{ℕ, List, ◌++◌, Bool, true, false, codes, decimal}
+use Rattle.std.specs.Prelude.{◌++◌, Bool, true, false, codes, decimal}
+use Rattle.proto_faults.specs.Texts.{Text}
 use Rattle.proto_entries.specs.RefusalTable.{name_of, number_of}
 use Rattle.proto_entries.specs.declared.refusal.Refusal.{Refusal}
 
 -- whether a store was recovered: `recovered`, or `nothing to recover`
-abbrev pub recovery_line : Bool → List ℕ
+abbrev pub recovery_line : Bool → Text
 recovery_line true = codes "recovered\n"
 recovery_line false = codes "nothing to recover\n"
 
 -- `refused: NUMBER NAME`, of a refusal that tells of no reference
-abbrev pub plain_refused_line : Refusal → List ℕ
-plain_refused_line r = codes "refused: " ++ (decimal (number_of r) ++ (codes " " ++ (name_of r ++ codes "\n")))
+abbrev pub plain_refused_line : Refusal → Text
+plain_refused_line r =
+    codes "refused: " ++ (decimal (number_of r) ++ (codes " " ++ (name_of r ++ codes "\n")))

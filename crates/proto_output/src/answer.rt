@@ -17,9 +17,11 @@ use std::io::Write;
 pub enum Answer {
     /// A text, and how the command ends.
     Text(String, Status),
-    /// A line for each file that an entry changed, and that all is well. Nothing is left to be made for it.
+    /// A line for each file that an entry changed, and that
+    /// all is well. Nothing is left to be made for it.
     Changed(Entry),
-    /// A line that says whether a store was recovered, and that all is well. Nothing is left to be made for it either.
+    /// A line that says whether a store was recovered, and that
+    /// all is well. Nothing is left to be made for it either.
     Recovery(bool),
 }
 

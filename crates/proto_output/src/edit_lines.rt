@@ -16,7 +16,8 @@ use proto_records::JournalFault;
 use std::alloc::Global;
 use std::io::Write;
 
-/// Writes a line for each file that an entry changed, ended by a line feed: `changed PATH`. It takes no memory.
+/// Writes a line for each file that an entry changed, ended
+/// by a line feed: `changed PATH`. It takes no memory.
 pub fn write_changed<W: Write>(writer: &mut W, entry: &Entry) -> Result<(), OutputFault>
     ensures ok { OnOk result (Appends (W.contents writer.old)
         (W.contents writer.new) (changed_lines entry.now)) }
@@ -49,8 +50,9 @@ fn write_change<W: Write>(writer: &mut W, change: &Change) -> Result<(), OutputF
     write_text(writer, b"\n")
 }
 
-/// The line of a refusal, ended by a line feed: `refused: NUMBER NAME`, and behind it ` path:line:column` of the reference in these
-/// files that would be captured or is needed. Only want of memory is refused.
+/// The line of a refusal, ended by a line feed: `refused: NUMBER NAME`, and behind it
+/// ` path:line:column` of the reference in these files that would be captured or is needed. Only
+/// want of memory is refused.
 pub fn refusal_line(alloc: Global, refusal: &Refusal, files: &Files) -> Result<String, NoMemory>
     ensures { IfOk result (λ text. string_bytes text ≡ refused_line files.now refusal.now) }
 {
@@ -94,7 +96,8 @@ fn place_behind_space(
     Ok(format!(in alloc; " {path}:{line}:{column}")?)
 }
 
-/// The line of a fault of a journal, ended by a line feed: `journal: NUMBER NAME`. Only want of memory is refused.
+/// The line of a fault of a journal, ended by a line feed:
+/// `journal: NUMBER NAME`. Only want of memory is refused.
 pub fn journal_line(alloc: Global, fault: &JournalFault) -> Result<String, NoMemory>
     ensures { IfOk result (λ text. string_bytes text ≡ faulty_line fault.now) }
 {

@@ -14,8 +14,9 @@ use proto_files::{Files, file_named};
 use proto_findings::Finding;
 use std::alloc::Global;
 
-/// The line of each finding, ended by a line feed: `path:line:column: RULE name`. Findings in the order of their places
-/// take one walk through the files and their texts. Only want of memory is refused.
+/// The line of each finding, ended by a line feed:
+/// `path:line:column: RULE name`. Findings in the order of their places take
+/// one walk through the files and their texts. Only want of memory is refused.
 pub fn lines_of_findings(
     alloc: Global,
     files: &Files,
@@ -101,8 +102,8 @@ pub(crate) fn text_named<'a>(files: &'a Files, path: &str) -> &'a [u8]
     text_of(files, number_of(files, 0, path))
 }
 
-// The number of the file at a path, which is looked for from a number on and then before it; the count of the files where
-// there is none.
+// The number of the file at a path, which is looked for from a number on and then before it; the
+// count of the files where there is none.
 fn number_of(files: &Files, start: usize, path: &str) -> usize
     ensures { (file_at files.now result).bytes ≡ text_at path.now files.now }
 {

@@ -1,4 +1,5 @@
-//! What the program prints, and how a command ends: lines with their places, answers, and writing them whole.
+//! What the program prints, and how a command ends: lines
+//! with their places, answers, and writing them whole.
 #![tactic(auto)]
 
 mod answer;

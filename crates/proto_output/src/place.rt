@@ -36,8 +36,8 @@ impl Cursor {
         self.place
     }
 
-    /// At an offset of the text, or at the text's end, if it is shorter. From where it stands it goes over what lies
-    /// between; only to an offset before that it goes from the beginning.
+    /// At an offset of the text, or at the text's end, if it is shorter. From where it stands it
+    /// goes over what lies between; only to an offset before that it goes from the beginning.
     pub fn moved_to(self, text: &[u8], offset: u32) -> Cursor
         requires { IsCursorIn text.now self }
         ensures there { IsCursorIn text.now result }

@@ -11,7 +11,8 @@ use proto_faults::NoMemory;
 use std::alloc::Global;
 use std::io::Write;
 
-/// Writes whether a store was recovered, ended by a line feed: `recovered` or `nothing to recover`. It takes no memory.
+/// Writes whether a store was recovered, ended by a line feed:
+/// `recovered` or `nothing to recover`. It takes no memory.
 pub fn write_recovery<W: Write>(writer: &mut W, recovered: bool) -> Result<(), OutputFault>
     ensures ok { OnOk result (Appends (W.contents writer.old)
         (W.contents writer.new) (recovery_line recovered)) }
@@ -31,8 +32,8 @@ fn recovery_text(recovered: bool) -> &'static str
     }
 }
 
-/// The line of a refusal that tells of no reference, ended by a line feed: `refused: NUMBER NAME`. No files are asked for it.
-/// Only want of memory is refused.
+/// The line of a refusal that tells of no reference, ended by a line feed: `refused: NUMBER NAME`.
+/// No files are asked for it. Only want of memory is refused.
 pub fn plain_refusal_line(alloc: Global, refusal: &Refusal) -> Result<String, NoMemory>
     ensures { IfOk result (λ text. string_bytes text ≡ plain_refused_line refusal.now) }
 {

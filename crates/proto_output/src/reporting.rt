@@ -16,9 +16,10 @@ use proto_faults::Fault;
 use proto_store::{Store, StoreFault};
 use std::alloc::Global;
 
-/// The answer over files of a store of which this is the least fault: its line, and a problem. Where the offset alone does
-/// not tell the line and the column, the file is read again. It ends with `Store` where that fails, and with `NoMemory` where
-/// memory runs out; the store is as before.
+/// The answer over files of a store of which this is the least fault: its
+/// line, and a problem. Where the offset alone does not tell the line and
+/// the column, the file is read again. It ends with `Store` where that
+/// fails, and with `NoMemory` where memory runs out; the store is as before.
 pub fn reported<S: Store>(alloc: Global, store: &mut S, fault: &Fault) -> Result<Answer, RunFault>
     requires room { S.failure_count store.old < 2 ^ 64 - 1 }
     requires listed { 0 < fault.now.offset → IsListed

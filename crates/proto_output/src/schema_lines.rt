@@ -8,7 +8,8 @@ use crate::place::Place;
 use proto_faults::{Fault, NoMemory};
 use std::alloc::Global;
 
-/// The line of a fault at a place, ended by a line feed: `path:line:column: NUMBER NAME`. Only want of memory is refused.
+/// The line of a fault at a place, ended by a line feed:
+/// `path:line:column: NUMBER NAME`. Only want of memory is refused.
 pub fn schema_line(alloc: Global, fault: &Fault, place: Place) -> Result<String, NoMemory>
     ensures { IfOk result (λ text. string_bytes text
         ≡ line_of (fault_at fault.now) place.line place.column) }
