@@ -1,5 +1,6 @@
 -- What the log prints, and how it ends: the choice of this program.
-use Rattle.std.specs.Prelude.{◌≡◌, ℕ, List, Option, Result, Ok, Err}
+use Rattle.std.specs.Prelude.{◌≡◌, List, Option, Result, Ok, Err}
+use Rattle.proto_faults.specs.Texts.{Text}
 use Rattle.proto_recovery.specs.Known.{Over}
 use Rattle.proto_output.specs.Answers.{IsAnswer, status_of, text_of}
 use Rattle.proto_output.specs.EditLines.{faulty_line}
@@ -15,18 +16,24 @@ use Rattle.proto_records.specs.declared.record.Record.{Record}
 use Rattle.proto_store.specs.Stores.{Held}
 
 -- of a journal the lines of its records, and of what is none that it is bad
-abbrev pub PrintsLog : List ℕ → List ℕ → Status → Type 0
-PrintsLog journal text Done = (records : List Record) × IsJournal journal records × (text ≡ log_lines records)
-PrintsLog journal text Problem = ((records : List Record) → IsJournal journal records → ⊥) × (text ≡ faulty_line fault.BadJournal)
+abbrev pub PrintsLog : Text → Text → Status → Type 0
+PrintsLog journal text Done =
+    (records : List Record) × IsJournal journal records × (text ≡ log_lines records)
+PrintsLog journal text Problem =
+    ((records : List Record) → IsJournal journal records → ⊥)
+    × (text ≡ faulty_line fault.BadJournal)
 
 -- the answer over the bytes of a journal; only memory may be wanting
-abbrev pub TellsLog : List ℕ → Result Answer RunFault → Type 0
+abbrev pub TellsLog : Text → Result Answer RunFault → Type 0
 TellsLog journal (Ok answer) = PrintsLog journal (text_of answer) (status_of answer)
 TellsLog journal (Err e) = e ≡ ends.NoMemory
 
 -- the log of a store, which stays as it is
-abbrev pub PrintsLogOf : Option Held → Option Held → List ℕ → Status → Type 0
-PrintsLogOf before after text status = (after ≡ before) × Over before (λ held. PrintsLog held.journal text status)
+abbrev pub PrintsLogOf : Option Held → Option Held → Text → Status → Type 0
+PrintsLogOf before after text status =
+    (after ≡ before) × Over before (λ held. PrintsLog held.journal text status)
 
+-- the answer of the log before it is written, and the store then and now
 abbrev pub AnswersLog : Option Held → Option Held → Result Answer RunFault → Type 0
-AnswersLog before after result = IsAnswer (PrintsLogOf before after) (after ≡ before) before after result
+AnswersLog before after result =
+    IsAnswer (PrintsLogOf before after) (after ≡ before) before after result

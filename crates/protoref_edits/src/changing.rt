@@ -15,9 +15,10 @@ use proto_journal::{Edit, Store, Workspace, commit, undo_last};
 use proto_output::{Answer, RunFault};
 use std::alloc::Global;
 
-/// Makes an edit in a store. A journal that is none or whose last entry is open is told of first, then the least fault of the
-/// files, and then what the commit answers: the changed files, why the edit is refused, or that the journal is full. It ends with
-/// `Store` at the first call of the store that fails, which leaves the store as before or as a commit that was cut, and with
+/// Makes an edit in a store. A journal that is none or whose last entry is open is told of first,
+/// then the least fault of the files, and then what the commit answers: the changed files, why the
+/// edit is refused, or that the journal is full. It ends with `Store` at the first call of the
+/// store that fails, which leaves the store as before or as a commit that was cut, and with
 /// `NoMemory` where memory runs out, which leaves the store as before.
 pub fn edit_answer<S: Store>(alloc: Global, edit: Edit, store: &mut S) -> Result<Answer, RunFault>
     requires { S.failure_count store.old < 2 ^ 64 - 1 }
@@ -48,10 +49,11 @@ fn committed<S: Store>(
     outcome_answer(alloc, workspace.files(), outcome)
 }
 
-/// Undoes the last entry of a store's journal. A journal that is none or whose last entry is open is told of first, then the least
-/// fault of the files, and then what the undo answers: the changed files, that there is nothing to undo, or that the entry is
-/// stale. It ends with `Store` at the first call of the store that fails, which leaves the store as before or as an undo that was
-/// cut, and with `NoMemory` where memory runs out, which leaves the store as before.
+/// Undoes the last entry of a store's journal. A journal that is none or whose last entry is open
+/// is told of first, then the least fault of the files, and then what the undo answers: the changed
+/// files, that there is nothing to undo, or that the entry is stale. It ends with `Store` at the
+/// first call of the store that fails, which leaves the store as before or as an undo that was cut,
+/// and with `NoMemory` where memory runs out, which leaves the store as before.
 pub fn undo_answer<S: Store>(alloc: Global, store: &mut S) -> Result<Answer, RunFault>
     requires { S.failure_count store.old < 2 ^ 64 - 1 }
     ensures outcome { AnswersUndo (S.holds store.old) (S.holds store.new) result }

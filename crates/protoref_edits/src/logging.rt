@@ -9,8 +9,8 @@ use proto_journal::{Store, read_records};
 use proto_output::{Answer, RunFault, Status, lines_of_records};
 use std::alloc::Global;
 
-/// Tells of the entries of a store's journal, or that it is none. It ends with `Store` where the call of the store fails, and
-/// with `NoMemory` where memory runs out. The store is as before.
+/// Tells of the entries of a store's journal, or that it is none. It ends with `Store` where the
+/// call of the store fails, and with `NoMemory` where memory runs out. The store is as before.
 pub fn log_answer<S: Store>(alloc: Global, store: &mut S) -> Result<Answer, RunFault>
     requires { S.failure_count store.old < 2 ^ 64 - 1 }
     ensures outcome { AnswersLog (S.holds store.old) (S.holds store.new) result }

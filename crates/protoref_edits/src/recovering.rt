@@ -11,10 +11,11 @@ use proto_journal::{JournalFault, Store, recover};
 use proto_output::{Answer, RunFault, Status, plain_refusal_line};
 use std::alloc::Global;
 
-/// Brings a torn store back to before its last entry, which is open. It tells whether it did, or that nothing was to recover,
-/// since no entry is open; or why it can't: the journal is none, or a file of the entry is neither as before nor as after it.
-/// The files are not asked for faults. It ends with `Store` at the first call of the store that fails, which leaves the store
-/// as before, torn or recovered, and with `NoMemory` where memory runs out, which leaves the store as before.
+/// Brings a torn store back to before its last entry, which is open. It tells whether it did, or
+/// that nothing was to recover, since no entry is open; or why it can't: the journal is none, or a
+/// file of the entry is neither as before nor as after it. The files are not asked for faults. It
+/// ends with `Store` at the first call of the store that fails, which leaves the store as before,
+/// torn or recovered, and with `NoMemory` where memory runs out, which leaves the store as before.
 pub fn recover_answer<S: Store>(alloc: Global, store: &mut S) -> Result<Answer, RunFault>
     requires { S.failure_count store.old < 2 ^ 64 - 1 }
     ensures outcome { AnswersRecovery (S.holds store.old) (S.holds store.new) result }
