@@ -1,6 +1,7 @@
 -- What a command prints, how it ends, and the store then and now: the choice of this program.
-use Rattle.std.specs.Prelude.{◌≡◌, ℕ, List, Option, Result, Ok, Err}
+use Rattle.std.specs.Prelude.{◌≡◌, Option, Result, Ok, Err}
 use Rattle.std.specs.Io.KnownBytes.{Appends, Keeps}
+use Rattle.proto_faults.specs.Texts.{Text}
 use Rattle.protoref_edits.specs.Answers.{asked}
 use Rattle.proto_recovery.specs.Known.{Over}
 use Rattle.proto_output.specs.Answers.{IsAnswer}
@@ -19,29 +20,39 @@ use Rattle.protoref_run.specs.Printed.{PrintsCompiled}
 use Rattle.protoref_run.specs.declared.command.Command.{Command}
 use Rattle.protoref_run.specs.declared.command.Command.TheVariants.{Compile, Lint, Edit, Undo, Log, Recover}
 
--- the text that a command prints over a store, the status that it ends with, and the store then and now
-abbrev pub Answered : Command → Option Held → Option Held → List ℕ → Status → Type 0
-Answered Compile before after text status = (after ≡ before) × Over before (λ held. PrintsCompiled held.files text status)
-Answered (Lint rules) before after text status = (after ≡ before) × Over before (λ held. PrintsLinted held.files rules.chosen text status)
+-- the text that a command prints over a store, the
+-- status that it ends with, and the store then and now
+abbrev pub Answered : Command → Option Held → Option Held → Text → Status → Type 0
+Answered Compile before after text status =
+    (after ≡ before) × Over before (λ held. PrintsCompiled held.files text status)
+Answered (Lint rules) before after text status =
+    (after ≡ before) × Over before (λ held. PrintsLinted held.files rules.chosen text status)
 Answered (Edit edit) before after text status = PrintsEdit (asked edit) before after text status
 Answered Undo before after text status = PrintsUndo before after text status
 Answered Log before after text status = PrintsLogOf before after text status
 Answered Recover before after text status = PrintsRecovery before after text status
 
--- where a store call failed: the store is as before, or as an edit, an undo or a recovery that was cut leaves it
+-- where a store call failed: the store is as before, or as
+-- an edit, an undo or a recovery that was cut leaves it
 abbrev pub IsCut : Command → Option Held → Option Held → Type 0
 IsCut (Edit edit) before after = IsEditCut (asked edit) before after
 IsCut Undo before after = IsUndoingCut before after
 IsCut Recover before after = IsRecoveryCut before after
 IsCut _ before after = after ≡ before
 
+-- the answer of a command before it is written, and the store then and now
 abbrev pub Answers : Command → Option Held → Option Held → Result Answer RunFault → Type 0
-Answers command before after result = IsAnswer (Answered command before after) (IsCut command before after) before after result
+Answers command before after result =
+    IsAnswer (Answered command before after) (IsCut command before after) before after result
 
--- The store then and now, and what was written: the whole text where the command ends, a beginning of it where the output failed, and
--- else nothing.
-abbrev pub Ran : Command → Option Held → Option Held → Option (List ℕ) → Option (List ℕ) → Result Status RunFault → Type 0
-Ran command before after old new (Ok status) = (text : List ℕ) × Answered command before after text status × Appends old new text
-Ran command before after old new (Err Output) = (text : List ℕ) × (status : Status) × Answered command before after text status × AppendsBeginning old new text
+-- The store then and now, and what was written: the whole text where the command ends, a beginning
+-- of it where the output failed, and else nothing.
+abbrev pub Ran : Command → Option Held → Option Held → Option Text → Option Text
+    → Result Status RunFault → Type 0
+Ran command before after old new (Ok status) =
+    (text : Text) × Answered command before after text status × Appends old new text
+Ran command before after old new (Err Output) =
+    (text : Text) × (status : Status) × Answered command before after text status
+    × AppendsBeginning old new text
 Ran command before after old new (Err Store) = IsCut command before after × Keeps old new
 Ran command before after old new (Err NoMemory) = (after ≡ before) × Keeps old new

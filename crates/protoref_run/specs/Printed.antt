@@ -1,6 +1,7 @@
 -- What compile prints, and how the schemas of a store are opened: the choice of this program.
-use Rattle.std.specs.Prelude.{◌≡◌, ℕ, List, ◌++◌, codes, Option}
+use Rattle.std.specs.Prelude.{◌≡◌, List, ◌++◌, codes, Option}
 use Rattle.proto_desc.specs.Checked.{described}
+use Rattle.proto_faults.specs.Texts.{Text}
 use Rattle.proto_files.specs.Faults.{FaultAt, HasNoFault, IsLeastFault}
 use Rattle.proto_files.specs.FilesRead.{ReadOf, AreRead}
 use Rattle.proto_files.specs.GivenFiles.{FileOf}
@@ -16,7 +17,7 @@ use Rattle.protoref_run.specs.declared.opening.Opening.{Opening}
 use Rattle.protoref_run.specs.declared.opening.Opening.TheVariants.{Whole, Faulty}
 
 -- the descriptors of the files as JSON, on a line, in the order of the paths
-pub record IsCompiledText (files : List FileOf) (text : List ℕ) : Type 0 where
+pub record IsCompiledText (files : List FileOf) (text : Text) : Type 0 where
   pub sorted : List FileOf
   pub reads : List ReadOf
   pub in_order : IsSortedOf files sorted
@@ -25,15 +26,19 @@ pub record IsCompiledText (files : List FileOf) (text : List ℕ) : Type 0 where
   pub text_is : text ≡ json_text (described sorted reads) ++ codes "\n"
 
 -- the line of the least fault of the files
-abbrev pub IsFaultText : List FileOf → List ℕ → Type 0
-IsFaultText files text = (fault : FaultAt) × IsLeastFault (WorkspaceFaults files) fault × IsLine files fault text
+abbrev pub IsFaultText : List FileOf → Text → Type 0
+IsFaultText files text =
+    (fault : FaultAt) × IsLeastFault (WorkspaceFaults files) fault × IsLine files fault text
 
 -- files that compile: their descriptors; others: the line of their least fault
-abbrev pub PrintsCompiled : List FileOf → List ℕ → Status → Type 0
+abbrev pub PrintsCompiled : List FileOf → Text → Status → Type 0
 PrintsCompiled files text Done = IsCompiledText files text
 PrintsCompiled files text Problem = IsFaultText files text
 
--- the files of a store in the order of their paths, which compile; or the answer is the line of their least fault
+-- the files of a store in the order of their paths, which
+-- compile; or the answer is the line of their least fault
 abbrev pub Opens : Option Held → Opening → Type 0
-Opens before (Whole files) = Over before (λ held. IsSortedOf held.files files × HasNoFault (WorkspaceFaults held.files))
-Opens before (Faulty answer) = (status_of answer ≡ Problem) × Over before (λ held. IsFaultText held.files (text_of answer))
+Opens before (Whole files) =
+    Over before (λ held. IsSortedOf held.files files × HasNoFault (WorkspaceFaults held.files))
+Opens before (Faulty answer) =
+    (status_of answer ≡ Problem) × Over before (λ held. IsFaultText held.files (text_of answer))

@@ -15,7 +15,8 @@ use std::alloc::Global;
 
 // The answer of their descriptors.
 pub(crate) fn described(alloc: Global, descriptors: &Descriptors) -> Result<Answer, RunFault>
-    ensures text { IfOk result (λ answer. text_of answer ≡ json_text (files_desc descriptors.now) ++ codes "\n") }
+    ensures text { IfOk result (λ answer.
+        text_of answer ≡ json_text (files_desc descriptors.now) ++ codes "\n") }
     ensures status { IfOk result (λ answer. status_of answer ≡ Status.Done) }
     ensures err { IfErr result (λ e. e ≡ RunFault.NoMemory) }
 {
@@ -24,7 +25,8 @@ pub(crate) fn described(alloc: Global, descriptors: &Descriptors) -> Result<Answ
     Ok(Answer::Text(text, Status::Done))
 }
 
-// The lines of what the rules find, in the order of path, offset, rule and name, and whether there is one.
+// The lines of what the rules find, in the order of
+// path, offset, rule and name, and whether there is one.
 pub(crate) fn linted(alloc: Global, schema: &Schema, rules: &RuleSet) -> Result<Answer, RunFault>
     ensures linted { IfOk result (λ answer. IsLintOf schema.now rules.now.chosen
         (text_of answer) (status_of answer)) }

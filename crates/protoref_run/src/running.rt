@@ -14,10 +14,11 @@ use protoref_edits::{edit_answer, log_answer, recover_answer, undo_answer};
 use std::alloc::Global;
 use std::io::Write;
 
-/// Runs a command over a store, and writes what it prints. It ends with `Store` at the first call of the store that
-/// fails, with `NoMemory` where memory runs out, and with `Output` where a write fails or takes no byte. An edit, an undo and
-/// a recovery are made before anything is written of them: after `Output` they stand. After `Store` the store is as before, or
-/// it is as an edit, an undo or a recovery that was cut leaves it; after `NoMemory` it is as before.
+/// Runs a command over a store, and writes what it prints. It ends with `Store` at the first call
+/// of the store that fails, with `NoMemory` where memory runs out, and with `Output` where a write
+/// fails or takes no byte. An edit, an undo and a recovery are made before anything is written of
+/// them: after `Output` they stand. After `Store` the store is as before, or it is as an edit, an
+/// undo or a recovery that was cut leaves it; after `NoMemory` it is as before.
 pub fn run<S: Store, W: Write>(
     alloc: Global,
     command: Command,
