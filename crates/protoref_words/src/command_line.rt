@@ -7,9 +7,10 @@ use clap::{ArgMatches, Error};
 use proto_lint::{Rule, RuleSet};
 use std::alloc::Global;
 
-/// Reads the words, of which the first is the program's name. Behind the command each word is the text that it is,
-/// whatever it begins with, unless the first of them asks for help. `BadCommandLine` comes where the words are none of the
-/// program's, or name a rule that there is not; `NoMemory` where memory runs out.
+/// Reads the words, of which the first is the program's name. Behind the command each word is the
+/// text that it is, whatever it begins with, unless the first of them asks for help.
+/// `BadCommandLine` comes where the words are none of the program's, or name a rule that there is
+/// not; `NoMemory` where memory runs out.
 pub fn read_words(alloc: Global, words: &[String]) -> Result<Request, WordsFault> {
     let words = marked_words(alloc, words)?;
     let program = program(alloc)?;
