@@ -1,4 +1,5 @@
--- The deletion of a field: where its statement stands, what comes in its place, and what is read then.
+-- The deletion of a field: where its statement stands, what comes in
+-- its place, and what is read then.
 use Rattle.std.specs.Prelude.{◌≡◌, ℕ, suc, ◌-◌, ◌<◌, ◌^◌, List, [], ◌∷◌, ◌++◌, take, drop, map, codes, Option, Some, None}
 use Rattle.std.specs.Str.{IsUtf8}
 use Rattle.proto_text.specs.declared.class.Class.TheVariants.{Letter}
@@ -31,39 +32,55 @@ IsFieldOf _ name number = ⊥
 pub data StandsIn (s : Statement) : Tree → Type 0 where
   First : (rest : Tree) → StandsIn s (Leaf s rest)
   AfterLeaf : (x : Statement) (rest : Tree) → StandsIn s rest → StandsIn s (Leaf x rest)
-  AfterBlock : (h : Header) (i : ℕ) (within : Tree) (j : ℕ) (rest : Tree) → StandsIn s rest → StandsIn s (Block h i within j rest)
+  AfterBlock : (h : Header) (i : ℕ) (within : Tree) (j : ℕ) (rest : Tree)
+      → StandsIn s rest
+      → StandsIn s (Block h i within j rest)
 
--- A statement right in a message, or in a oneof of one, whose `}` is the token told; at any depth of messages.
+-- A statement right in a message, or in a oneof of one, whose `}` is the
+-- token told; at any depth of messages.
 pub data StandsAt (s : Statement) : Option ℕ → Tree → Type 0 where
-  InMessage : (h : Heading) (i : ℕ) (within : Tree) (j : ℕ) (rest : Tree) → StandsIn s within → StandsAt s None (Block (header.Message h) i within j rest)
-  InOneof : (h : Heading) (i : ℕ) (within : Tree) (j : ℕ) (rest : Tree) → StandsIn s within → StandsAt s (Some j) (Block (header.Oneof h) i within j rest)
-  Deeper : (o : Option ℕ) (h : Heading) (i : ℕ) (within : Tree) (j : ℕ) (rest : Tree) → StandsAt s o within → StandsAt s o (Block (header.Message h) i within j rest)
-  PastLeaf : (o : Option ℕ) (x : Statement) (rest : Tree) → StandsAt s o rest → StandsAt s o (Leaf x rest)
-  PastBlock : (o : Option ℕ) (h : Header) (i : ℕ) (within : Tree) (j : ℕ) (rest : Tree) → StandsAt s o rest → StandsAt s o (Block h i within j rest)
+  InMessage : (h : Heading) (i : ℕ) (within : Tree) (j : ℕ) (rest : Tree)
+      → StandsIn s within
+      → StandsAt s None (Block (header.Message h) i within j rest)
+  InOneof : (h : Heading) (i : ℕ) (within : Tree) (j : ℕ) (rest : Tree)
+      → StandsIn s within
+      → StandsAt s (Some j) (Block (header.Oneof h) i within j rest)
+  Deeper : (o : Option ℕ) (h : Heading) (i : ℕ) (within : Tree) (j : ℕ) (rest : Tree)
+      → StandsAt s o within
+      → StandsAt s o (Block (header.Message h) i within j rest)
+  PastLeaf : (o : Option ℕ) (x : Statement) (rest : Tree)
+      → StandsAt s o rest
+      → StandsAt s o (Leaf x rest)
+  PastBlock : (o : Option ℕ) (h : Header) (i : ℕ) (within : Tree) (j : ℕ) (rest : Tree)
+      → StandsAt s o rest
+      → StandsAt s o (Block h i within j rest)
 
 -- ---- the splice
 
--- the index of the first token of some marks, and of the last
+-- the index of the first token of some marks; 0 where there are none
 abbrev pub first_of : List Mark → ℕ
 first_of [] = 0
 first_of (m ∷ ms) = m.at
 
+-- the index of the last token of some marks; 0 where there are none
 abbrev pub last_of : List Mark → ℕ
 last_of [] = 0
 last_of (m ∷ []) = m.at
 last_of (m ∷ n ∷ ms) = last_of (n ∷ ms)
 
--- the first token of a statement, and the token behind it
+-- the index of the first token of a statement
 abbrev pub first_token : Statement → ℕ
 first_token s = first_of (flat_statement s)
 
+-- the index of the token behind a statement
 abbrev pub next_token : Statement → ℕ
 next_token s = suc (last_of (flat_statement s))
 
--- where a statement begins, and where it ends
+-- the offset at which a statement begins
 abbrev pub begins : List Token → Statement → ℕ
 begins tokens s = offset_at tokens (first_token s)
 
+-- the offset at which a statement ends, behind its `;`
 abbrev pub ends : List Token → Statement → ℕ
 ends tokens s = end_before tokens (next_token s)
 
@@ -71,44 +88,68 @@ ends tokens s = end_before tokens (next_token s)
 abbrev pub splice : List ℕ → ℕ → ℕ → List ℕ → Edit
 splice text from to new = record { at = from; old = bytes_between text from to; new = new }
 
--- Right in a message the reservation comes in the place of the statement. In a oneof, what stands behind the statement comes in its place,
--- through the oneof's `}`, and the reservation behind that.
+-- Right in a message the reservation comes in the place of the statement. In a
+-- oneof, what stands behind the statement comes in its place, through the oneof's
+-- `}`, and the reservation behind that.
 abbrev pub deletion : List ℕ → List Token → Statement → Option ℕ → ℕ → List ℕ → Edit
-deletion text tokens s None number name = splice text (begins tokens s) (ends tokens s) (reservation_text number name)
+deletion text tokens s None number name =
+    splice text (begins tokens s) (ends tokens s) (reservation_text number name)
 deletion text tokens s (Some close) number name =
-    splice text (begins tokens s) (end_before tokens (suc close)) (bytes_between text (ends tokens s) (end_before tokens (suc close)) ++ (codes " " ++ reservation_text number name))
+    splice text (begins tokens s) (end_before tokens (suc close))
+    (bytes_between text (ends tokens s) (end_before tokens (suc close))
+    ++ (codes " " ++ reservation_text number name))
 
 -- ---- what is read
 
--- the tokens of a statement, and those without it
+-- the tokens of a statement, among those of its text
 abbrev pub own : Statement → List Lexeme → List Lexeme
 own s ls = take (next_token s - first_token s) (drop (first_token s) ls)
 
+-- the tokens of a text without those of a statement
 abbrev pub without : Statement → List Lexeme → List Lexeme
 without s ls = take (first_token s) ls ++ drop (next_token s) ls
 
--- where the reservation stands among the tokens without the statement: in its place, or behind the `}` of its oneof
+-- where the reservation stands among the tokens without the statement: in its
+-- place, or behind the `}` of its oneof
 abbrev pub reserved_at : Statement → Option ℕ → ℕ
 reserved_at s None = first_token s
 reserved_at s (Some close) = suc close - (next_token s - first_token s)
 
--- A deletion is of one tree, which has neither the field nor the reservation: the old tree is that tree with the field put in, and the new one
--- is that tree with the reservation put in.
-pub record IsDeleted (text : List ℕ) (tokens : List Token) (t : Tree) (s : Statement) (o : Option ℕ) (number : ℕ) (name result : List ℕ) (after : List Token) (u : Tree) : Type 0 where
+-- A deletion is of one tree, which has neither the field nor the reservation: the old tree is that
+-- tree with the field put in, and the new one is that tree with the reservation put in.
+pub record IsDeleted
+    (text : List ℕ) (tokens : List Token) (t : Tree) (s : Statement) (o : Option ℕ) (number : ℕ)
+    (name result : List ℕ) (after : List Token) (u : Tree) : Type 0 where
   pub put : Puts 0 text (deletion text tokens s o number name ∷ []) result
   pub utf8 : IsUtf8 text → IsUtf8 result
   pub reads : Reads result after u
   pub middle : Tree
-  pub old : IsInsertion (first_token s) (Leaf s End) (own s (map (lexeme_at text) tokens)) middle (without s (map (lexeme_at text) tokens)) t (map (lexeme_at text) tokens)
-  pub new : IsInsertion (reserved_at s o) (reservation (reserved_at s o)) (reservation_tokens number name) middle (without s (map (lexeme_at text) tokens)) u (map (lexeme_at result) after)
+  pub old : IsInsertion (first_token s) (Leaf s End) (own s (map (lexeme_at text) tokens)) middle
+      (without s (map (lexeme_at text) tokens)) t (map (lexeme_at text) tokens)
+  pub new : IsInsertion (reserved_at s o) (reservation (reserved_at s o))
+      (reservation_tokens number name) middle (without s (map (lexeme_at text) tokens)) u
+      (map (lexeme_at result) after)
 
 -- Where a field of a number below 2^64 is deleted, a tree is read of what comes out.
 abbrev pub DeletionsAreOfOneTree : Type 0
-DeletionsAreOfOneTree = (text : List ℕ) (tokens : List Token) (t : Tree) (s : Statement) (o : Option ℕ) (number : ℕ) (name : List ℕ)
-    → Reads text tokens t → StandsAt s o t → number < 2 ^ 64 → IsRun Letter name
-    → (result : List ℕ) × (after : List Token) × (u : Tree) × IsDeleted text tokens t s o number name result after u
+DeletionsAreOfOneTree =
+    (text : List ℕ) (tokens : List Token) (t : Tree) (s : Statement) (o : Option ℕ) (number : ℕ)
+    (name : List ℕ)
+    → Reads text tokens t
+    → StandsAt s o t
+    → number < 2 ^ 64
+    → IsRun Letter name
+    → (result : List ℕ) × (after : List Token) × (u : Tree)
+    × IsDeleted text tokens t s o number name result after u
 
 -- A token names the field of one statement.
 abbrev pub FieldsStandOnce : Type 0
-FieldsStandOnce = (text : List ℕ) (tokens : List Token) (t : Tree) (s x : Statement) (o p : Option ℕ) (name number other : ℕ)
-    → Reads text tokens t → StandsAt s o t → StandsAt x p t → IsFieldOf s name number → IsFieldOf x name other → (s ≡ x) × (o ≡ p)
+FieldsStandOnce =
+    (text : List ℕ) (tokens : List Token) (t : Tree) (s x : Statement) (o p : Option ℕ)
+    (name number other : ℕ)
+    → Reads text tokens t
+    → StandsAt s o t
+    → StandsAt x p t
+    → IsFieldOf s name number
+    → IsFieldOf x name other
+    → (s ≡ x) × (o ≡ p)

@@ -22,15 +22,17 @@ use Rattle.proto_statement_laws.specs.Statements.{import_at, import_text, import
 
 -- ---- the place of an added import
 
--- the token behind a statement, if it is of the kind
+-- the token behind a statement, if it is the syntax, as a list of one or of none
 abbrev pub behind_syntax : Statement → List ℕ
 behind_syntax (statement.Syntax s) = suc s.semicolon ∷ []
 behind_syntax _ = []
 
+-- the token behind a statement, if it is the package
 abbrev pub behind_package : Statement → List ℕ
 behind_package (statement.Package p) = suc p.semicolon ∷ []
 behind_package _ = []
 
+-- the token behind a statement, if it is an import
 abbrev pub behind_import : Statement → List ℕ
 behind_import (statement.Import i) = suc i.semicolon ∷ []
 behind_import _ = []
@@ -40,9 +42,11 @@ abbrev pub last_from : ℕ → List ℕ → ℕ
 last_from n [] = n
 last_from n (k ∷ ks) = last_from k ks
 
--- The token behind the last import; with none, behind the package; with neither, behind the syntax; else the first.
+-- The token behind the last import; with none, behind the package; with neither,
+-- behind the syntax; else the first.
 abbrev pub import_place : Tree → ℕ
-import_place t = last_from 0 (flat_map behind_syntax (statements t) ++ (flat_map behind_package (statements t) ++ flat_map behind_import (statements t)))
+import_place t = last_from 0 (flat_map behind_syntax (statements t)
+    ++ (flat_map behind_package (statements t) ++ flat_map behind_import (statements t)))
 
 -- ---- the splices
 
@@ -53,11 +57,13 @@ added_text (suc place) path = codes "\n" ++ import_text path
 
 -- nothing goes
 abbrev pub addition : List ℕ → List Token → Tree → List ℕ → Edit
-addition text tokens t path = splice text (end_before tokens (import_place t)) (end_before tokens (import_place t)) (added_text (import_place t) path)
+addition text tokens t path = splice text (end_before tokens (import_place t))
+    (end_before tokens (import_place t)) (added_text (import_place t) path)
 
 -- nothing comes
 abbrev pub drop_of : List ℕ → List Token → Import → Edit
-drop_of text tokens i = splice text (begins tokens (statement.Import i)) (ends tokens (statement.Import i)) []
+drop_of text tokens i =
+    splice text (begins tokens (statement.Import i)) (ends tokens (statement.Import i)) []
 
 -- ---- what is read
 
@@ -70,34 +76,52 @@ pub record HasImport (g : Move) (i : Import) (t u : Tree) : Type 0 where
   pub front : List Wanted
   pub back : List Wanted
   pub was : imports_in t ≡ front ++ back
-  pub is : imports_in u ≡ map (move_wanted g) front ++ (statement_imports (statement.Import i) ++ map (move_wanted g) back)
+  pub is : imports_in u ≡ map (move_wanted g) front
+      ++ (statement_imports (statement.Import i) ++ map (move_wanted g) back)
 
 -- So has each tree into which an import is put.
 abbrev pub ImportsComeIn : Type 0
-ImportsComeIn = (g : Move) (i : Import) (t u : Tree) → IsExchanged g End (Leaf (statement.Import i) End) context.Start t u → HasImport g i t u
+ImportsComeIn = (g : Move) (i : Import) (t u : Tree)
+    → IsExchanged g End (Leaf (statement.Import i) End) context.Start t u
+    → HasImport g i t u
 
 -- The import is put in, and is the last.
-pub record IsAdded (text : List ℕ) (tokens : List Token) (t : Tree) (path result : List ℕ) (after : List Token) (u : Tree) : Type 0 where
+pub record IsAdded
+    (text : List ℕ) (tokens : List Token) (t : Tree) (path result : List ℕ) (after : List Token)
+    (u : Tree) : Type 0 where
   pub put : Puts 0 text (addition text tokens t path ∷ []) result
   pub utf8 : IsUtf8 path → IsUtf8 text → IsUtf8 result
   pub reads : Reads result after u
-  pub tree : IsInsertion (import_place t) (import_at (import_place t)) (import_tokens path) t (map (lexeme_at text) tokens) u (map (lexeme_at result) after)
-  pub last : imports_in u ≡ map (move_wanted (moved (import_place t) (import_place t) 3)) (imports_in t) ++ imports_in (import_at (import_place t))
+  pub tree : IsInsertion (import_place t) (import_at (import_place t)) (import_tokens path) t
+      (map (lexeme_at text) tokens) u (map (lexeme_at result) after)
+  pub last : imports_in u ≡ map (move_wanted (moved (import_place t) (import_place t) 3))
+      (imports_in t) ++ imports_in (import_at (import_place t))
 
 -- Where a string of the path in quotes is put in, a tree is read of what comes out.
 abbrev pub AdditionsAreRead : Type 0
-AdditionsAreRead = (text : List ℕ) (tokens : List Token) (t : Tree) (path : List ℕ) → Reads text tokens t → IsString (quoted path)
-    → (result : List ℕ) × (after : List Token) × (u : Tree) × IsAdded text tokens t path result after u
+AdditionsAreRead = (text : List ℕ) (tokens : List Token) (t : Tree) (path : List ℕ)
+    → Reads text tokens t
+    → IsString (quoted path)
+    → (result : List ℕ) × (after : List Token) × (u : Tree)
+    × IsAdded text tokens t path result after u
 
 -- The old tree is the new one with the import put in.
-pub record IsDropped (text : List ℕ) (tokens : List Token) (t : Tree) (i : Import) (result : List ℕ) (after : List Token) (u : Tree) : Type 0 where
+pub record IsDropped
+    (text : List ℕ) (tokens : List Token) (t : Tree) (i : Import) (result : List ℕ)
+    (after : List Token) (u : Tree) : Type 0 where
   pub put : Puts 0 text (drop_of text tokens i ∷ []) result
   pub utf8 : IsUtf8 text → IsUtf8 result
   pub reads : Reads result after u
-  pub tokens_are : map (lexeme_at result) after ≡ without (statement.Import i) (map (lexeme_at text) tokens)
-  pub tree : IsInsertion i.keyword (Leaf (statement.Import i) End) (own (statement.Import i) (map (lexeme_at text) tokens)) u (map (lexeme_at result) after) t (map (lexeme_at text) tokens)
+  pub tokens_are : map (lexeme_at result) after
+      ≡ without (statement.Import i) (map (lexeme_at text) tokens)
+  pub tree : IsInsertion i.keyword (Leaf (statement.Import i) End)
+      (own (statement.Import i) (map (lexeme_at text) tokens)) u (map (lexeme_at result) after) t
+      (map (lexeme_at text) tokens)
 
 -- Where an import is taken out, a tree is read of what comes out.
 abbrev pub DropsAreRead : Type 0
-DropsAreRead = (text : List ℕ) (tokens : List Token) (t : Tree) (i : Import) → Reads text tokens t → StandsIn (statement.Import i) t
-    → (result : List ℕ) × (after : List Token) × (u : Tree) × IsDropped text tokens t i result after u
+DropsAreRead = (text : List ℕ) (tokens : List Token) (t : Tree) (i : Import)
+    → Reads text tokens t
+    → StandsIn (statement.Import i) t
+    → (result : List ℕ) × (after : List Token) × (u : Tree)
+    × IsDropped text tokens t i result after u

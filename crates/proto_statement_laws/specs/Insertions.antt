@@ -7,8 +7,11 @@ use Rattle.proto_tree.specs.Tree.{Tree, End, Spells}
 use Rattle.proto_tree.specs.Words.{classes}
 use Rattle.proto_statement_laws.specs.Exchanges.{IsExchanged, before}
 
--- The second tree and its tokens are the first with the items of b and their tokens put in at one place, and all else moved.
-pub record IsInsertion (place : ℕ) (b : Tree) (more : List Lexeme) (t : Tree) (ls : List Lexeme) (u : Tree) (ms : List Lexeme) : Type 0 where
+-- The second tree and its tokens are the first with the items of b and their tokens put in
+-- at one place, and all else moved.
+pub record IsInsertion
+    (place : ℕ) (b : Tree) (more : List Lexeme) (t : Tree) (ls : List Lexeme) (u : Tree)
+    (ms : List Lexeme) : Type 0 where
   pub within : place ≤ length ls
   pub tokens : ms ≡ take place ls ++ (more ++ drop place ls)
   pub tree : IsExchanged (moved place place (length more)) End b context.Start t u

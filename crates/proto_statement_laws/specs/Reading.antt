@@ -18,10 +18,14 @@ abbrev pub HaveNoBrace : List Lexeme → Type 0
 HaveNoBrace [] = Unit {0}
 HaveNoBrace (l ∷ ls) = (is_brace (class_by l.kind l.text) ≡ false) × HaveNoBrace ls
 
--- Where tokens without a brace come in the place of tokens without a brace, no more than 32 braces are open at once, as before.
+-- Where tokens without a brace come in the place of tokens without a brace, no more than 32
+-- braces are open at once, as before.
 abbrev pub DepthIsKept : Type 0
-DepthIsKept = (front old new back : List Lexeme) → HaveNoBrace old → HaveNoBrace new
-    → IsShallow (classes 0 (front ++ (old ++ back))) → IsShallow (classes 0 (front ++ (new ++ back)))
+DepthIsKept = (front old new back : List Lexeme)
+    → HaveNoBrace old
+    → HaveNoBrace new
+    → IsShallow (classes 0 (front ++ (old ++ back)))
+    → IsShallow (classes 0 (front ++ (new ++ back)))
 
 -- statements alone, and no block
 abbrev pub AreStatements : Tree → Type 0
@@ -31,13 +35,29 @@ AreStatements (Block h i within j rest) = ⊥
 
 -- A place of items begins and ends behind tokens that end by themselves.
 abbrev pub PlacesAreSeams : Type 0
-PlacesAreSeams = (text : List ℕ) (tokens : List Token) (g : Move) (a b t u : Tree) (r : IsExchanged g a b context.Start t u) → Reads text tokens t
-    → IsSeam tokens (before r) × IsSeam tokens (before r + length (flat a)) × (before r + length (flat a) ≤ length tokens)
+PlacesAreSeams =
+    (text : List ℕ) (tokens : List Token) (g : Move) (a b t u : Tree)
+    (r : IsExchanged g a b context.Start t u)
+    → Reads text tokens t
+    → IsSeam tokens (before r)
+    × IsSeam tokens (before r + length (flat a))
+    × (before r + length (flat a) ≤ length tokens)
 
--- Where the text from one place up to the other is replaced by a segment with the tokens of b, the second tree is read of what comes out.
+-- Where the text from one place up to the other is replaced by a segment with the tokens of b, the
+-- second tree is read of what comes out.
 abbrev pub StatementsAreRead : Type 0
-StatementsAreRead = (text : List ℕ) (tokens : List Token) (g : Move) (a b t u : Tree) (r : IsExchanged g a b context.Start t u) (from to : ℕ) (new : List ℕ) (ls : List Lexeme)
-    → Reads text tokens t → AreStatements a → AreStatements b
-    → IsPlace tokens (before r) from → IsPlace tokens (before r + length (flat a)) to → from ≤ to
-    → IsSegment new ls → Fit (flat b) (classes (before r) ls) → MovesBy g (before r) (length (flat a)) (length ls)
-    → (result : List ℕ) × (after : List Token) × IsReplaced text tokens (before r) (before r + length (flat a)) from to new ls result after × Reads result after u
+StatementsAreRead =
+    (text : List ℕ) (tokens : List Token) (g : Move) (a b t u : Tree)
+    (r : IsExchanged g a b context.Start t u) (from to : ℕ) (new : List ℕ) (ls : List Lexeme)
+    → Reads text tokens t
+    → AreStatements a
+    → AreStatements b
+    → IsPlace tokens (before r) from
+    → IsPlace tokens (before r + length (flat a)) to
+    → from ≤ to
+    → IsSegment new ls
+    → Fit (flat b) (classes (before r) ls)
+    → MovesBy g (before r) (length (flat a)) (length ls)
+    → (result : List ℕ) × (after : List Token)
+    × IsReplaced text tokens (before r) (before r + length (flat a)) from to new ls result after
+    × Reads result after u

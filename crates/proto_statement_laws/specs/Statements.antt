@@ -9,9 +9,11 @@ use Rattle.proto_tree.specs.declared.piece.Statement.TheVariants as statement
 use Rattle.proto_tree.specs.declared.tree.ReservedList.TheVariants as reserved_list
 use Rattle.proto_tree.specs.Tree.{Tree, End, Leaf}
 
+-- a token of this kind with this text
 abbrev pub token : TokenKind → List ℕ → Lexeme
 token kind text = record { kind = kind; text = text }
 
+-- the token `;`
 abbrev pub semicolon : Lexeme
 semicolon = token Punctuation (codes ";")
 
@@ -19,8 +21,10 @@ semicolon = token Punctuation (codes ";")
 
 -- `reserved N; reserved "name";`
 abbrev pub reservation_text : ℕ → List ℕ → List ℕ
-reservation_text number name = codes "reserved " ++ (decimal number ++ (codes "; reserved " ++ (quoted name ++ codes ";")))
+reservation_text number name =
+    codes "reserved " ++ (decimal number ++ (codes "; reserved " ++ (quoted name ++ codes ";")))
 
+-- the tokens of `reserved N; reserved "name";`
 abbrev pub reservation_tokens : ℕ → List ℕ → List Lexeme
 reservation_tokens number name =
     token Word (codes "reserved") ∷ token Number (decimal number) ∷ semicolon
@@ -30,8 +34,17 @@ reservation_tokens number name =
 -- the two statements, whose tokens begin with this index
 abbrev pub reservation : ℕ → Tree
 reservation i =
-    Leaf (statement.Reserved (record { keyword = i; list = reserved_list.Ranges (record { first = record { first = i + 1; up_to = None }; rest = [] }); semicolon = i + 2 }))
-    (Leaf (statement.Reserved (record { keyword = i + 3; list = reserved_list.Names (record { first = i + 4; rest = [] }); semicolon = i + 5 })) End)
+    Leaf (statement.Reserved (record {
+      keyword = i;
+      list = reserved_list.Ranges
+          (record { first = record { first = i + 1; up_to = None }; rest = [] });
+      semicolon = i + 2;
+    }))
+    (Leaf (statement.Reserved (record {
+      keyword = i + 3;
+      list = reserved_list.Names (record { first = i + 4; rest = [] });
+      semicolon = i + 5;
+    })) End)
 
 -- ---- an import
 
@@ -39,9 +52,12 @@ reservation i =
 abbrev pub import_text : List ℕ → List ℕ
 import_text path = codes "import " ++ (quoted path ++ codes ";")
 
+-- the tokens of `import "PATH";`
 abbrev pub import_tokens : List ℕ → List Lexeme
 import_tokens path = token Word (codes "import") ∷ token Text (quoted path) ∷ semicolon ∷ []
 
 -- the statement, whose tokens begin with this index
 abbrev pub import_at : ℕ → Tree
-import_at i = Leaf (statement.Import (record { keyword = i; public = None; path = i + 1; semicolon = i + 2 })) End
+import_at i =
+    Leaf (statement.Import (record { keyword = i; public = None; path = i + 1; semicolon = i + 2 }))
+    End
