@@ -16,7 +16,8 @@ use Rattle.proto_entries.specs.Entries.{ChangeOf}
 use Rattle.proto_statement_laws.specs.Deletions.{IsDeleted, IsFieldOf, StandsAt, deletion}
 use Rattle.proto_statement_changes.specs.OneFile.{AreFiles, IsChangedBy, IsTooLong, one_change, word_of}
 
--- a written field: its file, its statement, the `}` of its oneof if it has one, and the tokens of its name and its number
+-- a written field: its file, its statement, the `}` of its oneof if it has one, and the
+-- tokens of its name and its number
 pub record FieldAt : Type 0 where
   pub file : ℕ
   pub statement : Statement
@@ -30,39 +31,61 @@ pub record IsFieldAt (files : List FileOf) (reads : List ReadOf) (f : FieldAt) :
   pub stands : StandsAt f.statement f.oneof (read_at reads f.file).tree
   pub declares : IsFieldOf f.statement f.name f.number
 
--- its number and its name, as they are written
+-- the number of a field, by its value
 abbrev pub number_of_field : List FileOf → List ReadOf → FieldAt → ℕ
 number_of_field files reads f = number_of (word_of files reads f.file f.number)
 
+-- the name of a field, as it is written
 abbrev pub name_of_field : List FileOf → List ReadOf → FieldAt → List ℕ
 name_of_field files reads f = word_of files reads f.file f.name
 
+-- the splice of the field's file that deletes the field
 abbrev pub splice_of_deletion : List FileOf → List ReadOf → FieldAt → Edit
-splice_of_deletion files reads f = deletion (file_at files f.file).bytes (read_at reads f.file).tokens f.statement f.oneof (number_of_field files reads f) (name_of_field files reads f)
+splice_of_deletion files reads f =
+    deletion (file_at files f.file).bytes (read_at reads f.file).tokens f.statement f.oneof
+    (number_of_field files reads f) (name_of_field files reads f)
 
 -- what the deletion of a field changes
 abbrev pub changes_of_deletion : List FileOf → List ReadOf → FieldAt → List ChangeOf
-changes_of_deletion files reads f = one_change (file_at files f.file) (splice_of_deletion files reads f)
+changes_of_deletion files reads f =
+    one_change (file_at files f.file) (splice_of_deletion files reads f)
 
 -- the file is read without the field and with its reservation, the others as before
-pub record IsFieldDeleted (files : List FileOf) (reads : List ReadOf) (f : FieldAt) (result : List ℕ) (after : List TokenOf) (tree : Tree) : Type 0 where
-  pub deleted : IsDeleted (file_at files f.file).bytes (read_at reads f.file).tokens (read_at reads f.file).tree f.statement f.oneof (number_of_field files reads f) (name_of_field files reads f) result after tree
+pub record IsFieldDeleted
+    (files : List FileOf) (reads : List ReadOf) (f : FieldAt) (result : List ℕ)
+    (after : List TokenOf) (tree : Tree) : Type 0 where
+  pub deleted : IsDeleted (file_at files f.file).bytes (read_at reads f.file).tokens
+      (read_at reads f.file).tree f.statement f.oneof (number_of_field files reads f)
+      (name_of_field files reads f) result after tree
   pub changed : IsChangedBy files reads f.file (splice_of_deletion files reads f) result after tree
 
--- The changes of a deletion are an entry, and put files that are read, unless the file would be too long.
+-- The changes of a deletion are an entry, and put files that are read,
+-- unless the file would be too long.
 abbrev pub DeletionsAreChanges : Type 0
-DeletionsAreChanges = (files : List FileOf) (reads : List ReadOf) (f : FieldAt) → AreFiles files reads → IsFieldAt files reads f → number_of_field files reads f < 2 ^ 64
+DeletionsAreChanges = (files : List FileOf) (reads : List ReadOf) (f : FieldAt)
+    → AreFiles files reads
+    → IsFieldAt files reads f
+    → number_of_field files reads f < 2 ^ 64
     → (IsTooLong (file_at files f.file) (splice_of_deletion files reads f) → ⊥)
-    → (result : List ℕ) × (after : List TokenOf) × (tree : Tree) × IsFieldDeleted files reads f result after tree
+    → (result : List ℕ) × (after : List TokenOf) × (tree : Tree)
+    × IsFieldDeleted files reads f result after tree
 
 -- ---- which fields there are
 
 -- Each field that a file declares stands there,
 abbrev pub FieldsAreThere : Type 0
-FieldsAreThere = (files : List FileOf) (reads : List ReadOf) (file : ℕ) (p : Placed) → file < length files → Contains (file_placed (items_in (read_at reads file).tree)) p → p.kind ≡ Field
+FieldsAreThere = (files : List FileOf) (reads : List ReadOf) (file : ℕ) (p : Placed)
+    → file < length files
+    → Contains (file_placed (items_in (read_at reads file).tree)) p
+    → p.kind ≡ Field
     → (f : FieldAt) × IsFieldAt files reads f × (f.file ≡ file) × (p.last ≡ Token f.name)
 
 -- and by a token of its name there is one alone.
 abbrev pub FieldsAreOne : Type 0
-FieldsAreOne = (files : List FileOf) (reads : List ReadOf) (f g : FieldAt) → AreRead files reads → IsFieldAt files reads f → IsFieldAt files reads g
-    → f.file ≡ g.file → f.name ≡ g.name → f ≡ g
+FieldsAreOne = (files : List FileOf) (reads : List ReadOf) (f g : FieldAt)
+    → AreRead files reads
+    → IsFieldAt files reads f
+    → IsFieldAt files reads g
+    → f.file ≡ g.file
+    → f.name ≡ g.name
+    → f ≡ g

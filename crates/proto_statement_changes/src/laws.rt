@@ -6,8 +6,8 @@ ghost use Rattle.proto_statement_changes.specs.ImportChanges.{AdditionsAreChange
 use proto_statement_laws::laws::{additions_are_read, deletions_are_of_one_tree, drops_are_read};
 use proto_text::laws::segments_are_made;
 
-/// Where a field is deleted, and its file would not be too long, the one splice of its file is an entry, and puts files of a
-/// workspace with their tokens and trees, of the length told.
+/// Where a field is deleted, and its file would not be too long, the one splice of its file is an
+/// entry, and puts files of a workspace with their tokens and trees, of the length told.
 pub fn deletions_are_changes()
     ensures { DeletionsAreChanges }
 {
