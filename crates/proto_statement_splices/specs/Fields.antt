@@ -24,8 +24,10 @@ abbrev pub or_else : {A : Type 0} → Option A → Option A → Option A
 or_else (Some x) other = Some x
 or_else None other = other
 
+-- the statement, with the `}` of its oneof, if it declares the field with this name token
 abbrev pub field_if : ℕ → Option ℕ → Statement → Option FieldAt
-field_if name close s = if has_name name s then Some (record { statement = s; close = close }) else None
+field_if name close s =
+    if has_name name s then Some (record { statement = s; close = close }) else None
 
 -- the first such field among the statements of a block
 abbrev pub field_among : ℕ → Option ℕ → Tree → Option FieldAt
@@ -37,16 +39,19 @@ field_among name close (Block h i within j rest) = field_among name close rest
 abbrev pub field_in : ℕ → Tree → Option FieldAt
 field_in name End = None
 field_in name (Leaf s rest) = or_else (field_if name None s) (field_in name rest)
-field_in name (Block (header.Message h) i within j rest) = or_else (field_in name within) (field_in name rest)
-field_in name (Block (header.Oneof h) i within j rest) = or_else (field_among name (Some j) within) (field_in name rest)
+field_in name (Block (header.Message h) i within j rest) =
+    or_else (field_in name within) (field_in name rest)
+field_in name (Block (header.Oneof h) i within j rest) =
+    or_else (field_among name (Some j) within) (field_in name rest)
 field_in name (Block h i within j rest) = field_in name rest
 
--- the tokens of a field's number and of its `;`
+-- the token of the number of the statement of a field
 abbrev pub number_token : Statement → ℕ
 number_token (statement.Field f) = f.number
 number_token (statement.MapField f) = f.number
 number_token _ = 0
 
+-- the `;` of the statement of a field
 abbrev pub last_token : Statement → ℕ
 last_token (statement.Field f) = f.semicolon
 last_token (statement.MapField f) = f.semicolon
@@ -54,7 +59,12 @@ last_token _ = 0
 
 -- the tokens that are told of it
 abbrev pub place_of : FieldAt → FieldPlace
-place_of a = record { first = first_token a.statement; number = number_token a.statement; semicolon = last_token a.statement; oneof = a.close }
+place_of a = record {
+  first = first_token a.statement;
+  number = number_token a.statement;
+  semicolon = last_token a.statement;
+  oneof = a.close;
+}
 
 -- ---- oneofs with one field
 
@@ -68,6 +78,8 @@ is_only name (f ∷ g ∷ fs) = false
 abbrev pub alone_in : ℕ → Tree → Bool
 alone_in name End = false
 alone_in name (Leaf s rest) = alone_in name rest
-alone_in name (Block (header.Message h) i within j rest) = alone_in name within || alone_in name rest
-alone_in name (Block (header.Oneof h) i within j rest) = is_only name (fields_in within) || alone_in name rest
+alone_in name (Block (header.Message h) i within j rest) =
+    alone_in name within || alone_in name rest
+alone_in name (Block (header.Oneof h) i within j rest) =
+    is_only name (fields_in within) || alone_in name rest
 alone_in name (Block h i within j rest) = alone_in name rest

@@ -8,9 +8,21 @@ use Rattle.proto_statement_splices.specs.declared.import_places.LastEnds.{LastEn
 
 -- with one statement more
 abbrev pub with_statement : LastEnds → Statement → LastEnds
-with_statement e (statement.Syntax s) = record { syntax = Some s.semicolon; packaged = e.packaged; import = e.import }
-with_statement e (statement.Package p) = record { syntax = e.syntax; packaged = Some p.semicolon; import = e.import }
-with_statement e (statement.Import i) = record { syntax = e.syntax; packaged = e.packaged; import = Some i.semicolon }
+with_statement e (statement.Syntax s) = record {
+  syntax = Some s.semicolon;
+  packaged = e.packaged;
+  import = e.import;
+}
+with_statement e (statement.Package p) = record {
+  syntax = e.syntax;
+  packaged = Some p.semicolon;
+  import = e.import;
+}
+with_statement e (statement.Import i) = record {
+  syntax = e.syntax;
+  packaged = e.packaged;
+  import = Some i.semicolon;
+}
 with_statement e _ = e
 
 -- the last of each kind of a tree, which follow on others
@@ -19,6 +31,7 @@ ends_in e End = e
 ends_in e (Leaf s rest) = ends_in (with_statement e s) rest
 ends_in e (Block h i within j rest) = ends_in e rest
 
+-- the `;` of the syntax, of the package and of the last import of a file
 abbrev pub ends_of : Tree → LastEnds
 ends_of t = ends_in (record { syntax = None; packaged = None; import = None }) t
 

@@ -9,8 +9,8 @@ ghost use Rattle.proto_tree.specs.Flat.{flat_type};
 
 use proto_tree::{Field, FieldType, File, Item, MapField, Member, Message, Oneof};
 
-/// The statement of a field, by its first token, the token of its number, and its `;`; and the `}` of the oneof around it,
-/// if it is of one.
+/// The statement of a field, by its first token, the token of its number, and its `;`; and the `}`
+/// of the oneof around it, if it is of one.
 #[derive(Clone, Copy)]
 pub struct FieldPlace {
     pub first: u32,

@@ -34,8 +34,8 @@ fn with_item(ends: LastEnds, item: &Item) -> LastEnds
     }
 }
 
-/// The `;` behind which an import is added: that of the last import; with none, of the package; with neither, of the
-/// syntax. With none of these, none: it is added before all.
+/// The `;` behind which an import is added: that of the last import; with none, of the package;
+/// with neither, of the syntax. With none of these, none: it is added before all.
 #[tactic(auto, using(crate::proofs::ImportEnds::ends_joined))]
 pub fn end_before_import(file: &File) -> Option<u32>
     ensures { result ≡ behind_all (ends_of (tree_of_file file.now)) }

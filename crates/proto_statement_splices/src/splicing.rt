@@ -15,8 +15,8 @@ use std::alloc::Global;
 /// How many bytes a file has at most.
 const MAX_LEN: usize = 1_048_576;
 
-/// The change that puts a text in the place of what stands at the span of a file; none where the file would have more
-/// than 1,048,576 bytes.
+/// The change that puts a text in the place of what stands at the span of a file; none where the
+/// file would have more than 1,048,576 bytes.
 pub fn spliced(
     alloc: Global,
     files: &Files,
