@@ -7,7 +7,10 @@ use Rattle.proto_meaning.specs.Names.{Reference, Symbol, Workspace, hit}
 
 -- each front of the scope is declared
 abbrev pub HasScope : Workspace → Reference → Type 0
-HasScope w r = (a b : List (List ℕ)) → a ++ b ≡ r.scope → a ≢ [] → (s : Symbol) × Contains w.symbols s × (s.name ≡ a)
+HasScope w r = (a b : List (List ℕ))
+    → a ++ b ≡ r.scope
+    → a ≢ []
+    → (s : Symbol) × Contains w.symbols s × (s.name ≡ a)
 
 -- the new name, or that of the new entry
 abbrev pub IsNewWord : Renaming → List ℕ → Type 0
@@ -15,5 +18,11 @@ IsNewWord e q = (q ≡ e.new) ⊎ ((p : List ℕ × List ℕ) × (e.entry ≡ So
 
 -- In linked files a captured reference begins, as rewritten, with such a word.
 abbrev pub CapturesBeginAnew : Type 0
-CapturesBeginAnew = (e : Renaming) (w : Workspace) (r : Reference) (k : ℕ) → IsLinked w → IsRenaming e w → (Collides e w → ⊥) → HasScope w r → hit w r ≡ Some k → IsCaptured e w r
+CapturesBeginAnew = (e : Renaming) (w : Workspace) (r : Reference) (k : ℕ)
+    → IsLinked w
+    → IsRenaming e w
+    → (Collides e w → ⊥)
+    → HasScope w r
+    → hit w r ≡ Some k
+    → IsCaptured e w r
     → (q : List ℕ) × (take 1 (rewritten e (take k r.scope) r.words) ≡ q ∷ []) × IsNewWord e q

@@ -53,14 +53,16 @@ abbrev pub scene_at : List FileOf → List ReadOf → At → Scene
 scene_at files reads a = scene_of None files reads a.file
 
 -- a message with a field of this name token
-pub record IsFieldIn (files : List FileOf) (reads : List ReadOf) (a : At) (b : BlockOf) (f : FieldOf) : Type 0 where
+pub record IsFieldIn
+    (files : List FileOf) (reads : List ReadOf) (a : At) (b : BlockOf) (f : FieldOf) : Type 0 where
   pub block : Contains (blocks_in (read_at reads a.file).tree) b
   pub field : Contains (fields_in b.within) f
   pub name : f.name ≡ a.token
 
 -- a field or a value of the block has this name token
 abbrev pub HasMember : Tree → ℕ → Type 0
-HasMember within token = Contains (map (λ f. f.name) (fields_in within)) token ⊎ Contains (map (λ v. v.name) (values_in within)) token
+HasMember within token = Contains (map (λ f. f.name) (fields_in within)) token
+    ⊎ Contains (map (λ v. v.name) (values_in within)) token
 
 -- the message of the field, or the enum of the value, reserves the word
 abbrev pub Reserves : List FileOf → List ReadOf → At → List ℕ → Type 0
@@ -68,8 +70,10 @@ Reserves files reads a word = (b : BlockOf) × Contains (blocks_in (read_at read
     × HasMember b.within a.token
     × Contains (map (value (scene_at files reads a)) (reserved_names_in b.within)) word
 
--- a field of a proto3 file without a written JSON name would get that of another field of its message
-pub record Clashes (files : List FileOf) (reads : List ReadOf) (a : At) (word : List ℕ) : Type 0 where
+-- a field of a proto3 file without a written JSON name would get
+-- that of another field of its message
+pub record Clashes
+    (files : List FileOf) (reads : List ReadOf) (a : At) (word : List ℕ) : Type 0 where
   pub b : BlockOf
   pub f : FieldOf
   pub other : FieldOf
@@ -77,22 +81,28 @@ pub record Clashes (files : List FileOf) (reads : List ReadOf) (a : At) (word : 
   pub beside : Contains (fields_in b.within) other
   pub differs : other.name ≢ f.name
   pub proto3 : (scene_at files reads a).is_proto3 ≡ true
-  pub unwritten : text_option (text (scene_at files reads a)) (value (scene_at files reads a)) (codes "json_name") f.options ≡ None
+  pub unwritten : text_option (text (scene_at files reads a)) (value (scene_at files reads a))
+      (codes "json_name") f.options ≡ None
   pub same : json_word word ≡ json_name_of (scene_at files reads a) other
 
 -- ---- captured references
 
 -- a reference that the rename captures
-pub record Captures (files : List FileOf) (reads : List ReadOf) (t : Target) (to : List ℕ) (u : Used At) : Type 0 where
+pub record Captures
+    (files : List FileOf) (reads : List ReadOf) (t : Target) (to : List ℕ) (u : Used At)
+    : Type 0 where
   pub used : Contains (link_skeleton files reads).used u
-  pub captured : IsCaptured (name_map files reads t to) (names_of_files files reads) (reference_of (text_of files reads) entry_name u)
+  pub captured : IsCaptured (name_map files reads t to) (names_of_files files reads)
+      (reference_of (text_of files reads) entry_name u)
 
 -- before, by file and token
 abbrev pub StandsBefore : At → At → Type 0
 StandsBefore a b = (a.file < b.file) ⊎ ((a.file ≡ b.file) × (a.token < b.token))
 
 -- the path and offset of the least use of which this holds, by path and offset of its first token
-pub record IsFirstPlace (files : List FileOf) (reads : List ReadOf) (Holds : Used At → Type 0) (path : List ℕ) (offset : ℕ) : Type 0 where
+pub record IsFirstPlace
+    (files : List FileOf) (reads : List ReadOf) (Holds : Used At → Type 0) (path : List ℕ)
+    (offset : ℕ) : Type 0 where
   pub u : Used At
   pub holds : Holds u
   pub least : (v : Used At) → Holds v → StandsBefore v.first u.first → ⊥
@@ -103,17 +113,47 @@ pub record IsFirstPlace (files : List FileOf) (reads : List ReadOf) (Holds : Use
 
 -- no symbol has this full name
 abbrev pub IsUnknown : List FileOf → List ReadOf → List ℕ → Type 0
-IsUnknown files reads name = (s : Symbol) → Contains (names_of_files files reads).symbols s → joined s.name ≡ name → ⊥
+IsUnknown files reads name = (s : Symbol)
+    → Contains (names_of_files files reads).symbols s
+    → joined s.name ≡ name
+    → ⊥
 
 -- Case n refuses the rename; of several the least is answered.
-pub data RenameCase (files : List FileOf) (reads : List ReadOf) (name to : List ℕ) : ℕ → Type 0 where
+pub data RenameCase
+    (files : List FileOf) (reads : List ReadOf) (name to : List ℕ) : ℕ → Type 0 where
   unknown_target : IsUnknown files reads name → RenameCase files reads name to 1
-  kind_not_allowed : (s : Symbol) → Contains (names_of_files files reads).symbols s → joined s.name ≡ name → may_rename s.kind ≡ false → RenameCase files reads name to 2
+  kind_not_allowed : (s : Symbol)
+      → Contains (names_of_files files reads).symbols s
+      → joined s.name ≡ name
+      → may_rename s.kind ≡ false
+      → RenameCase files reads name to 2
   not_an_identifier : is_run to ≡ false → RenameCase files reads name to 3
-  keyword_name : (t : Target) → IsNamed files reads name t → is_keyword_of t.aim.kind to ≡ true → RenameCase files reads name to 4
-  same_name : (t : Target) → IsNamed files reads name t → text_of files reads t.token ≡ to → RenameCase files reads name to 5
-  collision : (t : Target) → IsNamed files reads name t → Collides (name_map files reads t to) (names_of_files files reads) → RenameCase files reads name to 6
-  captured : (t : Target) (u : Used At) → IsNamed files reads name t → Captures files reads t to u → RenameCase files reads name to 7
-  name_reserved : (t : Target) → IsNamed files reads name t → Reserves files reads t.token to → RenameCase files reads name to 8
-  json_clash : (t : Target) → IsNamed files reads name t → Clashes files reads t.token to → RenameCase files reads name to 9
-  too_large : (t : Target) (k : ℕ) → IsNamed files reads name t → k < length files → IsTooLong (renamed_words files reads t to) files reads k → RenameCase files reads name to 16
+  keyword_name : (t : Target)
+      → IsNamed files reads name t
+      → is_keyword_of t.aim.kind to ≡ true
+      → RenameCase files reads name to 4
+  same_name : (t : Target)
+      → IsNamed files reads name t
+      → text_of files reads t.token ≡ to
+      → RenameCase files reads name to 5
+  collision : (t : Target)
+      → IsNamed files reads name t
+      → Collides (name_map files reads t to) (names_of_files files reads)
+      → RenameCase files reads name to 6
+  captured : (t : Target) (u : Used At)
+      → IsNamed files reads name t
+      → Captures files reads t to u
+      → RenameCase files reads name to 7
+  name_reserved : (t : Target)
+      → IsNamed files reads name t
+      → Reserves files reads t.token to
+      → RenameCase files reads name to 8
+  json_clash : (t : Target)
+      → IsNamed files reads name t
+      → Clashes files reads t.token to
+      → RenameCase files reads name to 9
+  too_large : (t : Target) (k : ℕ)
+      → IsNamed files reads name t
+      → k < length files
+      → IsTooLong (renamed_words files reads t to) files reads k
+      → RenameCase files reads name to 16

@@ -1,4 +1,5 @@
--- The changes of files that new words make: file by file, the splices of its changed tokens with the lengths before and after.
+-- The changes of files that new words make: file by file, the splices of its changed tokens
+-- with the lengths before and after.
 use Rattle.std.specs.Prelude.{ℕ, suc, ◌+◌, ◌-◌, ◌<◌, List, [], ◌∷◌, ◌++◌, length}
 use Rattle.proto_text.specs.Edits.{Edit, old_len, new_len}
 use Rattle.proto_text.specs.Texts.{token_edits}
@@ -9,11 +10,13 @@ use Rattle.proto_rename_laws.specs.Rewording.{NewWords, in_file}
 
 -- the splices of a file
 abbrev pub splices_in : NewWords → List FileOf → List ReadOf → ℕ → List Edit
-splices_in c files reads k = token_edits (file_at files k).bytes (in_file c k) 0 (read_at reads k).tokens
+splices_in c files reads k =
+    token_edits (file_at files k).bytes (in_file c k) 0 (read_at reads k).tokens
 
 -- With its splices the file would be longer than one may be.
 abbrev pub IsTooLong : NewWords → List FileOf → List ReadOf → ℕ → Type 0
-IsTooLong c files reads k = 1048576 + old_len (splices_in c files reads k) < length (file_at files k).bytes + new_len (splices_in c files reads k)
+IsTooLong c files reads k = 1048576 + old_len (splices_in c files reads k)
+    < length (file_at files k).bytes + new_len (splices_in c files reads k)
 
 -- the length after the splices
 abbrev pub spliced_length : ℕ → List Edit → ℕ
@@ -22,13 +25,19 @@ spliced_length before es = (before + new_len es) - old_len es
 -- the change of a file; none where there are no splices
 abbrev pub change_by : FileOf → List Edit → List ChangeOf
 change_by f [] = []
-change_by f (s ∷ es) = record { path = f.path; before = length f.bytes; after = spliced_length (length f.bytes) (s ∷ es); splices = s ∷ es } ∷ []
+change_by f (s ∷ es) = record {
+  path = f.path;
+  before = length f.bytes;
+  after = spliced_length (length f.bytes) (s ∷ es);
+  splices = s ∷ es;
+} ∷ []
 
 -- of the files from this number on
 abbrev pub changes_from : NewWords → ℕ → List FileOf → List ReadOf → List ChangeOf
 changes_from c file [] rs = []
 changes_from c file (f ∷ fs) [] = []
-changes_from c file (f ∷ fs) (r ∷ rs) = change_by f (token_edits f.bytes (in_file c file) 0 r.tokens) ++ changes_from c (suc file) fs rs
+changes_from c file (f ∷ fs) (r ∷ rs) =
+    change_by f (token_edits f.bytes (in_file c file) 0 r.tokens) ++ changes_from c (suc file) fs rs
 
 -- those of all files, in their order
 abbrev pub changes_of_words : NewWords → List FileOf → List ReadOf → List ChangeOf

@@ -12,7 +12,9 @@ use Rattle.proto_rename_laws.specs.Changes.{changes_of_words}
 use Rattle.proto_rename_laws.specs.Targets.{Target, IsNamed, renamed_words}
 
 -- files of a workspace that are texts, and the rename of a token of theirs that no case refuses
-pub record IsPutIn (files : List FileOf) (reads : List ReadOf) (name to : List ℕ) (t : Target) (after : List FileOf) (seen : List ReadOf) : Type 0 where
+pub record IsPutIn
+    (files : List FileOf) (reads : List ReadOf) (name to : List ℕ) (t : Target)
+    (after : List FileOf) (seen : List ReadOf) : Type 0 where
   pub texts : (k : ℕ) → k < length files → IsText (file_at files k).bytes
   pub read : AreRead files reads
   pub named : IsNamed files reads name t
@@ -21,14 +23,28 @@ pub record IsPutIn (files : List FileOf) (reads : List ReadOf) (name to : List �
 
 -- Each changed word is the old name, and becomes the new one.
 abbrev pub OldTextsAreNames : Type 0
-OldTextsAreNames = (files : List FileOf) (reads : List ReadOf) (t : Target) (to : List ℕ) (a : At) (w : List ℕ) → renamed_words files reads t to a ≡ Some w → (w ≡ to) × (text_of files reads a ≡ text_of files reads t.token)
+OldTextsAreNames =
+    (files : List FileOf) (reads : List ReadOf) (t : Target) (to : List ℕ) (a : At) (w : List ℕ)
+    → renamed_words files reads t to a ≡ Some w
+    → (w ≡ to) × (text_of files reads a ≡ text_of files reads t.token)
 
 -- The changes are an entry, where the target is a token of its file.
 abbrev pub ChangesAreEntry : Type 0
-ChangesAreEntry = (files : List FileOf) (reads : List ReadOf) (name to : List ℕ) (t : Target) (after : List FileOf) (seen : List ReadOf) → AreWorkspaceFiles files → IsPutIn files reads name to t after seen
-    → t.token.file < length files → t.token.token < length (read_at reads t.token.file).tokens → IsEntry (changes_of_words (renamed_words files reads t to) files reads)
+ChangesAreEntry =
+    (files : List FileOf) (reads : List ReadOf) (name to : List ℕ) (t : Target)
+    (after : List FileOf) (seen : List ReadOf)
+    → AreWorkspaceFiles files
+    → IsPutIn files reads name to t after seen
+    → t.token.file < length files
+    → t.token.token < length (read_at reads t.token.file).tokens
+    → IsEntry (changes_of_words (renamed_words files reads t to) files reads)
 
 -- The files after are texts, too: UTF-8, and not too large.
 abbrev pub TextsAfter : Type 0
-TextsAfter = (files : List FileOf) (reads : List ReadOf) (name to : List ℕ) (t : Target) (after : List FileOf) (seen : List ReadOf) → IsPutIn files reads name to t after seen
-    → (k : ℕ) → k < length after → IsText (file_at after k).bytes
+TextsAfter =
+    (files : List FileOf) (reads : List ReadOf) (name to : List ℕ) (t : Target)
+    (after : List FileOf) (seen : List ReadOf)
+    → IsPutIn files reads name to t after seen
+    → (k : ℕ)
+    → k < length after
+    → IsText (file_at after k).bytes

@@ -9,5 +9,10 @@ use Rattle.proto_rename_laws.specs.Changes.{changes_of_words}
 
 -- Put into the files, they give the files with the new words.
 abbrev pub ChangesArePut : Type 0
-ChangesArePut = (c : NewWords) (files : List FileOf) (reads : List ReadOf) (after : List FileOf) (seen : List ReadOf) → AreRead files reads → AreReworded c files reads after seen
-    → AllPairs (λ f g. f.path ≢ g.path) files → IsPut files (changes_of_words c files reads) after
+ChangesArePut =
+    (c : NewWords) (files : List FileOf) (reads : List ReadOf) (after : List FileOf)
+    (seen : List ReadOf)
+    → AreRead files reads
+    → AreReworded c files reads after seen
+    → AllPairs (λ f g. f.path ≢ g.path) files
+    → IsPut files (changes_of_words c files reads) after

@@ -9,10 +9,17 @@ use Rattle.proto_rename_laws.specs.Targets.{Target}
 
 -- There is one, where a reference is captured.
 abbrev pub FirstPlacesAreThere : Type 0
-FirstPlacesAreThere = (files : List FileOf) (reads : List ReadOf) (t : Target) (to : List ℕ) (u : Used At) → Captures files reads t to u
-    → (path : List ℕ) × (offset : ℕ) × IsFirstPlace files reads (Captures files reads t to) path offset
+FirstPlacesAreThere =
+    (files : List FileOf) (reads : List ReadOf) (t : Target) (to : List ℕ) (u : Used At)
+    → Captures files reads t to u
+    → (path : List ℕ) × (offset : ℕ)
+    × IsFirstPlace files reads (Captures files reads t to) path offset
 
 -- Two such places are the same.
 abbrev pub FirstPlacesAreOne : Type 0
-FirstPlacesAreOne = (files : List FileOf) (reads : List ReadOf) (t : Target) (to path other : List ℕ) (offset at : ℕ)
-    → IsFirstPlace files reads (Captures files reads t to) path offset → IsFirstPlace files reads (Captures files reads t to) other at → (path ≡ other) × (offset ≡ at)
+FirstPlacesAreOne =
+    (files : List FileOf) (reads : List ReadOf) (t : Target) (to path other : List ℕ)
+    (offset at : ℕ)
+    → IsFirstPlace files reads (Captures files reads t to) path offset
+    → IsFirstPlace files reads (Captures files reads t to) other at
+    → (path ≡ other) × (offset ≡ at)

@@ -13,8 +13,15 @@ IsInside files reads i = (i.file < length files) × (i.token < length (read_at r
 
 -- Each token that names a declaration or is a word of a reference is there.
 abbrev pub TokensAreInside : Type 0
-TokensAreInside = (files : List FileOf) (reads : List ReadOf) → AreRead files reads → (i : At) → Names (link_skeleton files reads) i ⊎ Uses (link_skeleton files reads) i → IsInside files reads i
+TokensAreInside = (files : List FileOf) (reads : List ReadOf)
+    → AreRead files reads
+    → (i : At)
+    → Names (link_skeleton files reads) i ⊎ Uses (link_skeleton files reads) i
+    → IsInside files reads i
 
 -- So is that of a target.
 abbrev pub TargetsAreInside : Type 0
-TargetsAreInside = (files : List FileOf) (reads : List ReadOf) (name : List ℕ) (t : Target) → AreRead files reads → IsNamed files reads name t → IsInside files reads t.token
+TargetsAreInside = (files : List FileOf) (reads : List ReadOf) (name : List ℕ) (t : Target)
+    → AreRead files reads
+    → IsNamed files reads name t
+    → IsInside files reads t.token

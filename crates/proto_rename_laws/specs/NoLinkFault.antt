@@ -13,17 +13,30 @@ use Rattle.proto_rename_laws.specs.Rewording.{NewWords}
 
 -- the names of files that were read
 abbrev pub FilesAreWoven : Type 0
-FilesAreWoven = (files : List FileOf) (reads : List ReadOf) → AreRead files reads → IsWoven (link_skeleton files reads)
+FilesAreWoven = (files : List FileOf) (reads : List ReadOf)
+    → AreRead files reads
+    → IsWoven (link_skeleton files reads)
 
 -- and without faults they are linked
 abbrev pub FilesAreLinked : Type 0
-FilesAreLinked = (files : List FileOf) (reads : List ReadOf) → AreRead files reads → HasNoFault (LinkFaults files) → IsLinked (names_of_files files reads)
+FilesAreLinked = (files : List FileOf) (reads : List ReadOf)
+    → AreRead files reads
+    → HasNoFault (LinkFaults files)
+    → IsLinked (names_of_files files reads)
 
 -- texts that were read have no fault
 abbrev pub ReadFilesAreClean : Type 0
-ReadFilesAreClean = (files : List FileOf) (reads : List ReadOf) → AreRead files reads → ((k : ℕ) → k < length files → IsText (file_at files k).bytes) → HasNoFault (ReadFaults files)
+ReadFilesAreClean = (files : List FileOf) (reads : List ReadOf)
+    → AreRead files reads
+    → ((k : ℕ) → k < length files → IsText (file_at files k).bytes)
+    → HasNoFault (ReadFaults files)
 
 -- Without collision and capture no fault of these phases comes in.
 abbrev pub NoLinkFaultComesIn : Type 0
-NoLinkFaultComesIn = (files : List FileOf) (reads : List ReadOf) (c : NewWords) (after : List FileOf) (seen : List ReadOf) (token : At) (above : List (Source At)) (aim : Declared At) (is_map : Bool) (to : List ℕ)
-    → IsRename files reads c after seen token above aim is_map to → HasNoFault (LinkFaults files) → HasNoFault (LinkFaults after)
+NoLinkFaultComesIn =
+    (files : List FileOf) (reads : List ReadOf) (c : NewWords) (after : List FileOf)
+    (seen : List ReadOf) (token : At) (above : List (Source At)) (aim : Declared At) (is_map : Bool)
+    (to : List ℕ)
+    → IsRename files reads c after seen token above aim is_map to
+    → HasNoFault (LinkFaults files)
+    → HasNoFault (LinkFaults after)

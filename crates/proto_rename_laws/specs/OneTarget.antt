@@ -9,8 +9,17 @@ use Rattle.proto_rename_laws.specs.Targets.{Target, IsNamed}
 
 -- Two targets of one name are the same.
 abbrev pub TargetsAreOne : Type 0
-TargetsAreOne = (files : List FileOf) (reads : List ReadOf) (name : List ℕ) (t u : Target) → AreRead files reads → HasNoFault (LinkFaults files) → IsNamed files reads name t → IsNamed files reads name u → t ≡ u
+TargetsAreOne = (files : List FileOf) (reads : List ReadOf) (name : List ℕ) (t u : Target)
+    → AreRead files reads
+    → HasNoFault (LinkFaults files)
+    → IsNamed files reads name t
+    → IsNamed files reads name u
+    → t ≡ u
 
 -- And there is one, where no symbol of the name is missing, or of a kind that may not be renamed.
 abbrev pub TargetsAreThere : Type 0
-TargetsAreThere = (files : List FileOf) (reads : List ReadOf) (name to : List ℕ) → AreRead files reads → (RenameCase files reads name to 1 → ⊥) → (RenameCase files reads name to 2 → ⊥) → (t : Target) × IsNamed files reads name t
+TargetsAreThere = (files : List FileOf) (reads : List ReadOf) (name to : List ℕ)
+    → AreRead files reads
+    → (RenameCase files reads name to 1 → ⊥)
+    → (RenameCase files reads name to 2 → ⊥)
+    → (t : Target) × IsNamed files reads name t

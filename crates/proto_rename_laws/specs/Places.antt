@@ -1,4 +1,5 @@
--- The tokens that a rename changes: the declaring one, those of references that stand for the target, and defaults.
+-- The tokens that a rename changes: the declaring one, those of references that
+-- stand for the target, and defaults.
 use Rattle.std.specs.Prelude.{◌≡◌, ◌⊎◌, ℕ, Bool, ◌==◌, ◌&&◌, if◌then◌else◌, List, [], ◌∷◌, ◌++◌, flat_map, Some, None}
 use Rattle.std.specs.List.{Contains, list_any}
 use Rattle.proto_case.specs.Camel.{entry_name}
@@ -15,11 +16,14 @@ same_at a b = (a.file == b.file) && (a.token == b.token)
 -- the words of a reference that stand for the target, where the words before them give the front
 abbrev pub stands : Renaming → (At → List ℕ) → List (List ℕ) → List At → List At
 stands e text front [] = []
-stands e text front (i ∷ is) = (if same_name (front ++ text i ∷ []) (target e) then i ∷ [] else []) ++ stands e text (front ++ text i ∷ []) is
+stands e text front (i ∷ is) = (if same_name (front ++ text i ∷ []) (target e) then i ∷ [] else [])
+    ++ stands e text (front ++ text i ∷ []) is
 
--- the name that the words of a reference go on from: the prefix of its scope at which it hits, or nothing
+-- the name that the words of a reference go on from: the prefix of its
+-- scope at which it hits, or nothing
 abbrev pub front_of : (At → List ℕ) → Skeleton At → Used At → List (List ℕ)
-front_of text k u = front_at (reference_of text entry_name u) (hit (workspace_of text entry_name k) (reference_of text entry_name u))
+front_of text k u = front_at (reference_of text entry_name u)
+    (hit (workspace_of text entry_name k) (reference_of text entry_name u))
 
 -- the words of this reference that stand for the target
 abbrev pub standing : (At → List ℕ) → Skeleton At → Renaming → Used At → List At
@@ -35,7 +39,9 @@ change_at places to a = if list_any (same_at a) places then Some to else None
 
 -- the token names a declaration, or the map field of an entry
 abbrev pub Names : Skeleton At → At → Type 0
-Names k i = (s : Declared At) × Contains k.declared s × ((a : List (Source At)) × ((s.path ≡ a ++ Token i ∷ []) ⊎ (s.path ≡ a ++ EntryOf i ∷ [])))
+Names k i = (s : Declared At)
+    × Contains k.declared s
+    × ((a : List (Source At)) × ((s.path ≡ a ++ Token i ∷ []) ⊎ (s.path ≡ a ++ EntryOf i ∷ [])))
 
 -- the token is a word of a reference
 abbrev pub Uses : Skeleton At → At → Type 0

@@ -13,5 +13,10 @@ use Rattle.proto_rename_laws.specs.Roles.{HasWants}
 
 -- a word that is none of the keywords that its kind may not have
 abbrev pub PlacesSuit : Type 0
-PlacesSuit = (files : List FileOf) (reads : List ReadOf) (name to : List ℕ) (t : Target) → IsLinked (names_of_files files reads) → IsNamed files reads name t → HasWants files reads t to
-    → IsRun Letter to → (is_keyword_of t.aim.kind to ≡ true → ⊥) → SuitFiles (renamed_words files reads t to) reads
+PlacesSuit = (files : List FileOf) (reads : List ReadOf) (name to : List ℕ) (t : Target)
+    → IsLinked (names_of_files files reads)
+    → IsNamed files reads name t
+    → HasWants files reads t to
+    → IsRun Letter to
+    → (is_keyword_of t.aim.kind to ≡ true → ⊥)
+    → SuitFiles (renamed_words files reads t to) reads

@@ -7,9 +7,16 @@ use Rattle.proto_meaning.specs.Skeleton.{Source, Declared, Skeleton, IsAim, rena
 use Rattle.proto_rename_laws.specs.Roles.{AreApart}
 use Rattle.proto_rename_laws.specs.Places.{Names, Uses, change_at, renamed_places}
 
--- The declaring token has the new word, every other declaration its own, and each reference is rewritten.
+-- The declaring token has the new word, every other declaration its
+-- own, and each reference is rewritten.
 abbrev pub PlacesRespell : Type 0
-PlacesRespell = (text now : At → List ℕ) (k : Skeleton At) (token : At) (above : List (Source At)) (aim : Declared At) (is_map : Bool) (to : List ℕ) (defaults : List At)
-    → IsAim k token above aim → AreApart k defaults
-    → ((i : At) → (Names k i ⊎ Uses k i) → now i ≡ or_word (change_at (renamed_places text k (renaming_of text entry_name token above is_map to) token defaults) to i) (text i))
+PlacesRespell =
+    (text now : At → List ℕ) (k : Skeleton At) (token : At) (above : List (Source At))
+    (aim : Declared At) (is_map : Bool) (to : List ℕ) (defaults : List At)
+    → IsAim k token above aim
+    → AreApart k defaults
+    → ((i : At) → (Names k i ⊎ Uses k i) → now i ≡ or_word
+    (change_at
+    (renamed_places text k (renaming_of text entry_name token above is_map to) token defaults) to i)
+    (text i))
     → IsRespelled text now entry_name k token (renaming_of text entry_name token above is_map to)

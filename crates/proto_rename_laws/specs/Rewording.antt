@@ -18,31 +18,59 @@ in_file c file i = c (at file i)
 
 -- each new word is one that its place wants
 abbrev pub SuitFiles : NewWords → List ReadOf → Type 0
-SuitFiles c reads = (k : ℕ) → k < length reads → Suits (in_file c k) (flat (read_at reads k).tree) × PutsWords (in_file c k)
+SuitFiles c reads = (k : ℕ)
+    → k < length reads
+    → Suits (in_file c k) (flat (read_at reads k).tree) × PutsWords (in_file c k)
 
 -- the files with the new words: each has its path, the words changed, and the very same tree
-pub record AreReworded (c : NewWords) (files : List FileOf) (reads : List ReadOf) (after : List FileOf) (seen : List ReadOf) : Type 0 where
+pub record AreReworded
+    (c : NewWords) (files : List FileOf) (reads : List ReadOf) (after : List FileOf)
+    (seen : List ReadOf) : Type 0 where
   pub paths : paths_of after ≡ paths_of files
   pub trees : map (λ r. r.tree) seen ≡ map (λ r. r.tree) reads
-  pub words : (k : ℕ) → k < length files → IsReworded (file_at files k).bytes (read_at reads k).tokens (in_file c k) (file_at after k).bytes (read_at seen k).tokens
+  pub words : (k : ℕ)
+      → k < length files
+      → IsReworded (file_at files k).bytes (read_at reads k).tokens (in_file c k)
+      (file_at after k).bytes (read_at seen k).tokens
   pub read : AreRead after seen
 
 -- Words that suit their places can be put, in all files.
 abbrev pub FilesAreReworded : Type 0
-FilesAreReworded = (c : NewWords) (files : List FileOf) (reads : List ReadOf) → AreRead files reads → SuitFiles c reads
+FilesAreReworded = (c : NewWords) (files : List FileOf) (reads : List ReadOf)
+    → AreRead files reads
+    → SuitFiles c reads
     → (after : List FileOf) × (seen : List ReadOf) × AreReworded c files reads after seen
 
 -- The texts are the old ones but for the change.
 abbrev pub TextsAreChanged : Type 0
-TextsAreChanged = (c : NewWords) (files : List FileOf) (reads : List ReadOf) (after : List FileOf) (seen : List ReadOf) → AreRead files reads → AreReworded c files reads after seen
-    → (a : At) → a.file < length files → a.token < length (read_at reads a.file).tokens → text_of after seen a ≡ or_word (c a) (text_of files reads a)
+TextsAreChanged =
+    (c : NewWords) (files : List FileOf) (reads : List ReadOf) (after : List FileOf)
+    (seen : List ReadOf)
+    → AreRead files reads
+    → AreReworded c files reads after seen
+    → (a : At)
+    → a.file < length files
+    → a.token < length (read_at reads a.file).tokens
+    → text_of after seen a ≡ or_word (c a) (text_of files reads a)
 
 -- A token that is not changed has its text, also where it is none of the file's.
 abbrev pub OtherTextsStay : Type 0
-OtherTextsStay = (c : NewWords) (files : List FileOf) (reads : List ReadOf) (after : List FileOf) (seen : List ReadOf) → AreRead files reads → AreReworded c files reads after seen
-    → (a : At) → a.file < length files → c a ≡ None → text_of after seen a ≡ text_of files reads a
+OtherTextsStay =
+    (c : NewWords) (files : List FileOf) (reads : List ReadOf) (after : List FileOf)
+    (seen : List ReadOf)
+    → AreRead files reads
+    → AreReworded c files reads after seen
+    → (a : At)
+    → a.file < length files
+    → c a ≡ None
+    → text_of after seen a ≡ text_of files reads a
 
 -- What the files declare, import and use is the same.
 abbrev pub SkeletonsStay : Type 0
-SkeletonsStay = (c : NewWords) (files : List FileOf) (reads : List ReadOf) (after : List FileOf) (seen : List ReadOf) → AreRead files reads → SuitFiles c reads → AreReworded c files reads after seen
+SkeletonsStay =
+    (c : NewWords) (files : List FileOf) (reads : List ReadOf) (after : List FileOf)
+    (seen : List ReadOf)
+    → AreRead files reads
+    → SuitFiles c reads
+    → AreReworded c files reads after seen
     → link_skeleton after seen ≡ link_skeleton files reads

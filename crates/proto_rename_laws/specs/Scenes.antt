@@ -12,8 +12,12 @@ use Rattle.proto_scenes.specs.SceneOf.{scene_of}
 use Rattle.proto_rename_laws.specs.Rewording.{SuitFiles, AreReworded, NewWords}
 use Rattle.proto_rename_laws.specs.Roles.{NumbersStay}
 
--- linked files, the symbol that a rename aims at, and the files after a change that spells the names as the name map wants them
-pub record IsRename (files : List FileOf) (reads : List ReadOf) (c : NewWords) (after : List FileOf) (seen : List ReadOf) (token : At) (above : List (Source At)) (aim : Declared At) (is_map : Bool) (to : List ℕ) : Type 0 where
+-- linked files, the symbol that a rename aims at, and the files after a change that spells
+-- the names as the name map wants them
+pub record IsRename
+    (files : List FileOf) (reads : List ReadOf) (c : NewWords) (after : List FileOf)
+    (seen : List ReadOf) (token : At) (above : List (Source At)) (aim : Declared At) (is_map : Bool)
+    (to : List ℕ) : Type 0 where
   pub read : AreRead files reads
   pub suits : SuitFiles c reads
   pub reworded : AreReworded c files reads after seen
@@ -21,12 +25,21 @@ pub record IsRename (files : List FileOf) (reads : List ReadOf) (c : NewWords) (
   pub woven : IsWoven (link_skeleton files reads)
   pub is : IsAim (link_skeleton files reads) token above aim
   pub entry : IsAimEntry (link_skeleton files reads) token above is_map
-  pub respelled : IsRespelled (text_of files reads) (text_of after seen) entry_name (link_skeleton files reads) token (renaming_of (text_of files reads) entry_name token above is_map to)
-  pub free : IsFree (renaming_of (text_of files reads) entry_name token above is_map to) (names_of_files files reads)
+  pub respelled : IsRespelled (text_of files reads) (text_of after seen) entry_name
+      (link_skeleton files reads) token
+      (renaming_of (text_of files reads) entry_name token above is_map to)
+  pub free : IsFree (renaming_of (text_of files reads) entry_name token above is_map to)
+      (names_of_files files reads)
   pub numbers : NumbersStay c reads
 
 -- The scenes of each file differ in names.
 abbrev pub ScenesDiffer : Type 0
-ScenesDiffer = (files : List FileOf) (reads : List ReadOf) (c : NewWords) (after : List FileOf) (seen : List ReadOf) (token : At) (above : List (Source At)) (aim : Declared At) (is_map : Bool) (to : List ℕ)
+ScenesDiffer =
+    (files : List FileOf) (reads : List ReadOf) (c : NewWords) (after : List FileOf)
+    (seen : List ReadOf) (token : At) (above : List (Source At)) (aim : Declared At) (is_map : Bool)
+    (to : List ℕ)
     → IsRename files reads c after seen token above aim is_map to
-    → (file : ℕ) → file < length files → DifferInNames (λ t. is_some (c (at file t))) (scene_of None files reads file) (scene_of None after seen file)
+    → (file : ℕ)
+    → file < length files
+    → DifferInNames (λ t. is_some (c (at file t))) (scene_of None files reads file)
+    (scene_of None after seen file)

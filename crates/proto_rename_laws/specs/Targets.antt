@@ -31,7 +31,8 @@ may_rename Oneof = false
 may_rename Value = true
 may_rename Method = true
 
--- a written declaration: its token, what it stands below, whether it is a map field, and for a value the name of its enum
+-- a written declaration: its token, what it stands below, whether it is a map field,
+-- and for a value the name of its enum
 pub record Target : Type 0 where
   pub token : At
   pub above : List (Source At)
@@ -40,21 +41,25 @@ pub record Target : Type 0 where
   pub enum : Option (List (List ℕ))
 
 -- the block of a declared enum has a value with this name token
-pub record HasValue (files : List FileOf) (reads : List ReadOf) (d : Declared At) (v : ℕ) : Type 0 where
+pub record HasValue
+    (files : List FileOf) (reads : List ReadOf) (d : Declared At) (v : ℕ) : Type 0 where
   pub b : BlockOf
   pub declared : Contains (link_skeleton files reads).declared d
-  pub found : find (λ (x : BlockOf). is_enum_at (place_of d).token x.header) (blocks_in (read_at reads (place_of d).file).tree) ≡ Some b
+  pub found : find (λ (x : BlockOf). is_enum_at (place_of d).token x.header)
+      (blocks_in (read_at reads (place_of d).file).tree) ≡ Some b
   pub within : Contains (map (λ v. v.name) (values_in b.within)) v
 
 -- the enum of this full name is declared in the file of the value, and its block has the value
-pub record IsEnumOf (files : List FileOf) (reads : List ReadOf) (token : At) (enum : List (List ℕ)) : Type 0 where
+pub record IsEnumOf
+    (files : List FileOf) (reads : List ReadOf) (token : At) (enum : List (List ℕ)) : Type 0 where
   pub d : Declared At
   pub declared : Contains (link_skeleton files reads).declared d
   pub kind : d.kind ≡ Enum
   pub name_is : name_of (text_of files reads) entry_name d.path ≡ enum
   pub file_is : d.file ≡ token.file
   pub b : BlockOf
-  pub found : find (λ (x : BlockOf). is_enum_at (place_of d).token x.header) (blocks_in (read_at reads token.file).tree) ≡ Some b
+  pub found : find (λ (x : BlockOf). is_enum_at (place_of d).token x.header)
+      (blocks_in (read_at reads token.file).tree) ≡ Some b
   pub within : Contains (map (λ v. v.name) (values_in b.within)) token.token
 
 -- the full name of the enum that has the value; none for another kind
@@ -63,7 +68,8 @@ HasEnum files reads aim token None = aim.kind ≢ Value
 HasEnum files reads aim token (Some enum) = (aim.kind ≡ Value) × IsEnumOf files reads token enum
 
 -- the declaration has the full name, as text
-pub record IsNamed (files : List FileOf) (reads : List ReadOf) (name : List ℕ) (t : Target) : Type 0 where
+pub record IsNamed
+    (files : List FileOf) (reads : List ReadOf) (name : List ℕ) (t : Target) : Type 0 where
   pub within : Contains (link_skeleton files reads).declared t.aim
   pub path : t.aim.path ≡ t.above ++ Token t.token ∷ []
   pub name_is : joined (name_of (text_of files reads) entry_name t.aim.path) ≡ name
@@ -78,4 +84,7 @@ name_map files reads t to = renaming_of (text_of files reads) entry_name t.token
 -- the new words, by their tokens
 abbrev pub renamed_words : List FileOf → List ReadOf → Target → List ℕ → NewWords
 renamed_words files reads t to =
-    change_at (renamed_places (text_of files reads) (link_skeleton files reads) (name_map files reads t to) t.token (renamed_defaults files reads t.enum (name_map files reads t to).old)) to
+    change_at
+    (renamed_places (text_of files reads) (link_skeleton files reads) (name_map files reads t to)
+    t.token (renamed_defaults files reads t.enum (name_map files reads t to).old))
+    to

@@ -14,8 +14,8 @@ ghost use Rattle.proto_rename_laws.specs.Scenes.{ScenesDiffer};
 
 use proto_meaning::edits::decisions;
 
-/// Words that suit their places can be put into all files: the texts are then the old ones but for these words, the trees
-/// are the very same, and so is what they declare, import and use.
+/// Words that suit their places can be put into all files: the texts are then the old ones but for
+/// these words, the trees are the very same, and so is what they declare, import and use.
 pub fn files_are_reworded()
     ensures put { FilesAreReworded }
     ensures texts { TextsAreChanged }
@@ -56,7 +56,8 @@ pub fn no_link_fault_comes_in()
     ensures link { NoLinkFaultComesIn }
 {}
 
-/// A name that neither case 1 nor case 2 refuses has a target, and one alone where no link fault stands.
+/// A name that neither case 1 nor case 2 refuses has a target, and one
+/// alone where no link fault stands.
 pub fn targets_are_one()
     ensures one { TargetsAreOne }
     ensures there { TargetsAreThere }
@@ -80,7 +81,8 @@ pub fn changes_are_put()
     ensures { ChangesArePut }
 {}
 
-/// The changes of a rename that no case refuses are an entry, each old text is the old name, and the files afterwards are texts.
+/// The changes of a rename that no case refuses are an entry, each old text is the old name,
+/// and the files afterwards are texts.
 pub fn changes_are_entry()
     ensures old { OldTextsAreNames }
     ensures entry { ChangesAreEntry }
