@@ -1,5 +1,5 @@
--- The cases that refuse a deletion, an added and a dropped import: sentences on the files and what is read of them. That a file would be
--- too long is a case of the splices, and stands with them.
+-- The cases that refuse a deletion, an added and a dropped import: sentences on the files and what
+-- is read of them. That a file would be too long is a case of the splices, and stands with them.
 use Rattle.std.specs.Prelude.{◌≡◌, ◌≢◌, ℕ, Bool, not, ◌&&◌, ◌==◌, List, [], ◌∷◌, ◌++◌, map, Some, None}
 use Rattle.std.specs.List.{Contains, filter}
 use Rattle.std.specs.Str.{bytes_eq}
@@ -24,7 +24,8 @@ use Rattle.proto_rename_laws.specs.Targets.{IsNamed, Target}
 -- ---- deletions
 
 -- a written field of this full name
-pub record IsField (files : List FileOf) (reads : List ReadOf) (name : List ℕ) (t : Target) : Type 0 where
+pub record IsField
+    (files : List FileOf) (reads : List ReadOf) (name : List ℕ) (t : Target) : Type 0 where
   pub named : IsNamed files reads name t
   pub kind : t.aim.kind ≡ Field
 
@@ -39,8 +40,15 @@ pub record IsAlone (reads : List ReadOf) (a : At) : Type 0 where
 -- Case n refuses the deletion; of several the least is answered.
 pub data DeletionCase (files : List FileOf) (reads : List ReadOf) (name : List ℕ) : ℕ → Type 0 where
   unknown_target : IsUnknown files reads name → DeletionCase files reads name 1
-  kind_not_allowed : (s : Symbol) → Contains (names_of_files files reads).symbols s → joined s.name ≡ name → s.kind ≢ Field → DeletionCase files reads name 2
-  last_of_oneof : (t : Target) → IsField files reads name t → IsAlone reads t.token → DeletionCase files reads name 10
+  kind_not_allowed : (s : Symbol)
+      → Contains (names_of_files files reads).symbols s
+      → joined s.name ≡ name
+      → s.kind ≢ Field
+      → DeletionCase files reads name 2
+  last_of_oneof : (t : Target)
+      → IsField files reads name t
+      → IsAlone reads t.token
+      → DeletionCase files reads name 10
 
 -- ---- imports
 
@@ -48,6 +56,7 @@ pub data DeletionCase (files : List FileOf) (reads : List ReadOf) (name : List �
 abbrev pub IsPlaceOf : List FileOf → List ℕ → ℕ → Type 0
 IsPlaceOf files path k = file_of (paths_of files) path ≡ Some k
 
+-- No file has this path.
 abbrev pub IsNoFile : List FileOf → List ℕ → Type 0
 IsNoFile files path = file_of (paths_of files) path ≡ None
 
@@ -55,55 +64,89 @@ IsNoFile files path = file_of (paths_of files) path ≡ None
 abbrev pub is_import_of : ℕ → List ℕ → Asked → Bool
 is_import_of k path a = (a.place.file == k) && bytes_eq a.path path
 
+-- what each file asks for by its imports, file by file
 abbrev pub asked_in : List FileOf → List ReadOf → List Asked
 asked_in files reads = all_wanted (text_of files reads) 0 reads
 
 -- the file imports the path, however its string is spelled
 abbrev pub IsImported : List FileOf → List ReadOf → ℕ → List ℕ → Type 0
-IsImported files reads k path = (a : Asked) × Contains (asked_in files reads) a × (a.place.file ≡ k) × (a.path ≡ path)
+IsImported files reads k path = (a : Asked)
+    × Contains (asked_in files reads) a
+    × (a.place.file ≡ k)
+    × (a.path ≡ path)
 
 -- ---- an import more
 
 -- the names, where the file at k imports the one at the other place as well
 abbrev pub with_added : List FileOf → List ReadOf → ℕ → ℕ → Workspace
-with_added files reads k to = with_imports (names_of_files files reads) (link_imports files reads ++ import_of k to ∷ [])
+with_added files reads k to =
+    with_imports (names_of_files files reads) (link_imports files reads ++ import_of k to ∷ [])
 
 -- a reference of the file that would be found further inward than it is now
-pub record IsOvertakenIn (files : List FileOf) (reads : List ReadOf) (k to : ℕ) (u : Used At) : Type 0 where
+pub record IsOvertakenIn
+    (files : List FileOf) (reads : List ReadOf) (k to : ℕ) (u : Used At) : Type 0 where
   pub used : Contains (link_skeleton files reads).used u
   pub own : u.file ≡ k
-  pub overtaken : IsOvertaken (names_of_files files reads) (with_added files reads k to) (reference_of (text_of files reads) entry_name u)
+  pub overtaken : IsOvertaken (names_of_files files reads) (with_added files reads k to)
+      (reference_of (text_of files reads) entry_name u)
 
 -- Case n refuses to add the import of the path to the file; of several the least is answered.
-pub data AdditionCase (files : List FileOf) (reads : List ReadOf) (file path : List ℕ) : ℕ → Type 0 where
-  captured : (k to : ℕ) (u : Used At) → IsPlaceOf files file k → IsPlaceOf files path to → IsOvertakenIn files reads k to u → AdditionCase files reads file path 7
+pub data AdditionCase
+    (files : List FileOf) (reads : List ReadOf) (file path : List ℕ) : ℕ → Type 0 where
+  captured : (k to : ℕ) (u : Used At)
+      → IsPlaceOf files file k
+      → IsPlaceOf files path to
+      → IsOvertakenIn files reads k to u
+      → AdditionCase files reads file path 7
   unknown_file : IsNoFile files file → AdditionCase files reads file path 11
   unknown_path : IsNoFile files path → AdditionCase files reads file path 11
-  already_imported : (k : ℕ) → IsPlaceOf files file k → IsImported files reads k path → AdditionCase files reads file path 12
+  already_imported : (k : ℕ)
+      → IsPlaceOf files file k
+      → IsImported files reads k path
+      → AdditionCase files reads file path 12
   -- the path is the file's, or leads to it by imports
-  cycle : (k to : ℕ) → IsPlaceOf files file k → IsPlaceOf files path to → Leads (link_imports files reads) to k → AdditionCase files reads file path 14
+  cycle : (k to : ℕ)
+      → IsPlaceOf files file k
+      → IsPlaceOf files path to
+      → Leads (link_imports files reads) to k
+      → AdditionCase files reads file path 14
 
 -- the place that is answered with case 7: that of the least such reference
 abbrev pub IsOvertakenAt : List FileOf → List ReadOf → List ℕ → List ℕ → List ℕ → ℕ → Type 0
-IsOvertakenAt files reads file path place offset = (k to : ℕ) × IsPlaceOf files file k × IsPlaceOf files path to × IsFirstPlace files reads (IsOvertakenIn files reads k to) place offset
+IsOvertakenAt files reads file path place offset = (k to : ℕ)
+    × IsPlaceOf files file k
+    × IsPlaceOf files path to
+    × IsFirstPlace files reads (IsOvertakenIn files reads k to) place offset
 
 -- ---- an import less
 
 -- the names, where the file at k does not import the path
 abbrev pub with_dropped : List FileOf → List ReadOf → ℕ → List ℕ → Workspace
-with_dropped files reads k path = with_imports (names_of_files files reads) (imports_of (paths_of files) (filter (λ a. not (is_import_of k path a)) (asked_in files reads)))
+with_dropped files reads k path = with_imports (names_of_files files reads)
+    (imports_of (paths_of files) (filter (λ a. not (is_import_of k path a)) (asked_in files reads)))
 
 -- a reference of any file that means what its file would no longer see
-pub record IsNeededIn (files : List FileOf) (reads : List ReadOf) (k : ℕ) (path : List ℕ) (u : Used At) : Type 0 where
+pub record IsNeededIn
+    (files : List FileOf) (reads : List ReadOf) (k : ℕ) (path : List ℕ) (u : Used At) : Type 0 where
   pub used : Contains (link_skeleton files reads).used u
-  pub needed : IsNeeded (names_of_files files reads) (with_dropped files reads k path) (reference_of (text_of files reads) entry_name u)
+  pub needed : IsNeeded (names_of_files files reads) (with_dropped files reads k path)
+      (reference_of (text_of files reads) entry_name u)
 
 -- Case n refuses to drop the import of the path from the file; of several the least is answered.
-pub data DropCase (files : List FileOf) (reads : List ReadOf) (file path : List ℕ) : ℕ → Type 0 where
+pub data DropCase
+    (files : List FileOf) (reads : List ReadOf) (file path : List ℕ) : ℕ → Type 0 where
   no_such_file : IsNoFile files file → DropCase files reads file path 11
-  not_imported : (k : ℕ) → IsPlaceOf files file k → (IsImported files reads k path → ⊥) → DropCase files reads file path 13
-  needed : (k : ℕ) (u : Used At) → IsPlaceOf files file k → IsNeededIn files reads k path u → DropCase files reads file path 15
+  not_imported : (k : ℕ)
+      → IsPlaceOf files file k
+      → (IsImported files reads k path → ⊥)
+      → DropCase files reads file path 13
+  needed : (k : ℕ) (u : Used At)
+      → IsPlaceOf files file k
+      → IsNeededIn files reads k path u
+      → DropCase files reads file path 15
 
 -- the place that is answered with case 15
 abbrev pub IsNeededAt : List FileOf → List ReadOf → List ℕ → List ℕ → List ℕ → ℕ → Type 0
-IsNeededAt files reads file path place offset = (k : ℕ) × IsPlaceOf files file k × IsFirstPlace files reads (IsNeededIn files reads k path) place offset
+IsNeededAt files reads file path place offset = (k : ℕ)
+    × IsPlaceOf files file k
+    × IsFirstPlace files reads (IsNeededIn files reads k path) place offset

@@ -9,15 +9,25 @@ use Rattle.proto_statement_names.specs.Cases.{DeletionCase, IsField}
 
 -- There is a field,
 abbrev pub FieldsAreThere : Type 0
-FieldsAreThere = (files : List FileOf) (reads : List ReadOf) (name : List ℕ) → AreRead files reads
-    → (DeletionCase files reads name 1 → ⊥) → (DeletionCase files reads name 2 → ⊥) → (t : Target) × IsField files reads name t
+FieldsAreThere = (files : List FileOf) (reads : List ReadOf) (name : List ℕ)
+    → AreRead files reads
+    → (DeletionCase files reads name 1 → ⊥)
+    → (DeletionCase files reads name 2 → ⊥)
+    → (t : Target) × IsField files reads name t
 
 -- one alone,
 abbrev pub FieldsAreOne : Type 0
-FieldsAreOne = (files : List FileOf) (reads : List ReadOf) (name : List ℕ) (t u : Target) → AreRead files reads → HasNoFault (LinkFaults files)
-    → IsField files reads name t → IsField files reads name u → t ≡ u
+FieldsAreOne = (files : List FileOf) (reads : List ReadOf) (name : List ℕ) (t u : Target)
+    → AreRead files reads
+    → HasNoFault (LinkFaults files)
+    → IsField files reads name t
+    → IsField files reads name u
+    → t ≡ u
 
 -- and its name is refused by neither case.
 abbrev pub FieldsMayGo : Type 0
-FieldsMayGo = (files : List FileOf) (reads : List ReadOf) (name : List ℕ) (t : Target) → AreRead files reads → HasNoFault (LinkFaults files)
-    → IsField files reads name t → (DeletionCase files reads name 1 → ⊥) × (DeletionCase files reads name 2 → ⊥)
+FieldsMayGo = (files : List FileOf) (reads : List ReadOf) (name : List ℕ) (t : Target)
+    → AreRead files reads
+    → HasNoFault (LinkFaults files)
+    → IsField files reads name t
+    → (DeletionCase files reads name 1 → ⊥) × (DeletionCase files reads name 2 → ⊥)

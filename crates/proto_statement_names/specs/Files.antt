@@ -1,5 +1,5 @@
--- Files before and after a field is deleted in one of them, and before and after one of them gets an import: what is asked of the
--- trees and texts, and the names that come out.
+-- Files before and after a field is deleted in one of them, and before and after one of them gets
+-- an import: what is asked of the trees and texts, and the names that come out.
 use Rattle.std.specs.Prelude.{◌≡◌, ◌≢◌, ℕ, Bool, true, List, ◌∷◌, ◌++◌, length, map, Some}
 use Rattle.proto_text.specs.Values.{value_of}
 use Rattle.proto_tree.specs.Moved.{Move}
@@ -18,7 +18,9 @@ use Rattle.proto_statement_names.specs.Lists.{HasMore, HasOneMore, IsAny}
 use Rattle.proto_statement_names.specs.Trees.{MovesNames, move_placed, move_wanted, placed_in}
 
 -- one file is read otherwise, and no path changes
-pub record IsOneFile (files : List FileOf) (reads : List ReadOf) (after : List FileOf) (seen : List ReadOf) : Type 0 where
+pub record IsOneFile
+    (files : List FileOf) (reads : List ReadOf) (after : List FileOf) (seen : List ReadOf)
+    : Type 0 where
   pub before : List ReadOf
   pub old : ReadOf
   pub new : ReadOf
@@ -29,17 +31,22 @@ pub record IsOneFile (files : List FileOf) (reads : List ReadOf) (after : List F
 
 -- ---- a field less
 
+-- what is declared here is of a kind that goes with a deleted field
 abbrev pub MayGoAt : Placed → Type 0
 MayGoAt p = goes_with_field p.kind ≡ true
 
--- With a field put in, a tree declares it and what goes with it, uses some more, and imports the same; all else is moved.
+-- With a field put in, a tree declares it and what goes with it, uses some more, and
+-- imports the same; all else is moved.
 pub record DeclaresMore (g : Move) (s t : Tree) : Type 0 where
   pub placed : HasMore MayGoAt (map (move_placed g) (placed_in s)) (placed_in t)
   pub used : HasMore IsAny (map (shifted_used g) (file_names s).used) (file_names t).used
   pub imports : imports_in t ≡ map (move_wanted g) (imports_in s)
 
--- The old tree is the middle one with the field put in, the new one the middle one with what declares nothing.
-pub record IsFieldLess (files : List FileOf) (reads : List ReadOf) (after : List FileOf) (seen : List ReadOf) : Type 0 where
+-- The old tree is the middle one with the field put in, the new one the
+-- middle one with what declares nothing.
+pub record IsFieldLess
+    (files : List FileOf) (reads : List ReadOf) (after : List FileOf) (seen : List ReadOf)
+    : Type 0 where
   pub file : IsOneFile files reads after seen
   pub middle : Tree
   pub words : ℕ → List ℕ
@@ -50,23 +57,30 @@ pub record IsFieldLess (files : List FileOf) (reads : List ReadOf) (after : List
   pub imports : imports_in file.new.tree ≡ map (move_wanted to_new) (imports_in middle)
   pub of_old : (i : ℕ) → text_of files reads (at (length file.before) (to_old i)) ≡ words i
   pub of_new : (i : ℕ) → text_of after seen (at (length file.before) (to_new i)) ≡ words i
-  pub others : (j i : ℕ) → j ≢ length file.before → text_of after seen (at j i) ≡ text_of files reads (at j i)
+  pub others : (j i : ℕ)
+      → j ≢ length file.before
+      → text_of after seen (at j i) ≡ text_of files reads (at j i)
 
 -- The names are those before without the field and what goes with it.
 abbrev pub DeletionsHaveLess : Type 0
-DeletionsHaveLess = (files : List FileOf) (reads : List ReadOf) (after : List FileOf) (seen : List ReadOf) → IsFieldLess files reads after seen
+DeletionsHaveLess =
+    (files : List FileOf) (reads : List ReadOf) (after : List FileOf) (seen : List ReadOf)
+    → IsFieldLess files reads after seen
     → HasLess (names_of_files files reads) (names_of_files after seen)
 
 -- ---- an import more
 
 -- The file at this place imports this other one as well; all else is the same, moved.
-pub record IsImportMore (files : List FileOf) (reads : List ReadOf) (after : List FileOf) (seen : List ReadOf) (from : ℕ) (path : List ℕ) (is_public : Bool) : Type 0 where
+pub record IsImportMore
+    (files : List FileOf) (reads : List ReadOf) (after : List FileOf) (seen : List ReadOf)
+    (from : ℕ) (path : List ℕ) (is_public : Bool) : Type 0 where
   pub file : IsOneFile files reads after seen
   pub place : from ≡ length file.before
   pub move : Move
   pub same : MovesNames move file.old.tree file.new.tree
   pub wanted : Wanted
-  pub more : HasOneMore wanted (map (move_wanted move) (imports_in file.old.tree)) (imports_in file.new.tree)
+  pub more : HasOneMore wanted (map (move_wanted move) (imports_in file.old.tree))
+      (imports_in file.new.tree)
   pub path_is : value_of (text_of after seen (at from wanted.path)) ≡ Some path
   pub public_is : wanted.is_public ≡ is_public
   pub own : (i : ℕ) → text_of after seen (at from (move i)) ≡ text_of files reads (at from i)
@@ -74,7 +88,12 @@ pub record IsImportMore (files : List FileOf) (reads : List ReadOf) (after : Lis
 
 -- The names are the same, with one import more.
 abbrev pub ImportsAreMore : Type 0
-ImportsAreMore = (files : List FileOf) (reads : List ReadOf) (after : List FileOf) (seen : List ReadOf) (from to : ℕ) (path : List ℕ) (is_public : Bool)
-    → IsImportMore files reads after seen from path is_public → file_of (paths_of files) path ≡ Some to
-    → (names_of_files after seen ≡ with_imports (names_of_files files reads) (link_imports after seen))
-    × HasOneMore (record { from = from; to = to; is_public = is_public }) (link_imports files reads) (link_imports after seen)
+ImportsAreMore =
+    (files : List FileOf) (reads : List ReadOf) (after : List FileOf) (seen : List ReadOf)
+    (from to : ℕ) (path : List ℕ) (is_public : Bool)
+    → IsImportMore files reads after seen from path is_public
+    → file_of (paths_of files) path ≡ Some to
+    → (names_of_files after seen
+    ≡ with_imports (names_of_files files reads) (link_imports after seen))
+    × HasOneMore (record { from = from; to = to; is_public = is_public }) (link_imports files reads)
+    (link_imports after seen)

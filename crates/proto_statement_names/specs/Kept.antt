@@ -1,5 +1,5 @@
--- What a deletion, an added and a dropped import leave of linked files: each reference means what it meant, and no fault of imports, names
--- and references comes in.
+-- What a deletion, an added and a dropped import leave of linked files: each reference means what
+-- it meant, and no fault of imports, names and references comes in.
 use Rattle.std.specs.Prelude.{◌≡◌, ℕ, Bool, false, List}
 use Rattle.std.specs.List.{Contains}
 use Rattle.proto_files.specs.Faults.{HasNoFault}
@@ -13,49 +13,87 @@ use Rattle.proto_statement_names.specs.Files.{IsFieldLess, IsImportMore}
 
 -- what the first files refer to means the same in both
 abbrev pub MeanTheSame : List FileOf → List ReadOf → List FileOf → List ReadOf → Type 0
-MeanTheSame files reads after seen = (r : Reference) → Contains (names_of_files files reads).references r → meaning (names_of_files after seen) r ≡ meaning (names_of_files files reads) r
+MeanTheSame files reads after seen = (r : Reference)
+    → Contains (names_of_files files reads).references r
+    → meaning (names_of_files after seen) r ≡ meaning (names_of_files files reads) r
 
 -- ---- deletions
 
+-- After the deletion of a field each reference that is left means what it meant,
 abbrev pub DeletionsKeepMeanings : Type 0
-DeletionsKeepMeanings = (files : List FileOf) (reads : List ReadOf) (after : List FileOf) (seen : List ReadOf) → AreClean files reads → IsFieldLess files reads after seen
+DeletionsKeepMeanings =
+    (files : List FileOf) (reads : List ReadOf) (after : List FileOf) (seen : List ReadOf)
+    → AreClean files reads
+    → IsFieldLess files reads after seen
     → MeanTheSame files reads after seen
 
+-- and the files are linked.
 abbrev pub DeletionsKeepLinks : Type 0
-DeletionsKeepLinks = (files : List FileOf) (reads : List ReadOf) (after : List FileOf) (seen : List ReadOf) → AreClean files reads → AreRead after seen → IsFieldLess files reads after seen
+DeletionsKeepLinks =
+    (files : List FileOf) (reads : List ReadOf) (after : List FileOf) (seen : List ReadOf)
+    → AreClean files reads
+    → AreRead after seen
+    → IsFieldLess files reads after seen
     → HasNoFault (LinkFaults after)
 
 -- ---- an import more
 
 -- the file of the one path imports the other as well, and no case refuses it
-pub record IsAdded (files : List FileOf) (reads : List ReadOf) (after : List FileOf) (seen : List ReadOf) (file path : List ℕ) : Type 0 where
+pub record IsAdded
+    (files : List FileOf) (reads : List ReadOf) (after : List FileOf) (seen : List ReadOf)
+    (file path : List ℕ) : Type 0 where
   pub from : ℕ
   pub place : IsPlaceOf files file from
   pub more : IsImportMore files reads after seen from path false
   pub free : (n : ℕ) → AdditionCase files reads file path n → ⊥
 
+-- With an added import each reference means what it meant,
 abbrev pub AdditionsKeepMeanings : Type 0
-AdditionsKeepMeanings = (files : List FileOf) (reads : List ReadOf) (after : List FileOf) (seen : List ReadOf) (file path : List ℕ) → AreClean files reads → IsAdded files reads after seen file path
+AdditionsKeepMeanings =
+    (files : List FileOf) (reads : List ReadOf) (after : List FileOf) (seen : List ReadOf)
+    (file path : List ℕ)
+    → AreClean files reads
+    → IsAdded files reads after seen file path
     → MeanTheSame files reads after seen
 
+-- and the files are linked.
 abbrev pub AdditionsKeepLinks : Type 0
-AdditionsKeepLinks = (files : List FileOf) (reads : List ReadOf) (after : List FileOf) (seen : List ReadOf) (file path : List ℕ) → AreClean files reads → AreRead after seen → IsAdded files reads after seen file path
+AdditionsKeepLinks =
+    (files : List FileOf) (reads : List ReadOf) (after : List FileOf) (seen : List ReadOf)
+    (file path : List ℕ)
+    → AreClean files reads
+    → AreRead after seen
+    → IsAdded files reads after seen file path
     → HasNoFault (LinkFaults after)
 
 -- ---- an import less
 
--- the first files are the second with the import put in, which may be a public one, and no case refuses to drop it
-pub record IsDropped (files : List FileOf) (reads : List ReadOf) (after : List FileOf) (seen : List ReadOf) (file path : List ℕ) : Type 0 where
+-- the first files are the second with the import put in, which may be a public
+-- one, and no case refuses to drop it
+pub record IsDropped
+    (files : List FileOf) (reads : List ReadOf) (after : List FileOf) (seen : List ReadOf)
+    (file path : List ℕ) : Type 0 where
   pub from : ℕ
   pub place : IsPlaceOf files file from
   pub is_public : Bool
   pub less : IsImportMore after seen files reads from path is_public
   pub free : (n : ℕ) → DropCase files reads file path n → ⊥
 
+-- Without a dropped import each reference means what it meant,
 abbrev pub DropsKeepMeanings : Type 0
-DropsKeepMeanings = (files : List FileOf) (reads : List ReadOf) (after : List FileOf) (seen : List ReadOf) (file path : List ℕ) → AreClean files reads → IsDropped files reads after seen file path
+DropsKeepMeanings =
+    (files : List FileOf) (reads : List ReadOf) (after : List FileOf) (seen : List ReadOf)
+    (file path : List ℕ)
+    → AreClean files reads
+    → IsDropped files reads after seen file path
     → MeanTheSame files reads after seen
 
+-- and the files are linked.
 abbrev pub DropsKeepLinks : Type 0
-DropsKeepLinks = (files : List FileOf) (reads : List ReadOf) (after : List FileOf) (seen : List ReadOf) (file path : List ℕ) → AreClean files reads → AreRead after seen → IsDropped files reads after seen file path
+DropsKeepLinks =
+    (files : List FileOf) (reads : List ReadOf) (after : List FileOf) (seen : List ReadOf)
+    (file path : List ℕ)
+    → AreClean files reads
+    → AreRead after seen
+    → IsDropped files reads after seen file path
     → HasNoFault (LinkFaults after)

@@ -14,10 +14,12 @@ goes_with_field Entry = true
 goes_with_field EntryField = true
 goes_with_field _ = false
 
+-- a symbol of a kind that goes with a deleted field
 abbrev pub MayGo : Symbol → Type 0
 MayGo s = goes_with_field s.kind ≡ true
 
--- The second workspace is the first without a field and what goes with it, and without its references.
+-- The second workspace is the first without a field and what goes
+-- with it, and without its references.
 pub record HasLess (w v : Workspace) : Type 0 where
   pub files : v.files ≡ w.files
   pub imports : v.imports ≡ w.imports
@@ -26,9 +28,16 @@ pub record HasLess (w v : Workspace) : Type 0 where
 
 -- Each reference keeps its meaning.
 abbrev pub LessMeans : Type 0
-LessMeans = (w v : Workspace) → IsLinked w → HasLess w v
-    → (r : Reference) → Contains w.references r → (m : List (List ℕ)) → meaning w r ≡ Some m → meaning v r ≡ Some m
+LessMeans = (w v : Workspace)
+    → IsLinked w
+    → HasLess w v
+    → (r : Reference)
+    → Contains w.references r
+    → (m : List (List ℕ))
+    → meaning w r ≡ Some m
+    → meaning v r ≡ Some m
 
--- What is left is linked, where it nests: no name is there twice, each reference means a type that may stand there.
+-- What is left is linked, where it nests: no name is there twice, each reference
+-- means a type that may stand there.
 abbrev pub LessIsLinked : Type 0
 LessIsLinked = (w v : Workspace) → IsLinked w → HasLess w v → IsNested v.symbols → IsLinked v

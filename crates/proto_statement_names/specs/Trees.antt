@@ -1,4 +1,5 @@
--- What a tree declares, uses and imports where its tokens are moved, and where imports alone are put in or taken out.
+-- What a tree declares, uses and imports where its tokens are moved, and where
+-- imports alone are put in or taken out.
 use Rattle.std.specs.Prelude.{◌≡◌, List, map}
 use Rattle.proto_tree.specs.Moved.{Move, move_tree}
 use Rattle.proto_tree.specs.Tree.{Tree}
@@ -9,12 +10,17 @@ use Rattle.proto_checks_laws.specs.Imports.{without_imports}
 
 -- a declaration by other tokens
 abbrev pub move_placed : Move → Placed → Placed
-move_placed g p = record { above = map (shifted_source g) p.above; last = shifted_source g p.last; kind = p.kind }
+move_placed g p = record {
+  above = map (shifted_source g) p.above;
+  last = shifted_source g p.last;
+  kind = p.kind;
+}
 
 -- an import by another token
 abbrev pub move_wanted : Move → Wanted → Wanted
 move_wanted g w = record { path = g w.path; is_public = w.is_public }
 
+-- what a tree declares, by its tokens
 abbrev pub placed_in : Tree → List Placed
 placed_in t = file_placed (file_names t).items
 
@@ -27,9 +33,13 @@ pub record MovesNames (g : Move) (s t : Tree) : Type 0 where
 abbrev pub TreesMoveNames : Type 0
 TreesMoveNames = (g : Move) (t : Tree) → MovesNames g t (move_tree g t)
 
+-- A moved tree imports what the first does, by moved tokens.
 abbrev pub TreesMoveImports : Type 0
-TreesMoveImports = (g : Move) (t : Tree) → imports_in (move_tree g t) ≡ map (move_wanted g) (imports_in t)
+TreesMoveImports = (g : Move) (t : Tree)
+    → imports_in (move_tree g t) ≡ map (move_wanted g) (imports_in t)
 
 -- So does one that besides its imports is the first, moved.
 abbrev pub ImportsMoveNames : Type 0
-ImportsMoveNames = (g : Move) (s t : Tree) → without_imports t ≡ move_tree g (without_imports s) → MovesNames g s t
+ImportsMoveNames = (g : Move) (s t : Tree)
+    → without_imports t ≡ move_tree g (without_imports s)
+    → MovesNames g s t

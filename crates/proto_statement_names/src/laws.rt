@@ -9,22 +9,24 @@ ghost use Rattle.proto_statement_names.specs.Trees.{ImportsMoveNames, TreesMoveI
 
 use proto_meaning::edits::{adds_import, adds_no_cycle, drops_import};
 
-/// Without some fields and their entries each reference keeps its meaning, and what is left is linked.
+/// Without some fields and their entries each reference keeps its
+/// meaning, and what is left is linked.
 pub fn less_means_the_same()
     ensures means { LessMeans }
     ensures linked { LessIsLinked }
 {}
 
-/// A tree whose tokens are moved declares, uses and imports what it did, by moved tokens; so it declares and uses where imports
-/// alone come in or go.
+/// A tree whose tokens are moved declares, uses and imports what it did, by moved tokens; so it
+/// declares and uses where imports alone come in or go.
 pub fn trees_move_names()
     ensures names { TreesMoveNames }
     ensures imports { TreesMoveImports }
     ensures apart { ImportsMoveNames }
 {}
 
-/// The names of files of which one has a field less are the names before, without the field and what goes with it; those of
-/// files of which one has an import more are the same with one import more.
+/// The names of files of which one has a field less are the names before, without
+/// the field and what goes with it; those of files of which one has an import more
+/// are the same with one import more.
 pub fn names_come_out()
     ensures less { DeletionsHaveLess }
     ensures more { ImportsAreMore }
@@ -37,7 +39,8 @@ pub fn fields_are_one()
     ensures free { FieldsMayGo }
 {}
 
-/// Where an added import overtakes a reference, or a dropped one is needed, the least such place is there, and it is one.
+/// Where an added import overtakes a reference, or a dropped one is needed, the least
+/// such place is there, and it is one.
 pub fn places_are_one()
     ensures overtaken { OvertakenPlacesAreThere }
     ensures one_overtaken { OvertakenPlacesAreOne }
@@ -45,8 +48,8 @@ pub fn places_are_one()
     ensures one_needed { NeededPlacesAreOne }
 {}
 
-/// A reference that the added import overtakes, or that needs the dropped one, would not mean what it means: so cases 7 and 15
-/// refuse nothing that could be done.
+/// A reference that the added import overtakes, or that needs the dropped one, would not mean what
+/// it means: so cases 7 and 15 refuse nothing that could be done.
 pub fn refusals_are_due()
     ensures overtaken { OvertakenMeansElse }
     ensures needed { NeededMeansElse }
@@ -55,7 +58,8 @@ pub fn refusals_are_due()
     drops_import();
 }
 
-/// A deletion keeps the meaning of each reference, and brings no fault of imports, names and references.
+/// A deletion keeps the meaning of each reference, and brings no fault
+/// of imports, names and references.
 pub fn deletions_keep_links()
     ensures means { DeletionsKeepMeanings }
     ensures links { DeletionsKeepLinks }
