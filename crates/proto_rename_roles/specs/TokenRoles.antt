@@ -9,4 +9,8 @@ use Rattle.proto_rename_laws.specs.Targets.{Target, IsNamed}
 
 -- For each symbol that may be renamed, whatever the new word.
 abbrev pub AllTokensHaveRoles : Type 0
-AllTokensHaveRoles = (files : List FileOf) (reads : List ReadOf) (name to : List ℕ) (t : Target) → AreRead files reads → HasNoFault (LinkFaults files) → IsNamed files reads name t → TokensHaveRoles files reads t to
+AllTokensHaveRoles = (files : List FileOf) (reads : List ReadOf) (name to : List ℕ) (t : Target)
+    → AreRead files reads
+    → HasNoFault (LinkFaults files)
+    → IsNamed files reads name t
+    → TokensHaveRoles files reads t to
