@@ -14,7 +14,8 @@ use Rattle.proto_targets.specs.declared.aim.NoTarget.{NoTarget}
 use Rattle.proto_targets.specs.declared.aim.NoTarget.TheVariants.{Unknown, NotAllowed, NoMemory}
 
 -- the target that has the name, as the files are read
-pub record IsAimedAt (files : List FileOf) (reads : List ReadOf) (a : Aim) (t : Target) : Type 0 where
+pub record IsAimedAt
+    (files : List FileOf) (reads : List ReadOf) (a : Aim) (t : Target) : Type 0 where
   pub named : IsNamed files reads a.name.now t
   pub token : at a.file a.token ≡ t.token
   pub kind : a.kind ≡ t.aim.kind
@@ -22,7 +23,9 @@ pub record IsAimedAt (files : List FileOf) (reads : List ReadOf) (a : Aim) (t : 
 
 -- it is what its name aims at, in these files
 abbrev pub IsAimOf : List FileOf → Aim → Type 0
-IsAimOf files a = (reads : List ReadOf) → AreRead files reads → (t : Target) × IsAimedAt files reads a t
+IsAimOf files a = (reads : List ReadOf)
+    → AreRead files reads
+    → (t : Target) × IsAimedAt files reads a t
 
 -- a symbol has the name that may not be renamed
 pub record IsNotAllowed (files : List FileOf) (reads : List ReadOf) (name : List ℕ) : Type 0 where
@@ -33,10 +36,16 @@ pub record IsNotAllowed (files : List FileOf) (reads : List ReadOf) (name : List
 
 -- why the name aims at nothing
 abbrev pub IsNoTarget : List FileOf → List ℕ → NoTarget → Type 0
-IsNoTarget files name Unknown = (reads : List ReadOf) → AreRead files reads → IsUnknown files reads name
-IsNoTarget files name NotAllowed = (reads : List ReadOf) → AreRead files reads → IsNotAllowed files reads name
+IsNoTarget files name Unknown = (reads : List ReadOf)
+    → AreRead files reads
+    → IsUnknown files reads name
+IsNoTarget files name NotAllowed = (reads : List ReadOf)
+    → AreRead files reads
+    → IsNotAllowed files reads name
 IsNoTarget files name NoMemory = Unit {0}
 
 -- its name is a front, and the word of its token behind that
 abbrev pub IsSpelled : List FileOf → Aim → Type 0
-IsSpelled files a = (a.file < length files) × ((reads : List ReadOf) → AreRead files reads → (front : List ℕ) × (a.name.now ≡ front ++ text_of files reads (at a.file a.token)))
+IsSpelled files a = (a.file < length files)
+    × ((reads : List ReadOf) → AreRead files reads
+    → (front : List ℕ) × (a.name.now ≡ front ++ text_of files reads (at a.file a.token)))

@@ -17,14 +17,20 @@ pub record IsTaken (e : Renaming) (w : Workspace) (name : List (List ℕ)) : Typ
 
 -- the new name is taken, or that of the new entry
 abbrev pub IsNewNameTaken : Renaming → Workspace → Type 0
-IsNewNameTaken e w = IsTaken e w (e.parent ++ e.new ∷ []) ⊎ ((p : List ℕ × List ℕ) × (e.entry ≡ Some p) × IsTaken e w (e.parent ++ p.1 ∷ []))
+IsNewNameTaken e w = IsTaken e w (e.parent ++ e.new ∷ [])
+    ⊎ ((p : List ℕ × List ℕ) × (e.entry ≡ Some p) × IsTaken e w (e.parent ++ p.1 ∷ []))
 
--- In linked files a rename collides exactly where one of these is taken: what stands below stands in them.
+-- In linked files a rename collides exactly where one of these is taken:
+-- what stands below stands in them.
 abbrev pub CollisionsAreNewNames : Type 0
-CollisionsAreNewNames = (e : Renaming) (w : Workspace) → IsLinked w → IsRenaming e w → Collides e w ↔ IsNewNameTaken e w
+CollisionsAreNewNames = (e : Renaming) (w : Workspace)
+    → IsLinked w
+    → IsRenaming e w
+    → Collides e w ↔ IsNewNameTaken e w
 
 -- ---- as texts
 
+-- the text is there, and is the word
 abbrev pub is_text : Option (List ℕ) → List ℕ → Bool
 is_text None word = false
 is_text (Some text) word = bytes_eq word text
@@ -38,6 +44,8 @@ abbrev pub IsTakenText : LinkOf → List ℕ → List ℕ → Option (List ℕ) 
 IsTakenText l front own entry word = (is_freed own entry word ≡ false) × HasText l (front ++ word)
 
 -- one of the two is taken
-abbrev pub IsOneTaken : LinkOf → List ℕ → List ℕ → Option (List ℕ) → List ℕ → Option (List ℕ) → Type 0
+abbrev pub IsOneTaken : LinkOf → List ℕ → List ℕ → Option (List ℕ) → List ℕ → Option (List ℕ)
+    → Type 0
 IsOneTaken l front own entry to None = IsTakenText l front own entry to
-IsOneTaken l front own entry to (Some new) = IsTakenText l front own entry to ⊎ IsTakenText l front own entry new
+IsOneTaken l front own entry to (Some new) = IsTakenText l front own entry to
+    ⊎ IsTakenText l front own entry new

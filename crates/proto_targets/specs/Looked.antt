@@ -41,4 +41,6 @@ IsNotDeclared l name NoMemory = Unit {0}
 
 -- an entry that stands at this token of this file
 abbrev pub IsEntryThere : Kind → ℕ → ℕ → ℕ → ℕ → Type 0
-IsEntryThere kind its_file its_token file token = (kind ≡ Entry) × (its_file ≡ file) × (its_token ≡ token)
+IsEntryThere kind its_file its_token file token = (kind ≡ Entry)
+    × (its_file ≡ file)
+    × (its_token ≡ token)

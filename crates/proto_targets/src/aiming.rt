@@ -124,7 +124,8 @@ fn declared<'a>(link: &Link, name: &'a str) -> Result<Aim<'a>, NoTarget>
     })
 }
 
-/// What a name aims at: the declaration of this full name, without a leading dot, if it may be renamed.
+/// What a name aims at: the declaration of this full name, without a
+/// leading dot, if it may be renamed.
 pub fn target<'a>(
     alloc: Global,
     files: &Files,

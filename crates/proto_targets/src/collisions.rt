@@ -77,8 +77,8 @@ fn is_one_taken(
     }
 }
 
-/// Whether a new name of what is renamed is that of a symbol that keeps its name: by the law of collisions only its own
-/// new name counts, and that of a map field's entry.
+/// Whether a new name of what is renamed is that of a symbol that keeps its name: by the law of
+/// collisions only its own new name counts, and that of a map field's entry.
 pub fn collides(
     alloc: Global,
     files: &Files,

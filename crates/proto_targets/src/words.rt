@@ -13,8 +13,8 @@ use proto_files::{Files, are_read};
 use proto_meaning::Kind;
 use proto_tree::{is_listed, may_name_value};
 
-/// Whether a symbol of this kind may not be named by the word: a message, an enum or a service by a listed word, a
-/// value by `option` or `reserved`.
+/// Whether a symbol of this kind may not be named by the word: a message, an enum or a service by a
+/// listed word, a value by `option` or `reserved`.
 pub fn is_keyword(kind: Kind, word: &str) -> bool
     ensures { result ≡ is_keyword_of kind word.now }
 {
