@@ -32,18 +32,25 @@ first_now n meaning len first = if stands_first n.target meaning len then n.new 
 -- one of the fronts that go on from this one, and have at least so many bytes, passes
 abbrev pub shown_from : (List ℕ → Bool) → ℕ → List ℕ → List (List ℕ) → Bool
 shown_from test least front [] = false
-shown_from test least front (w ∷ ws) = (nat_le least (length (under front w)) && test (under front w)) || shown_from test least (under front w) ws
+shown_from test least front (w ∷ ws) =
+    (nat_le least (length (under front w)) && test (under front w))
+    || shown_from test least (under front w) ws
 
--- the first word is then a new one, and something is shown under it in a front of the scope longer than that of the hit
+-- the first word is then a new one, and something is shown under it in a front of the
+-- scope longer than that of the hit
 abbrev pub captures_at : LinkOf → ℕ → NewTexts → List (List ℕ) → Bool → List ℕ → ℕ → List ℕ → Bool
-captures_at l file n scope is_long first len word = is_new_word n word && shown_from (λ front. shown_below l file is_long n front word) (len - length first) [] scope
+captures_at l file n scope is_long first len word = is_new_word n word
+    && shown_from (λ front. shown_below l file is_long n front word) (len - length first) [] scope
 
 -- a reference of these words in this scope, by what it means
-abbrev pub captures_words : LinkOf → ℕ → NewTexts → List (List ℕ) → List ℕ → List (List ℕ) → List ℕ → Bool
+abbrev pub captures_words : LinkOf → ℕ → NewTexts → List (List ℕ) → List ℕ → List (List ℕ) → List ℕ
+    → Bool
 captures_words l file n scope first rest meaning =
-    captures_at l file n scope (is_cons rest) first (bytes_before (length meaning) rest) (first_now n meaning (bytes_before (length meaning) rest) first)
+    captures_at l file n scope (is_cons rest) first (bytes_before (length meaning) rest)
+    (first_now n meaning (bytes_before (length meaning) rest) first)
 
 -- of a reference of a file, in a scope that the file declares
 abbrev pub captures_use : LinkOf → ℕ → NewTexts → (ℕ → List ℕ) → List Listed → Use → List ℕ → Bool
-captures_use l file n text declared u meaning =
-    not (is_some u.reference.now.dot) && captures_words l file n (name_of text entry_name (path_of (read declared) u.scope)) (text u.reference.now.words.first) (map (λ b. text b.item) u.reference.now.words.rest) meaning
+captures_use l file n text declared u meaning = not (is_some u.reference.now.dot)
+    && captures_words l file n (name_of text entry_name (path_of (read declared) u.scope))
+    (text u.reference.now.words.first) (map (λ b. text b.item) u.reference.now.words.rest) meaning

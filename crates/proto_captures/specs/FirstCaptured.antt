@@ -24,16 +24,27 @@ use Rattle.proto_captures.specs.NewTexts.{NewTexts, texts_by}
 -- nothing is captured; or this is, and nothing that stands before it
 abbrev pub IsFirstCaptured : List FileOf → List ReadOf → Target → List ℕ → Option RefId → Type 0
 IsFirstCaptured files reads t to None = (u : Used _) → Captures files reads t to u → ⊥
-IsFirstCaptured files reads t to (Some id) = (u : Used _) × Captures files reads t to u × (u.first ≡ at id.file id.token) × ((v : Used _) → Captures files reads t to v → StandsBefore v.first u.first → ⊥)
+IsFirstCaptured files reads t to (Some id) = (u : Used _)
+    × Captures files reads t to u
+    × (u.first ≡ at id.file id.token)
+    × ((v : Used _) → Captures files reads t to v → StandsBefore v.first u.first → ⊥)
 
 -- the same among the references of one file
 abbrev pub IsFirstIn : List FileOf → List ReadOf → Target → List ℕ → ℕ → Option ℕ → Type 0
-IsFirstIn files reads t to file None = (u : Used ℕ) → Contains (uses_of reads file) u → Captures files reads t to (used_in file u) → ⊥
-IsFirstIn files reads t to file (Some token) = (u : Used ℕ) × Contains (uses_of reads file) u × Captures files reads t to (used_in file u) × (u.first ≡ token)
-    × ((v : Used ℕ) → Contains (uses_of reads file) v → v.first < token → Captures files reads t to (used_in file v) → ⊥)
+IsFirstIn files reads t to file None = (u : Used ℕ)
+    → Contains (uses_of reads file) u
+    → Captures files reads t to (used_in file u)
+    → ⊥
+IsFirstIn files reads t to file (Some token) = (u : Used ℕ)
+    × Contains (uses_of reads file) u
+    × Captures files reads t to (used_in file u)
+    × (u.first ≡ token)
+    × ((v : Used ℕ) → Contains (uses_of reads file) v → v.first < token
+    → Captures files reads t to (used_in file v) → ⊥)
 
 -- a rename of a target that these linked files have, to a word, without collision
-pub record IsRenameOf (files : List FileOf) (reads : List ReadOf) (t : Target) (to : List ℕ) : Type 0 where
+pub record IsRenameOf
+    (files : List FileOf) (reads : List ReadOf) (t : Target) (to : List ℕ) : Type 0 where
   pub read : AreRead files reads
   pub clean : HasNoFault (LinkFaults files)
   pub name : List ℕ
@@ -43,7 +54,8 @@ pub record IsRenameOf (files : List FileOf) (reads : List ReadOf) (t : Target) (
 
 -- these are its names
 abbrev pub AreNewNames : List FileOf → List ReadOf → Target → List ℕ → NewTexts → Type 0
-AreNewNames files reads t to n = n ≡ texts_by (joined (target (name_map files reads t to))) (text_of files reads t.token) t.is_map to
+AreNewNames files reads t to n = n ≡ texts_by (joined (target (name_map files reads t to)))
+    (text_of files reads t.token) t.is_map to
 
 -- the text, where there is one
 abbrev pub or_nothing : Option (List ℕ) → List ℕ
@@ -52,7 +64,8 @@ or_nothing (Some text) = text
 
 -- of a reference, by what the link says that it means
 abbrev pub captures_by : LinkOf → ℕ → NewTexts → (ℕ → List ℕ) → List Listed → Use → Meant → Bool
-captures_by l file n text declared u m = captures_use l file n text declared u (or_nothing (text_at l m.row))
+captures_by l file n text declared u m =
+    captures_use l file n text declared u (or_nothing (text_at l m.row))
 
 -- the token of the first that passes
 abbrev pub first_of : (Use → Meant → Bool) → List Use → List Meant → Option ℕ

@@ -23,7 +23,12 @@ entry_texts (Some p) = Some (entry_pair p)
 
 -- the names as text
 abbrev pub texts_of : NewNames → NewTexts
-texts_of n = record { target = n.target.now; old = n.old.now; new = n.new.now; entry = entry_texts n.entry }
+texts_of n = record {
+  target = n.target.now;
+  old = n.old.now;
+  new = n.new.now;
+  entry = entry_texts n.entry;
+}
 
 -- a map field's entry has a name of its own
 abbrev pub entry_words : Bool → List ℕ → List ℕ → Option (List ℕ × List ℕ)
@@ -32,7 +37,12 @@ entry_words true old new = Some (entry_name old, entry_name new)
 
 -- the names of a rename, by the target's full name, its word and the new one
 abbrev pub texts_by : List ℕ → List ℕ → Bool → List ℕ → NewTexts
-texts_by target old is_map new = record { target = target; old = old; new = new; entry = entry_words is_map old new }
+texts_by target old is_map new = record {
+  target = target;
+  old = old;
+  new = new;
+  entry = entry_words is_map old new;
+}
 
 -- the new name of the entry, if there is one
 abbrev pub is_new_by : Option (List ℕ × List ℕ) → List ℕ → Bool

@@ -16,8 +16,24 @@ use Rattle.proto_text.specs.Texts.{words}
 use Rattle.proto_captures.specs.FirstCaptured.{first_of}
 use Rattle.proto_captures.specs.Overtaking.{IsFirstOvertaken, SeesMarked, TellsPackages, overtakes_by}
 
+-- In linked files the first reference that the texts tell as overtaken, where a file sees marked
+-- files, is the first one that the names of the workspace tell as overtaken.
 abbrev pub FirstsAreOvertaken : Type 0
-FirstsAreOvertaken = (files : List FileOf) (reads : List ReadOf) → AreRead files reads → HasNoFault (LinkFaults files) → (v : Workspace) (marks : List Bool) (l : LinkOf) → IsLinkOf files l → (file : ℕ) → file < length files
-    → SeesMarked files reads v file marks → (packages : List ℕ → Bool) → TellsPackages files marks packages
-    → (declared : List Listed) (us : List Use) (ms : List Meant) → map (used_by (read declared)) us ≡ uses_of reads file → ms ≡ get_or l.meant file []
-    → (first : Option ℕ) → first ≡ first_of (overtakes_by l marks packages (words (file_at files file).bytes (read_at reads file).tokens) declared) us ms → IsFirstOvertaken files reads v file first
+FirstsAreOvertaken = (files : List FileOf) (reads : List ReadOf)
+    → AreRead files reads
+    → HasNoFault (LinkFaults files)
+    → (v : Workspace) (marks : List Bool) (l : LinkOf)
+    → IsLinkOf files l
+    → (file : ℕ)
+    → file < length files
+    → SeesMarked files reads v file marks
+    → (packages : List ℕ → Bool)
+    → TellsPackages files marks packages
+    → (declared : List Listed) (us : List Use) (ms : List Meant)
+    → map (used_by (read declared)) us ≡ uses_of reads file
+    → ms ≡ get_or l.meant file []
+    → (first : Option ℕ)
+    → first ≡ first_of
+    (overtakes_by l marks packages (words (file_at files file).bytes (read_at reads file).tokens)
+    declared) us ms
+    → IsFirstOvertaken files reads v file first

@@ -1,4 +1,5 @@
--- The first reference of a file that is overtaken where the file sees more: by the names of the workspace, and by texts.
+-- The first reference of a file that is overtaken where the file sees more: by the
+-- names of the workspace, and by texts.
 use Rattle.std.specs.Prelude.{◌≡◌, ◌↔◌, ℕ, ◌-◌, ◌<◌, length, Bool, true, false, not, ◌&&◌, if◌then◌else◌, List, [], ◌∷◌, map, get_or, Option, Some, None, is_some, slice_index_or}
 use Rattle.std.specs.List.{Contains, find}
 use Rattle.std.specs.Str.{bytes_eq}
@@ -30,20 +31,28 @@ use Rattle.proto_captures.specs.ShownTexts.{below, first_fits}
 
 -- a reference of the file that has a hit deeper among other imports
 abbrev pub Overtakes : List FileOf → List ReadOf → Workspace → ℕ → Used ℕ → Type 0
-Overtakes files reads v file u = Contains (uses_of reads file) u × IsOvertaken (names_of_files files reads) v (used_named (text_of files reads) file u)
+Overtakes files reads v file u = Contains (uses_of reads file) u
+    × IsOvertaken (names_of_files files reads) v (used_named (text_of files reads) file u)
 
--- no reference of the file is overtaken; or this is, by its first token, and none that stands before it
+-- no reference of the file is overtaken; or this is, by its first
+-- token, and none that stands before it
 abbrev pub IsFirstOvertaken : List FileOf → List ReadOf → Workspace → ℕ → Option ℕ → Type 0
 IsFirstOvertaken files reads v file None = (u : Used ℕ) → Overtakes files reads v file u → ⊥
-IsFirstOvertaken files reads v file (Some token) = (u : Used ℕ) × Overtakes files reads v file u × (u.first ≡ token) × ((x : Used ℕ) → Overtakes files reads v file x → x.first < token → ⊥)
+IsFirstOvertaken files reads v file (Some token) = (u : Used ℕ)
+    × Overtakes files reads v file u
+    × (u.first ≡ token)
+    × ((x : Used ℕ) → Overtakes files reads v file x → x.first < token → ⊥)
 
 -- the names with other imports, by which the file sees what is marked
-pub record SeesMarked (files : List FileOf) (reads : List ReadOf) (v : Workspace) (file : ℕ) (marks : List Bool) : Type 0 where
+pub record SeesMarked
+    (files : List FileOf) (reads : List ReadOf) (v : Workspace) (file : ℕ) (marks : List Bool)
+    : Type 0 where
   pub imports : v ≡ with_imports (names_of_files files reads) v.imports
   pub seen : MarksSeen v file marks
 
 -- ---- by texts
 
+-- whether the file at this place is marked
 abbrev pub is_marked : List Bool → ℕ → Bool
 is_marked marks file = slice_index_or marks file false
 
@@ -54,39 +63,55 @@ fronts_from front (w ∷ ws) = under front w ∷ fronts_from (under front w) ws
 
 -- the package of a file with its fronts, as text
 abbrev pub package_texts : List FileOf → List ReadOf → ℕ → List (List ℕ)
-package_texts files reads file = fronts_from [] (map (λ i. text_of files reads (at file i)) (package_of (items_in (read_at reads file).tree)))
+package_texts files reads file = fronts_from []
+    (map (λ i. text_of files reads (at file i)) (package_of (items_in (read_at reads file).tree)))
 
 -- it is the package of a marked file, or a front of that
 abbrev pub IsPackageSeen : List FileOf → List ReadOf → List Bool → List ℕ → Type 0
-IsPackageSeen files reads marks text = (file : ℕ) × (file < length files) × (is_marked marks file ≡ true) × Contains (package_texts files reads file) text
+IsPackageSeen files reads marks text = (file : ℕ)
+    × (file < length files)
+    × (is_marked marks file ≡ true)
+    × Contains (package_texts files reads file) text
 
 -- a test for packages that are seen
 abbrev pub TellsPackages : List FileOf → List Bool → (List ℕ → Bool) → Type 0
-TellsPackages files marks packages = (reads : List ReadOf) → AreRead files reads → (text : List ℕ) → (packages text ≡ true) ↔ IsPackageSeen files reads marks text
+TellsPackages files marks packages = (reads : List ReadOf)
+    → AreRead files reads
+    → (text : List ℕ)
+    → (packages text ≡ true) ↔ IsPackageSeen files reads marks text
 
 -- the name's file is marked, or it is a package that is seen
 abbrev pub is_seen : List Bool → (List ℕ → Bool) → NameOf → Bool
-is_seen marks packages n = if is_package n.kind then packages n.text else is_marked marks (get_or n.files 0 0)
+is_seen marks packages n =
+    if is_package n.kind then packages n.text else is_marked marks (get_or n.files 0 0)
 
+-- whether a name is there, of a kind that fits a first word, and is seen
 abbrev pub fits_seen : List Bool → (List ℕ → Bool) → Bool → Option NameOf → Bool
 fits_seen marks packages is_long None = false
 fits_seen marks packages is_long (Some n) = first_fits is_long n.kind && is_seen marks packages n
 
 -- a name with this text fits, and is seen
 abbrev pub sees_text : LinkOf → List Bool → (List ℕ → Bool) → Bool → List ℕ → Bool
-sees_text l marks packages is_long text = fits_seen marks packages is_long (find (λ n. bytes_eq n.text text) l.names)
+sees_text l marks packages is_long text =
+    fits_seen marks packages is_long (find (λ n. bytes_eq n.text text) l.names)
 
--- in a front of the scope that is longer than that of the hit, something is seen under the first word
-abbrev pub overtakes_words : LinkOf → List Bool → (List ℕ → Bool) → List (List ℕ) → List ℕ → List (List ℕ) → List ℕ → Bool
+-- in a front of the scope that is longer than that of the hit,
+-- something is seen under the first word
+abbrev pub overtakes_words : LinkOf → List Bool → (List ℕ → Bool) → List (List ℕ) → List ℕ
+    → List (List ℕ) → List ℕ → Bool
 overtakes_words l marks packages scope first rest meaning =
-    shown_from (λ front. sees_text l marks packages (is_cons rest) (below front first)) (bytes_before (length meaning) rest - length first) [] scope
+    shown_from (λ front. sees_text l marks packages (is_cons rest) (below front first))
+    (bytes_before (length meaning) rest - length first) [] scope
 
 -- of a reference of a file, in a scope that the file declares
-abbrev pub overtakes_use : LinkOf → List Bool → (List ℕ → Bool) → (ℕ → List ℕ) → List Listed → Use → List ℕ → Bool
-overtakes_use l marks packages text declared u meaning =
-    not (is_some u.reference.now.dot)
-    && overtakes_words l marks packages (name_of text entry_name (path_of (read declared) u.scope)) (text u.reference.now.words.first) (map (λ b. text b.item) u.reference.now.words.rest) meaning
+abbrev pub overtakes_use : LinkOf → List Bool → (List ℕ → Bool) → (ℕ → List ℕ) → List Listed → Use
+    → List ℕ → Bool
+overtakes_use l marks packages text declared u meaning = not (is_some u.reference.now.dot)
+    && overtakes_words l marks packages (name_of text entry_name (path_of (read declared) u.scope))
+    (text u.reference.now.words.first) (map (λ b. text b.item) u.reference.now.words.rest) meaning
 
 -- by what the link says that it means
-abbrev pub overtakes_by : LinkOf → List Bool → (List ℕ → Bool) → (ℕ → List ℕ) → List Listed → Use → Meant → Bool
-overtakes_by l marks packages text declared u m = overtakes_use l marks packages text declared u (or_nothing (text_at l m.row))
+abbrev pub overtakes_by : LinkOf → List Bool → (List ℕ → Bool) → (ℕ → List ℕ) → List Listed → Use
+    → Meant → Bool
+overtakes_by l marks packages text declared u m =
+    overtakes_use l marks packages text declared u (or_nothing (text_at l m.row))

@@ -1,4 +1,5 @@
--- What is shown under the new names of a rename, where nothing collides: below the target's parent the target and its entry, elsewhere what has the name now.
+-- What is shown under the new names of a rename, where nothing collides: below the target's parent
+-- the target and its entry, elsewhere what has the name now.
 use Rattle.std.specs.Prelude.{◌≡◌, ◌≢◌, ℕ, Bool, false, ◌&&◌, ◌||◌, if◌then◌else◌, List, [], ◌∷◌, ◌++◌, Option, Some, None}
 use Rattle.std.specs.List.{Contains}
 use Rattle.std.specs.Str.{bytes_eq}
@@ -9,17 +10,22 @@ use Rattle.proto_meaning.specs.Names.{Symbol, Workspace, same_name, shows}
 use Rattle.proto_rename_laws.specs.Captures.{IsNewWord}
 
 -- the old entry, under its new name
-abbrev pub shows_entry : Workspace → ℕ → (Kind → Bool) → List (List ℕ) → Option (List ℕ × List ℕ) → List ℕ → Bool
+abbrev pub shows_entry : Workspace → ℕ → (Kind → Bool) → List (List ℕ) → Option (List ℕ × List ℕ)
+    → List ℕ → Bool
 shows_entry w f good scope None q = false
 shows_entry w f good scope (Some p) q = bytes_eq q p.1 && shows w f good (scope ++ p.0 ∷ [])
 
 -- the target or its entry, under its new name
 abbrev pub shows_beside : Renaming → Workspace → ℕ → (Kind → Bool) → List (List ℕ) → List ℕ → Bool
-shows_beside e w f good scope q = (bytes_eq q e.new && shows w f good (target e)) || shows_entry w f good scope e.entry q
+shows_beside e w f good scope q =
+    (bytes_eq q e.new && shows w f good (target e)) || shows_entry w f good scope e.entry q
 
 -- right below the scope
 abbrev pub shows_anew : Renaming → Workspace → ℕ → (Kind → Bool) → List (List ℕ) → List ℕ → Bool
-shows_anew e w f good scope q = if same_name scope e.parent then shows_beside e w f good scope q else shows w f good (scope ++ q ∷ [])
+shows_anew e w f good scope q =
+    if same_name scope e.parent
+    then shows_beside e w f good scope q
+    else shows w f good (scope ++ q ∷ [])
 
 -- something is declared under this name
 abbrev pub IsDeclaredName : Workspace → List (List ℕ) → Type 0
@@ -27,5 +33,13 @@ IsDeclaredName w name = (name ≢ []) × ((s : Symbol) × Contains w.symbols s �
 
 -- Of what has a new name below a declared scope, only the target and its entry had another name.
 abbrev pub ShownIsAnew : Type 0
-ShownIsAnew = (e : Renaming) (w : Workspace) → IsLinked w → IsRenaming e w → (Collides e w → ⊥) → (scope : List (List ℕ)) → IsDeclaredName w scope → (q : List ℕ) → IsNewWord e q → (f : ℕ) (good : Kind → Bool)
+ShownIsAnew = (e : Renaming) (w : Workspace)
+    → IsLinked w
+    → IsRenaming e w
+    → (Collides e w → ⊥)
+    → (scope : List (List ℕ))
+    → IsDeclaredName w scope
+    → (q : List ℕ)
+    → IsNewWord e q
+    → (f : ℕ) (good : Kind → Bool)
     → shows_mapped e w f good (ren e scope ++ q ∷ []) ≡ shows_anew e w f good scope q

@@ -31,7 +31,8 @@ below scope word = scope ++ 46 ∷ word
 
 -- a map field's entry under its new name
 abbrev pub entry_shown : LinkOf → ℕ → Bool → List ℕ × List ℕ → List ℕ → List ℕ → Bool
-entry_shown l file is_long p scope word = bytes_eq word p.1 && shows_text l file is_long (below scope p.0)
+entry_shown l file is_long p scope word =
+    bytes_eq word p.1 && shows_text l file is_long (below scope p.0)
 
 -- the same, if there is an entry
 abbrev pub entry_shown_if : LinkOf → ℕ → Bool → Option (List ℕ × List ℕ) → List ℕ → List ℕ → Bool
@@ -40,8 +41,13 @@ entry_shown_if l file is_long (Some p) scope word = entry_shown l file is_long p
 
 -- the target, or its entry, under its new name
 abbrev pub shown_beside : LinkOf → ℕ → Bool → NewTexts → List ℕ → List ℕ → Bool
-shown_beside l file is_long n scope word = (bytes_eq word n.new && shows_text l file is_long n.target) || entry_shown_if l file is_long n.entry scope word
+shown_beside l file is_long n scope word =
+    (bytes_eq word n.new && shows_text l file is_long n.target)
+    || entry_shown_if l file is_long n.entry scope word
 
 -- below the target's parent the target or its entry, elsewhere what has the name now
 abbrev pub shown_below : LinkOf → ℕ → Bool → NewTexts → List ℕ → List ℕ → Bool
-shown_below l file is_long n scope word = if bytes_eq (below scope n.old) n.target then shown_beside l file is_long n scope word else shows_text l file is_long (below scope word)
+shown_below l file is_long n scope word =
+    if bytes_eq (below scope n.old) n.target
+    then shown_beside l file is_long n scope word
+    else shows_text l file is_long (below scope word)

@@ -1,4 +1,5 @@
-//! Whether a rename captures a reference: what its first word is then, and what it finds on the way to its hit.
+//! Whether a rename captures a reference: what its first word is then, and
+//! what it finds on the way to its hit.
 
 ghost use Rattle.std.specs.Prelude.{◌≡◌, ◌<◌, ◌≤◌, ℕ, [], length, get_or, map, IfOk, OnOk, string_bytes};
 ghost use Rattle.proto_captures.specs.Capturing.{bytes_before, captures_use, first_now, is_cons, shown_from, stands_first};
@@ -59,7 +60,8 @@ pub(crate) fn extend(name: &mut String, word: &str) -> Result<(), NoMemory>
     Ok(())
 }
 
-/// Whether in one of the fronts of a scope that have at least so many bytes, something is shown under the word.
+/// Whether in one of the fronts of a scope that have at least so many bytes,
+/// something is shown under the word.
 fn is_shown_from(
     alloc: Global,
     link: &Link,

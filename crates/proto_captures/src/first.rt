@@ -25,7 +25,8 @@ use proto_names::{Link, Meant, RefId};
 use proto_targets::Aim;
 use std::alloc::Global;
 
-/// The first token of the first reference of a list that is captured. What they mean is given in the same order.
+/// The first token of the first reference of a list that is captured. What
+/// they mean is given in the same order.
 fn first_of<'a>(
     alloc: Global,
     link: &Link,

@@ -19,8 +19,8 @@ pub(crate) struct EntryNames {
     pub(crate) new: String,
 }
 
-/// The names that a rename changes: the target's full name, its simple names before and after, and for a map field those
-/// of its entry.
+/// The names that a rename changes: the target's full name, its simple names before and after, and
+/// for a map field those of its entry.
 #[derive(Drop)]
 pub(crate) struct NewNames<'a> {
     pub(crate) target: &'a str,

@@ -37,7 +37,8 @@ struct Seen<'a> {
     packages: HashSet<String>,
 }
 
-/// From where a reference's first word is looked up: the words around it, and from how many bytes on.
+/// From where a reference's first word is looked up: the words
+/// around it, and from how many bytes on.
 #[derive(Clone, Copy)]
 struct Around<'a> {
     scope: &'a [String],
@@ -99,7 +100,8 @@ fn is_seen(link: &Link, seen: &Seen, is_long: bool, name: &str) -> bool
     }
 }
 
-/// Whether in one of the fronts of a scope that have at least so many bytes, something that fits is seen under the word.
+/// Whether in one of the fronts of a scope that have at least so many bytes, something
+/// that fits is seen under the word.
 fn is_seen_from(
     alloc: Global,
     link: &Link,
@@ -156,7 +158,8 @@ fn is_overtaken(
     is_seen_from(alloc, link, seen, around, first)
 }
 
-/// The first token of the first reference of a list that is overtaken. What they mean is given in the same order.
+/// The first token of the first reference of a list that is overtaken. What
+/// they mean is given in the same order.
 fn first_in_list(
     alloc: Global,
     link: &Link,
@@ -179,8 +182,8 @@ fn first_in_list(
     Ok(None)
 }
 
-/// The first reference of a file that is overtaken where the file sees what is marked, by its first token: with the
-/// imports by which it sees this, it would be found further inward than it is now.
+/// The first reference of a file that is overtaken where the file sees what is marked, by its first
+/// token: with the imports by which it sees this, it would be found further inward than it is now.
 pub fn first_overtaken(
     alloc: Global,
     files: &Files,

@@ -55,8 +55,8 @@ pub(crate) fn below(alloc: Global, scope: &str, word: &str) -> Result<String, No
     Ok(name)
 }
 
-/// Whether below a scope something fits and is visible under the word, once the names are the new ones. (The word is a new
-/// one, and nothing collides.)
+/// Whether below a scope something fits and is visible under the word, once the names are the new
+/// ones. (The word is a new one, and nothing collides.)
 pub(crate) fn is_shown_below(
     alloc: Global,
     link: &Link,
