@@ -27,11 +27,17 @@ holders_in tree = filter (λ b. may_hold b.header) (blocks_in tree)
 
 -- a message as a block
 abbrev pub message_block : Braced Member → BlockOf
-message_block m = record { header = header.Message (record { keyword = m.keyword; name = m.name }); within = trees member_tree m.members.items }
+message_block m = record {
+  header = header.Message (record { keyword = m.keyword; name = m.name });
+  within = trees member_tree m.members.items;
+}
 
 -- a oneof as a block
 abbrev pub oneof_block : Braced Field → BlockOf
-oneof_block o = record { header = header.Oneof (record { keyword = o.keyword; name = o.name }); within = trees field_tree o.members.items }
+oneof_block o = record {
+  header = header.Oneof (record { keyword = o.keyword; name = o.name });
+  within = trees field_tree o.members.items;
+}
 
 -- what was found, as a block
 abbrev pub block_of : BlockAt → BlockOf

@@ -22,7 +22,8 @@ is_text name (Some found) = bytes_eq found name
 -- the type is a reference that means the name
 abbrev pub type_means : LinkOf → ℕ → List ℕ → FieldType → Bool
 type_means l file name (field_type.Scalar t) = false
-type_means l file name (field_type.Reference r) = is_text name (text_meant l file (first_of r.dot r.words))
+type_means l file name (field_type.Reference r) =
+    is_text name (text_meant l file (first_of r.dot r.words))
 
 -- those of these words that have the text
 abbrev pub spelled : (ℕ → List ℕ) → List ℕ → List ℕ → List ℕ
@@ -34,7 +35,8 @@ defaults_of text means old f = if means f.kind then spelled text old (default_wo
 
 -- those of the fields of a message
 abbrev pub defaults_in : (ℕ → List ℕ) → (FieldType → Bool) → List ℕ → BlockOf → List ℕ
-defaults_in text means old b = flat_map (defaults_of text means old) (fields_of_block b.header b.within)
+defaults_in text means old b =
+    flat_map (defaults_of text means old) (fields_of_block b.header b.within)
 
 -- what is asked of a type
 abbrev pub asked_type : Asked → FieldType → Bool

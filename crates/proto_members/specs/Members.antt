@@ -15,7 +15,8 @@ use Rattle.proto_parts.specs.Scenes.{Scene, text, value}
 use Rattle.proto_scenes.specs.SceneOf.{is_proto3_file, lexemes_of}
 
 -- the texts, the strings and the version of a file, as it is read
-pub record IsReadAs (files : List FileOf) (reads : List ReadOf) (file : ℕ) (scene : Scene) : Type 0 where
+pub record IsReadAs
+    (files : List FileOf) (reads : List ReadOf) (file : ℕ) (scene : Scene) : Type 0 where
   pub lexemes : scene.lexemes ≡ lexemes_of files reads file
   pub version : scene.is_proto3 ≡ is_proto3_file files reads file
 
@@ -69,13 +70,15 @@ says scene word tokens = list_any (λ t. bytes_eq (value scene t) word) tokens
 
 -- the block has the member, and reserves the word
 abbrev pub reserves : Scene → ℕ → List ℕ → BlockOf → Bool
-reserves scene token word b = has_member token b.header b.within && says scene word (reserved_names_in b.within)
+reserves scene token word b =
+    has_member token b.header b.within && says scene word (reserved_names_in b.within)
 
 -- ---- JSON names
 
 -- no JSON name is written for the field
 abbrev pub is_unwritten : Scene → FieldOf → Bool
-is_unwritten scene f = is_none (text_option (text scene) (value scene) (codes "json_name") f.options)
+is_unwritten scene f =
+    is_none (text_option (text scene) (value scene) (codes "json_name") f.options)
 
 -- it is the field of the name token, whose JSON name is made of its word
 abbrev pub is_made : Scene → ℕ → FieldOf → Bool
@@ -87,7 +90,8 @@ is_other scene token name f = not (f.name == token) && bytes_eq (json_name_of sc
 
 -- the field of the name token would share the JSON name with another one
 abbrev pub fields_clash : Scene → ℕ → List ℕ → List FieldOf → Bool
-fields_clash scene token name fs = list_any (is_made scene token) fs && list_any (is_other scene token name) fs
+fields_clash scene token name fs =
+    list_any (is_made scene token) fs && list_any (is_other scene token name) fs
 
 -- the same of the fields of a block
 abbrev pub clash_in : Scene → ℕ → List ℕ → BlockOf → Bool

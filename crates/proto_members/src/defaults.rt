@@ -24,7 +24,8 @@ use proto_parts::{FieldAt, OptionAt, Scene, fields_of, options_between};
 use proto_tree::{Constant, FieldType, Reference};
 use std::alloc::Global;
 
-/// What is asked of the fields of a file: a type that means the enum, and a default that is the old word.
+/// What is asked of the fields of a file: a type that means the enum,
+/// and a default that is the old word.
 #[derive(Clone, Copy)]
 pub(crate) struct Asked<'a> {
     link: &'a Link,
@@ -83,7 +84,10 @@ fn constant_word(value: &Constant) -> Option<u32>
 
 /// The word of an option, if it is a default.
 fn default_word(scene: &Scene, option: OptionAt) -> Option<u32>
-    ensures { option_to_list result ≡ (if is_named (text scene.now) (codes "default") (option_of option.entry) then constant_tokens (option_of option.entry).value else []) }
+    ensures { option_to_list result
+        ≡ (if is_named (text scene.now) (codes "default") (option_of option.entry)
+        then constant_tokens (option_of option.entry).value
+        else []) }
 {
     if scene.text(option.name) != "default" {
         return None;
@@ -196,8 +200,8 @@ fn defaults(
     Ok(found)
 }
 
-/// The defaults of a file, by their tokens in order, that mean the value with the old word of the enum with this full
-/// name: those of the fields whose type means the enum.
+/// The defaults of a file, by their tokens in order, that mean the value with the old word of the
+/// enum with this full name: those of the fields whose type means the enum.
 pub fn renamed_defaults_in<'a>(
     alloc: Global,
     files: &Files,
@@ -210,7 +214,8 @@ pub fn renamed_defaults_in<'a>(
     requires file { file < length files.now }
     ensures { IfOk result (λ found. (reads : List ReadOf) → AreRead files.now reads
         → (enum : List (List ℕ)) → ArePlain enum → joined enum ≡ enum_name.now
-        → found.items ≡ flat_map (renamed_default files.now reads (Some enum) old.now file) (fields_of_file (read_at reads file).tree)) }
+        → found.items ≡ flat_map (renamed_default files.now reads (Some enum) old.now file)
+        (fields_of_file (read_at reads file).tree)) }
 {
     let scene = scene(alloc, files, file);
     let blocks = blocks_of(alloc, files.tree(file as usize))?;

@@ -136,8 +136,8 @@ fn one_clashes(
     Ok(false)
 }
 
-/// Whether the field of a proto3 file, no JSON name being written for it, would get that of another field of its
-/// message by the new word.
+/// Whether the field of a proto3 file, no JSON name being written for it, would get that of another
+/// field of its message by the new word.
 pub fn clashes(alloc: Global, files: &Files, aim: Aim, word: &str) -> Result<bool, NoMemory>
     requires { IsAimOf files.now aim }
     ensures { IfOk result (λ b. (reads : List ReadOf)

@@ -1,5 +1,5 @@
-//! What the blocks of a file say of a field or a value: reserved names, JSON names, the enum of a value, and the
-//! defaults that mean it.
+//! What the blocks of a file say of a field or a value: reserved names, JSON names, the enum of a
+//! value, and the defaults that mean it.
 #![tactic(auto)]
 
 mod blocks;
