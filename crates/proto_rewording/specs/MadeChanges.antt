@@ -20,18 +20,30 @@ pub record PutsAt (c : NewWords) (file : ℕ) (places : List ℕ) (to : List ℕ
   pub placed : (i : ℕ) → Contains places i → c (at file i) ≡ Some to
   pub others : (i : ℕ) → (Contains places i → ⊥) → c (at file i) ≡ None
 
--- what is found is the change that the new words make of the file, or none where there is none, and the file does not get too long
-pub record IsMade (files : List FileOf) (reads : List ReadOf) (c : NewWords) (file : ℕ) (found : Option Change) : Type 0 where
-  pub change : map change_of (listed found) ≡ change_by (file_at files file) (splices_in c files reads file)
+-- what is found is the change that the new words make of the file, or none where there is none,
+-- and the file does not get too long
+pub record IsMade
+    (files : List FileOf) (reads : List ReadOf) (c : NewWords) (file : ℕ) (found : Option Change)
+    : Type 0 where
+  pub change : map change_of (listed found)
+      ≡ change_by (file_at files file) (splices_in c files reads file)
   pub short : IsTooLong c files reads file → ⊥
 
 -- the same of each reading and each change of words that puts the word at these tokens
 abbrev pub IsChangeAt : List FileOf → ℕ → List ℕ → List ℕ → Option Change → Type 0
-IsChangeAt files file places to found = (reads : List ReadOf) → AreRead files reads → (c : NewWords) → PutsAt c file places to → IsMade files reads c file found
+IsChangeAt files file places to found = (reads : List ReadOf)
+    → AreRead files reads
+    → (c : NewWords)
+    → PutsAt c file places to
+    → IsMade files reads c file found
 
 -- it gets too long, or memory is wanting
 abbrev pub IsRewordFault : List FileOf → ℕ → List ℕ → List ℕ → RewordFault → Type 0
-IsRewordFault files file places to TooLarge = (reads : List ReadOf) → AreRead files reads → (c : NewWords) → PutsAt c file places to → IsTooLong c files reads file
+IsRewordFault files file places to TooLarge = (reads : List ReadOf)
+    → AreRead files reads
+    → (c : NewWords)
+    → PutsAt c file places to
+    → IsTooLong c files reads file
 IsRewordFault files file places to NoMemory = Unit {0}
 
 -- ---- how it is made
@@ -51,10 +63,13 @@ marked_tokens (t ∷ ts) (m ∷ marks) = (if m then t ∷ [] else []) ++ marked_
 abbrev pub word_put : List ℕ → List ℕ → Token → Edit
 word_put text to t = record { at = t.span.start; old = text_at text t.span; new = to }
 
--- Tokens from one byte on, each with a byte or more, no two over one another, and none past another byte.
+-- Tokens from one byte on, each with a byte or more, no two over one
+-- another, and none past another byte.
 abbrev pub StandInOrder : ℕ → ℕ → List Token → Type 0
 StandInOrder from to [] = from ≤ to
-StandInOrder from to (t ∷ ts) = (from ≤ t.span.start) × (t.span.start < t.span.end) × StandInOrder t.span.end to ts
+StandInOrder from to (t ∷ ts) = (from ≤ t.span.start)
+    × (t.span.start < t.span.end)
+    × StandInOrder t.span.end to ts
 
 -- how many bytes tokens have
 abbrev pub bytes_in : List Token → ℕ

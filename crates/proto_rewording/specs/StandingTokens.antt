@@ -15,10 +15,17 @@ use Rattle.proto_rename_laws.specs.Targets.{Target, name_map}
 use Rattle.proto_targets.specs.Aims.{IsAimedAt}
 use Rattle.proto_targets.specs.declared.aim.Aim.{Aim}
 
--- These tokens of the file, and no others of it, stand for the target in references, whatever its new name is.
+-- These tokens of the file, and no others of it, stand for the target in
+-- references, whatever its new name is.
 abbrev pub IsStandingIn : List FileOf → Aim → ℕ → List ℕ → Type 0
-IsStandingIn files aim file found = (reads : List ReadOf) → AreRead files reads → (t : Target) → IsAimedAt files reads aim t → (to : List ℕ) (i : ℕ)
-    → Contains found i ↔ Contains (flat_map (standing (text_of files reads) (link_skeleton files reads) (name_map files reads t to)) (link_skeleton files reads).used) (at file i)
+IsStandingIn files aim file found = (reads : List ReadOf)
+    → AreRead files reads
+    → (t : Target)
+    → IsAimedAt files reads aim t
+    → (to : List ℕ) (i : ℕ)
+    → Contains found i
+    ↔ Contains (flat_map (standing (text_of files reads) (link_skeleton files reads)
+    (name_map files reads t to)) (link_skeleton files reads).used) (at file i)
 
 -- ---- full names by their texts
 
@@ -33,12 +40,14 @@ behind [] text = Some text
 behind (c ∷ front) [] = None
 behind (c ∷ front) (b ∷ text) = if b == c then behind front text else None
 
--- how many words stand behind a name: a point before each; none where its last word only begins here
+-- how many words stand behind a name: a point before each; none
+-- where its last word only begins here
 abbrev pub words_in : List ℕ → Option ℕ
 words_in [] = Some 0
 words_in (b ∷ rest) = if b == 46 then Some (points (b ∷ rest)) else None
 
--- how many words a name has behind this front; none where it is not the front and does not go on from it
+-- how many words a name has behind this front; none where it is not
+-- the front and does not go on from it
 abbrev pub words_behind : List ℕ → List ℕ → Option ℕ
 words_behind front name = option_and_then words_in (behind front name)
 
@@ -49,16 +58,19 @@ abbrev pub from_end : ℕ → List ℕ → Option ℕ
 from_end n [] = None
 from_end n (t ∷ ts) = if length ts == n then Some t else from_end n ts
 
+-- what is there, as a list of one; nothing, as an empty list
 abbrev pub listed : {X : Type 0} → Option X → List X
 listed None = []
 listed (Some x) = x ∷ []
 
 -- the word of a reference that stands for the name, where the reference means what has this text
 abbrev pub counted : List ℕ → List ℕ → Option (List ℕ) → Option ℕ
-counted name tokens text = option_and_then (λ n. from_end n tokens) (option_and_then (words_behind name) text)
+counted name tokens text =
+    option_and_then (λ n. from_end n tokens) (option_and_then (words_behind name) text)
 
 -- those of many references, one by one with what they mean
 abbrev pub standing_tokens : LinkOf → List ℕ → List Use → List Meant → List ℕ
 standing_tokens l name [] ms = []
 standing_tokens l name (u ∷ us) [] = []
-standing_tokens l name (u ∷ us) (m ∷ ms) = listed (counted name (dotted u.reference.now.words) (text_at l m.row)) ++ standing_tokens l name us ms
+standing_tokens l name (u ∷ us) (m ∷ ms) = listed
+    (counted name (dotted u.reference.now.words) (text_at l m.row)) ++ standing_tokens l name us ms

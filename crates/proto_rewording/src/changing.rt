@@ -44,8 +44,9 @@ impl From<NoMemory> for RewordFault {
     }
 }
 
-/// The change of a file that puts the word at these tokens of it, a splice for each; none where it has none of them.
-/// They may come in any order, twice, or past its last token. Refused where the file would be longer than one may be.
+/// The change of a file that puts the word at these tokens of it, a splice for each; none where it
+/// has none of them. They may come in any order, twice, or past its last token. Refused where the
+/// file would be longer than one may be.
 pub fn change_of_file(
     alloc: Global,
     files: &Files,
@@ -120,14 +121,15 @@ fn push_if(found: &mut Vec<Token>, is_marked: bool, token: Token) -> Result<(), 
     Ok(())
 }
 
-/// How many bytes the text has with the word in the place of each of these tokens; none where a text may not have as
-/// many.
+/// How many bytes the text has with the word in the place of each of these tokens; none
+/// where a text may not have as many.
 fn len_after(source: &Source, tokens: &[Token], to: &str) -> Option<u32>
     requires some { 0 < length tokens.now }
     requires order { StandInOrder 0 (length source.now) tokens.now }
     ensures { MatchOption result
         (1048576 + bytes_in tokens.now < length source.now + length tokens.now * length to.now)
-        (λ after. (after ≡ (length source.now + length tokens.now * length to.now) - bytes_in tokens.now)
+        (λ after. (after
+        ≡ (length source.now + length tokens.now * length to.now) - bytes_in tokens.now)
         × (length source.now + length tokens.now * length to.now ≤ 1048576 + bytes_in tokens.now)) }
 {
     // With a word that is longer than a text may be, there is nothing to reckon.

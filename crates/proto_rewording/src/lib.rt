@@ -1,5 +1,5 @@
-//! The words that a rename changes: the tokens of references that stand for what it aims at, and the change of a
-//! file that puts the new word at some of its tokens.
+//! The words that a rename changes: the tokens of references that stand for what it aims at, and
+//! the change of a file that puts the new word at some of its tokens.
 #![tactic(auto)]
 
 mod changing;

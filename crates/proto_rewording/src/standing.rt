@@ -19,9 +19,9 @@ use proto_targets::Aim;
 use proto_tree::Dotted;
 use std::alloc::Global;
 
-/// The tokens of a file that stand for what the rename aims at, in the words of its references. Each is found by
-/// counting: where a reference means a name that goes on from the aim's, it has as many words behind the one that
-/// stands for the aim as that name has behind the aim's.
+/// The tokens of a file that stand for what the rename aims at, in the words of its references.
+/// Each is found by counting: where a reference means a name that goes on from the aim's, it has as
+/// many words behind the one that stands for the aim as that name has behind the aim's.
 pub fn standing_in(
     alloc: Global,
     files: &Files,
