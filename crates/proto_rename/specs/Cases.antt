@@ -15,5 +15,7 @@ IsFreeBefore files name to n = (k : ℕ) → k < n → IsRenameCase files name t
 -- captured, at the path of the file and where the token begins
 abbrev pub IsCapturedPlace : List FileOf → ℕ → ℕ → Refusal → Type 0
 IsCapturedPlace files file token (Captured path offset) =
-    (string_bytes path ≡ (file_at files file).path) × ((tokens : List Token) → AreTokens (file_at files file).bytes tokens → offset ≡ offset_at tokens token)
+    (string_bytes path ≡ (file_at files file).path)
+    × ((tokens : List Token) → AreTokens (file_at files file).bytes tokens
+    → offset ≡ offset_at tokens token)
 IsCapturedPlace files file token _ = ⊥

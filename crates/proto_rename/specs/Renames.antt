@@ -1,4 +1,5 @@
--- The rename of a name over the files of a workspace: the case that refuses it, and what it changes.
+-- The rename of a name over the files of a workspace: the case
+-- that refuses it, and what it changes.
 use Rattle.std.specs.Prelude.{◌≡◌, ℕ, ◌<◌, List, string_bytes}
 use Rattle.proto_files.specs.FilesRead.{ReadOf, AreRead}
 use Rattle.proto_files.specs.GivenFiles.{FileOf}
@@ -12,7 +13,9 @@ use Rattle.proto_rename_laws.specs.Targets.{Target, IsNamed, renamed_words}
 
 -- case n refuses the rename
 abbrev pub IsRenameCase : List FileOf → List ℕ → List ℕ → ℕ → Type 0
-IsRenameCase files name to n = (reads : List ReadOf) × AreRead files reads × RenameCase files reads name to n
+IsRenameCase files name to n = (reads : List ReadOf)
+    × AreRead files reads
+    × RenameCase files reads name to n
 
 -- case n refuses it, and none before it
 pub record IsLeastRenameCase (files : List FileOf) (name to : List ℕ) (n : ℕ) : Type 0 where
@@ -21,16 +24,26 @@ pub record IsLeastRenameCase (files : List FileOf) (name to : List ℕ) (n : ℕ
 
 -- the path and offset of the least captured reference
 abbrev pub IsCapturedAt : List FileOf → List ℕ → List ℕ → List ℕ → ℕ → Type 0
-IsCapturedAt files name to path offset = (reads : List ReadOf) × AreRead files reads × ((t : Target) × IsNamed files reads name t × IsFirstPlace files reads (Captures files reads t to) path offset)
+IsCapturedAt files name to path offset = (reads : List ReadOf)
+    × AreRead files reads
+    × ((t : Target)
+    × IsNamed files reads name t
+    × IsFirstPlace files reads (Captures files reads t to) path offset)
 
--- The least case, with its place where a reference is captured; memory may come in the place of any.
+-- The least case, with its place where a reference is captured;
+-- memory may come in the place of any.
 abbrev pub IsRenameRefusal : List FileOf → List ℕ → List ℕ → Refusal → Type 0
 IsRenameRefusal files name to refusal.NoMemory = Unit {0}
-IsRenameRefusal files name to (refusal.Captured path offset) = IsLeastRenameCase files name to 7 × IsCapturedAt files name to (string_bytes path) offset
+IsRenameRefusal files name to (refusal.Captured path offset) = IsLeastRenameCase files name to 7
+    × IsCapturedAt files name to (string_bytes path) offset
 IsRenameRefusal files name to (refusal.Needed path offset) = ⊥
 IsRenameRefusal files name to r = IsLeastRenameCase files name to (number_of r)
 
 -- no case refuses it, and these are the changes of its new words
 pub record IsRenamed (files : List FileOf) (name to : List ℕ) (cs : List ChangeOf) : Type 0 where
   pub admissible : (n : ℕ) → IsRenameCase files name to n → ⊥
-  pub changes : (reads : List ReadOf) × AreRead files reads × ((t : Target) × IsNamed files reads name t × (cs ≡ changes_of_words (renamed_words files reads t to) files reads))
+  pub changes : (reads : List ReadOf)
+      × AreRead files reads
+      × ((t : Target)
+      × IsNamed files reads name t
+      × (cs ≡ changes_of_words (renamed_words files reads t to) files reads))

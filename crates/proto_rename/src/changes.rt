@@ -51,7 +51,8 @@ fn change_in<'a>(
     change_of_file(alloc, files, file, &places, to)
 }
 
-/// The changes of all files, in their order; refused where a file would have more than 1,048,576 bytes.
+/// The changes of all files, in their order; refused where a file
+/// would have more than 1,048,576 bytes.
 pub(crate) fn changes(
     alloc: Global,
     files: &Files,

@@ -19,7 +19,8 @@ use proto_targets::{Aim, collides, has_name, is_keyword};
 use proto_text::is_word;
 use std::alloc::Global;
 
-/// Cases 3 to 5: the new name is a word, one that what is aimed at may have, and not the one that it has.
+/// Cases 3 to 5: the new name is a word, one that what is aimed at may
+/// have, and not the one that it has.
 pub(crate) fn check_word(files: &Files, aim: Aim, to: &str) -> Result<(), Refusal>
     requires linked { HasNoFault (LinkFaults files.now) }
     requires aim { IsAimOf files.now aim }

@@ -34,7 +34,8 @@ fn push_all(places: &mut Vec<u32>, more: &[u32]) -> Result<(), NoMemory>
     Ok(())
 }
 
-/// The defaults of a file that mean a value with this old word of the enum; none where there is no enum.
+/// The defaults of a file that mean a value with this old word of the
+/// enum; none where there is no enum.
 fn defaults_in<'a>(
     alloc: Global,
     files: &Files,
@@ -54,8 +55,9 @@ fn defaults_in<'a>(
     }
 }
 
-/// The tokens of a file that the rename changes: the declaring one, where it is of this file, the words of references that
-/// stand for what is aimed at, and for a value the defaults that mean it. The enum's name and the old word are given.
+/// The tokens of a file that the rename changes: the declaring one, where it is of this file, the
+/// words of references that stand for what is aimed at, and for a value the defaults that mean it.
+/// The enum's name and the old word are given.
 pub(crate) fn places_in<'a>(
     alloc: Global,
     files: &Files,

@@ -59,7 +59,8 @@ fn changed(
     }
 }
 
-/// What the rename of what is aimed at changes, or the least of the cases from 3 on that refuses it.
+/// What the rename of what is aimed at changes, or the least of
+/// the cases from 3 on that refuses it.
 fn renamed<'a>(
     alloc: Global,
     files: &'a Files,
@@ -82,9 +83,10 @@ fn renamed<'a>(
     changed(alloc, files, link, aim, to)
 }
 
-/// What the rename of a full name, without a leading dot, to a new simple name changes, file by file; or the least case
-/// that refuses it, by number: UnknownTarget, KindNotAllowed, NotAnIdentifier, KeywordName, SameName, Collision,
-/// Captured (with its place), NameReserved, JsonClash, TooLarge. `NoMemory` may come in place of any answer.
+/// What the rename of a full name, without a leading dot, to a new simple name changes, file by
+/// file; or the least case that refuses it, by number: UnknownTarget, KindNotAllowed,
+/// NotAnIdentifier, KeywordName, SameName, Collision, Captured (with its place), NameReserved,
+/// JsonClash, TooLarge. `NoMemory` may come in place of any answer.
 pub fn rename(
     alloc: Global,
     files: &Files,
