@@ -16,7 +16,8 @@ use Rattle.proto_rename_laws.specs.Rewording.{AreReworded}
 use Rattle.proto_rename_laws.specs.Targets.{Target, IsNamed, renamed_words}
 
 -- files without a fault, and the rename of a symbol of theirs that no case refuses
-pub record IsAllowed (files : List FileOf) (reads : List ReadOf) (name to : List ℕ) (t : Target) : Type 0 where
+pub record IsAllowed
+    (files : List FileOf) (reads : List ReadOf) (name to : List ℕ) (t : Target) : Type 0 where
   pub read : AreRead files reads
   pub link : HasNoFault (LinkFaults files)
   pub checks : HasNoFault (CheckFaults files)
@@ -25,10 +26,18 @@ pub record IsAllowed (files : List FileOf) (reads : List ReadOf) (name to : List
 
 -- no default is wrong afterwards
 abbrev pub DefaultsFit : List FileOf → List ReadOf → Type 0
-DefaultsFit after seen = (file : ℕ) (b : BlockOf) (h : Heading) (f : FieldOf) → file < length after → Contains (blocks_in (read_at seen file).tree) b → b.header ≡ header.Message h → Contains (fields_in b.within) f → default_flaws (scene_of None after seen file) f ≡ []
+DefaultsFit after seen = (file : ℕ) (b : BlockOf) (h : Heading) (f : FieldOf)
+    → file < length after
+    → Contains (blocks_in (read_at seen file).tree) b
+    → b.header ≡ header.Message h
+    → Contains (fields_in b.within) f
+    → default_flaws (scene_of None after seen file) f ≡ []
 
 -- No fault of links and checks comes in.
 abbrev pub RenamesLeaveNoFault : Type 0
-RenamesLeaveNoFault = (files : List FileOf) (reads : List ReadOf) (name to : List ℕ) (t : Target) (after : List FileOf) (seen : List ReadOf)
-    → IsAllowed files reads name to t → AreReworded (renamed_words files reads t to) files reads after seen
+RenamesLeaveNoFault =
+    (files : List FileOf) (reads : List ReadOf) (name to : List ℕ) (t : Target)
+    (after : List FileOf) (seen : List ReadOf)
+    → IsAllowed files reads name to t
+    → AreReworded (renamed_words files reads t to) files reads after seen
     → HasNoFault (LinkFaults after) × HasNoFault (CheckFaults after)

@@ -7,4 +7,6 @@ use Rattle.proto_files.specs.ReadFaults.{ReadFaults}
 
 -- They have tokens and trees.
 abbrev pub CleanFilesAreRead : Type 0
-CleanFilesAreRead = (files : List FileOf) → HasNoFault (ReadFaults files) → (reads : List ReadOf) × AreRead files reads
+CleanFilesAreRead = (files : List FileOf)
+    → HasNoFault (ReadFaults files)
+    → (reads : List ReadOf) × AreRead files reads

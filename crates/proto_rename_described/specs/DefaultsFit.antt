@@ -9,10 +9,18 @@ use Rattle.proto_rename_described.specs.Allowed.{DefaultsFit, IsAllowed}
 
 -- Each field keeps its label, type and numbers, and its defaults go with the value that they mean.
 abbrev pub FieldsHaveRoles : Type 0
-FieldsHaveRoles = (files : List FileOf) (reads : List ReadOf) (name to : List ℕ) (t : Target) (after : List FileOf) (seen : List ReadOf)
-    → IsAllowed files reads name to t → AreReworded (renamed_words files reads t to) files reads after seen → HasFieldRoles files reads t to after seen
+FieldsHaveRoles =
+    (files : List FileOf) (reads : List ReadOf) (name to : List ℕ) (t : Target)
+    (after : List FileOf) (seen : List ReadOf)
+    → IsAllowed files reads name to t
+    → AreReworded (renamed_words files reads t to) files reads after seen
+    → HasFieldRoles files reads t to after seen
 
 -- So no default is wrong.
 abbrev pub AllDefaultsFit : Type 0
-AllDefaultsFit = (files : List FileOf) (reads : List ReadOf) (name to : List ℕ) (t : Target) (after : List FileOf) (seen : List ReadOf)
-    → IsAllowed files reads name to t → AreReworded (renamed_words files reads t to) files reads after seen → DefaultsFit after seen
+AllDefaultsFit =
+    (files : List FileOf) (reads : List ReadOf) (name to : List ℕ) (t : Target)
+    (after : List FileOf) (seen : List ReadOf)
+    → IsAllowed files reads name to t
+    → AreReworded (renamed_words files reads t to) files reads after seen
+    → DefaultsFit after seen

@@ -14,11 +14,22 @@ use Rattle.proto_rename_laws.specs.Rewording.{AreReworded}
 use Rattle.proto_rename_laws.specs.Targets.{Target, renamed_words}
 use Rattle.proto_rename_described.specs.Allowed.{IsAllowed}
 
--- The word of the default, changed where it means the value, is a value of the enum afterwards where it was one before.
+-- The word of the default, changed where it means the value, is a value of the enum
+-- afterwards where it was one before.
 abbrev pub EnumDefaultsFit : Type 0
-EnumDefaultsFit = (files : List FileOf) (reads : List ReadOf) (name to : List ℕ) (t : Target) (after : List FileOf) (seen : List ReadOf)
-    → IsAllowed files reads name to t → AreReworded (renamed_words files reads t to) files reads after seen
-    → (file w : ℕ) (r : Reference) → file < length files
-    → text_of after seen (at file w) ≡ (if means_value t.enum (text_of files reads t.token) (meaning_from files reads file (first_of r.dot r.words)) (text_of files reads (at file w)) then to else text_of files reads (at file w))
-    → is_value_of (enum_meant (scene_of None files reads file) r) (Some (text_of files reads (at file w))) ≡ true
-    → is_value_of (enum_meant (scene_of None after seen file) r) (Some (text_of after seen (at file w))) ≡ true
+EnumDefaultsFit =
+    (files : List FileOf) (reads : List ReadOf) (name to : List ℕ) (t : Target)
+    (after : List FileOf) (seen : List ReadOf)
+    → IsAllowed files reads name to t
+    → AreReworded (renamed_words files reads t to) files reads after seen
+    → (file w : ℕ) (r : Reference)
+    → file < length files
+    → text_of after seen (at file w) ≡
+    (if means_value t.enum (text_of files reads t.token)
+    (meaning_from files reads file (first_of r.dot r.words)) (text_of files reads (at file w))
+    then to
+    else text_of files reads (at file w))
+    → is_value_of (enum_meant (scene_of None files reads file) r)
+    (Some (text_of files reads (at file w))) ≡ true
+    → is_value_of (enum_meant (scene_of None after seen file) r)
+    (Some (text_of after seen (at file w))) ≡ true

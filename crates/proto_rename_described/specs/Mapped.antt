@@ -42,7 +42,8 @@ word_under e above word = if same_name above e.parent then turned e word else wo
 abbrev pub mapped_name : Renaming → List ℕ → List ℕ
 mapped_name e text = dotted (ren e (words_of text))
 
--- what the map takes from the old files besides names: whether the renamed field has a written JSON name, and the enum that has the renamed value
+-- what the map takes from the old files besides names: whether the renamed field has a written JSON
+-- name, and the enum that has the renamed value
 pub record Taken : Type 0 where
   pub written : Bool
   pub enum : Option (List (List ℕ))
@@ -57,11 +58,15 @@ is_name_of (Some enum) (Some type_name) = same_name (words_of type_name) enum
 
 -- a default that means the renamed value
 abbrev pub mapped_default : Renaming → Taken → Option (List ℕ) → List ℕ → List ℕ
-mapped_default e taken type_name word = if is_name_of taken.enum type_name && bytes_eq word e.old then e.new else word
+mapped_default e taken type_name word =
+    if is_name_of taken.enum type_name && bytes_eq word e.old then e.new else word
 
 -- the renamed field's is made anew, where none is written
 abbrev pub mapped_json : Renaming → Taken → List (List ℕ) → FieldDesc → Option (List ℕ)
-mapped_json e taken above f = if same_name (above ++ f.name ∷ []) (target e) && not taken.written then Some (json_word e.new) else f.json_name
+mapped_json e taken above f =
+    if same_name (above ++ f.name ∷ []) (target e) && not taken.written
+    then Some (json_word e.new)
+    else f.json_name
 
 -- a field right in a message of this full name
 abbrev pub mapped_field : Renaming → Taken → List (List ℕ) → FieldDesc → FieldDesc
@@ -82,14 +87,25 @@ mapped_field e taken above f = record {
 
 -- a value of an enum right below this name
 abbrev pub mapped_value : Renaming → List (List ℕ) → EnumValueDesc → EnumValueDesc
-mapped_value e above v = record { name = word_under e above v.name; number = v.number; options = v.options }
+mapped_value e above v = record {
+  name = word_under e above v.name;
+  number = v.number;
+  options = v.options;
+}
 
 -- an enum right below this name; its values stand beside it
 abbrev pub mapped_enum : Renaming → List (List ℕ) → EnumDesc → EnumDesc
-mapped_enum e above d = record { name = word_under e above d.name; value = map (mapped_value e above) d.value; reserved_range = d.reserved_range; reserved_name = d.reserved_name; options = d.options }
+mapped_enum e above d = record {
+  name = word_under e above d.name;
+  value = map (mapped_value e above) d.value;
+  reserved_range = d.reserved_range;
+  reserved_name = d.reserved_name;
+  options = d.options;
+}
 
 -- a message with this full name
-abbrev pub mapped_message : Renaming → Taken → List (List ℕ) → List (List ℕ) → MessageDesc → MessageDesc
+abbrev pub mapped_message : Renaming → Taken → List (List ℕ) → List (List ℕ) → MessageDesc
+    → MessageDesc
 mapped_message e taken above full m = record {
   name = word_under e above m.name;
   field = map (mapped_field e taken full) m.field;
@@ -105,7 +121,8 @@ mapped_message e taken above full m = record {
 abbrev pub mapped_messages : Renaming → Taken → List (List ℕ) → Messages → Messages
 mapped_messages e taken above NoMessages = NoMessages
 mapped_messages e taken above (Message m nested rest) =
-    Message (mapped_message e taken above (above ++ m.name ∷ []) m) (mapped_messages e taken (above ++ m.name ∷ []) nested) (mapped_messages e taken above rest)
+    Message (mapped_message e taken above (above ++ m.name ∷ []) m)
+    (mapped_messages e taken (above ++ m.name ∷ []) nested) (mapped_messages e taken above rest)
 
 -- a method of a service of this full name
 abbrev pub mapped_method : Renaming → List (List ℕ) → MethodDesc → MethodDesc
@@ -120,7 +137,11 @@ mapped_method e full m = record {
 
 -- a service right below this name
 abbrev pub mapped_service : Renaming → List (List ℕ) → ServiceDesc → ServiceDesc
-mapped_service e above s = record { name = word_under e above s.name; method = map (mapped_method e (above ++ s.name ∷ [])) s.method; options = s.options }
+mapped_service e above s = record {
+  name = word_under e above s.name;
+  method = map (mapped_method e (above ++ s.name ∷ [])) s.method;
+  options = s.options;
+}
 
 -- a package keeps its name
 abbrev pub mapped_file : Renaming → Taken → FileDesc → FileDesc

@@ -1,4 +1,5 @@
--- Where a renamed word is not reserved, and makes no JSON name that another field has, a block has no flaw of names afterwards.
+-- Where a renamed word is not reserved, and makes no JSON name that another field has, a
+-- block has no flaw of names afterwards.
 use Rattle.std.specs.Prelude.{◌≡◌, ◌≢◌, ◌⊎◌, ℕ, true, List, [], map, None, Option, codes}
 use Rattle.std.specs.List.{AllPairs, Contains}
 use Rattle.proto_parts.specs.Options.{text_option}
@@ -9,12 +10,18 @@ use Rattle.proto_checks.specs.FileFlaws.{json_clashes, name_flaws}
 
 -- this token has the word afterwards, and the others of the list their own
 abbrev pub AreKept : Scene → Scene → ℕ → List ℕ → List ℕ → Type 0
-AreKept a b token to ts = (t : ℕ) → Contains ts t → ((t ≡ token) × (text b t ≡ to)) ⊎ ((t ≢ token) × (text b t ≡ text a t))
+AreKept a b token to ts = (t : ℕ)
+    → Contains ts t
+    → ((t ≡ token) × (text b t ≡ to)) ⊎ ((t ≢ token) × (text b t ≡ text a t))
 
 -- no name is a reserved one, where the new word is not reserved
 abbrev pub ReservedNamesStay : Type 0
-ReservedNamesStay = (a b : Scene) (token : ℕ) (to : List ℕ) (reserved names : List ℕ) → ((t : ℕ) → value a t ≡ value b t) → AreKept a b token to names
-    → (Contains names token → Contains (map (value a) reserved) to → ⊥) → name_flaws a reserved names ≡ [] → name_flaws b reserved names ≡ []
+ReservedNamesStay = (a b : Scene) (token : ℕ) (to : List ℕ) (reserved names : List ℕ)
+    → ((t : ℕ) → value a t ≡ value b t)
+    → AreKept a b token to names
+    → (Contains names token → Contains (map (value a) reserved) to → ⊥)
+    → name_flaws a reserved names ≡ []
+    → name_flaws b reserved names ≡ []
 
 -- the written JSON name of a field
 abbrev pub written : Scene → FieldOf → Option (List ℕ)
@@ -22,7 +29,13 @@ written s f = text_option (text s) (value s) (codes "json_name") f.options
 
 -- no two fields get one JSON name, where the renamed one gets none of another's
 abbrev pub JsonNamesStay : Type 0
-JsonNamesStay = (a b : Scene) (token : ℕ) (to : List ℕ) (fs : List FieldOf) → a.is_proto3 ≡ b.is_proto3 → ((f : FieldOf) → Contains fs f → written a f ≡ written b f)
-    → AreKept a b token to (map (λ f. f.name) fs) → AllPairs (λ f g. f.name ≢ g.name) fs
-    → ((f other : FieldOf) → Contains fs f → f.name ≡ token → Contains fs other → other.name ≢ f.name → a.is_proto3 ≡ true → written a f ≡ None → json_word to ≡ json_name_of a other → ⊥)
-    → json_clashes a fs ≡ [] → json_clashes b fs ≡ []
+JsonNamesStay = (a b : Scene) (token : ℕ) (to : List ℕ) (fs : List FieldOf)
+    → a.is_proto3 ≡ b.is_proto3
+    → ((f : FieldOf) → Contains fs f → written a f ≡ written b f)
+    → AreKept a b token to (map (λ f. f.name) fs)
+    → AllPairs (λ f g. f.name ≢ g.name) fs
+    → ((f other : FieldOf)
+    → Contains fs f → f.name ≡ token → Contains fs other → other.name ≢ f.name
+    → a.is_proto3 ≡ true → written a f ≡ None → json_word to ≡ json_name_of a other → ⊥)
+    → json_clashes a fs ≡ []
+    → json_clashes b fs ≡ []

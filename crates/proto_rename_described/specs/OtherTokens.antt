@@ -16,12 +16,22 @@ use Rattle.proto_rename_described.specs.Allowed.{IsAllowed}
 
 -- Labels and scalar types of messages' fields are not changed.
 abbrev pub LabelsAndScalarsStay : Type 0
-LabelsAndScalarsStay = (files : List FileOf) (reads : List ReadOf) (name to : List ℕ) (t : Target) → IsAllowed files reads name to t
-    → (file : ℕ) (b : BlockOf) (h : Heading) (f : FieldOf) → file < length files → Contains (blocks_in (read_at reads file).tree) b → b.header ≡ header.Message h → Contains (fields_in b.within) f
-    → ((i : ℕ) → f.label ≡ Some i → renamed_words files reads t to (at file i) ≡ None) × ((i : ℕ) → f.kind ≡ field_type.Scalar i → renamed_words files reads t to (at file i) ≡ None)
+LabelsAndScalarsStay = (files : List FileOf) (reads : List ReadOf) (name to : List ℕ) (t : Target)
+    → IsAllowed files reads name to t
+    → (file : ℕ) (b : BlockOf) (h : Heading) (f : FieldOf)
+    → file < length files
+    → Contains (blocks_in (read_at reads file).tree) b
+    → b.header ≡ header.Message h
+    → Contains (fields_in b.within) f
+    → ((i : ℕ) → f.label ≡ Some i → renamed_words files reads t to (at file i) ≡ None)
+    × ((i : ℕ) → f.kind ≡ field_type.Scalar i → renamed_words files reads t to (at file i) ≡ None)
 
 -- A token that is no name, no word of a reference and no default of the value's is not changed.
 abbrev pub OtherTokensStay : Type 0
-OtherTokensStay = (files : List FileOf) (reads : List ReadOf) (name to : List ℕ) (t : Target) → IsAllowed files reads name to t → (i : At)
-    → (Names (link_skeleton files reads) i → ⊥) → (Uses (link_skeleton files reads) i → ⊥) → (Contains (renamed_defaults files reads t.enum (name_map files reads t to).old) i → ⊥)
+OtherTokensStay = (files : List FileOf) (reads : List ReadOf) (name to : List ℕ) (t : Target)
+    → IsAllowed files reads name to t
+    → (i : At)
+    → (Names (link_skeleton files reads) i → ⊥)
+    → (Uses (link_skeleton files reads) i → ⊥)
+    → (Contains (renamed_defaults files reads t.enum (name_map files reads t to).old) i → ⊥)
     → renamed_words files reads t to i ≡ None

@@ -1,4 +1,5 @@
--- The names of a renamed scene are the old ones, turned below what they stand in, and each reference means what it meant, under the name map.
+-- The names of a renamed scene are the old ones, turned below what they stand in, and each
+-- reference means what it meant, under the name map.
 use Rattle.std.specs.Prelude.{◌≡◌, ℕ, ◌<◌, Bool, List, length, None}
 use Rattle.std.specs.List.{Contains}
 use Rattle.proto_case.specs.Camel.{entry_name}
@@ -19,13 +20,29 @@ use Rattle.proto_rename_described.specs.Turns.{IsUnder}
 
 -- the last word of each declared name is turned below the rest
 abbrev pub NamesTurn : Type 0
-NamesTurn = (files : List FileOf) (reads : List ReadOf) (c : NewWords) (after : List FileOf) (seen : List ReadOf) (token : At) (above : List (Source At)) (aim : Declared At) (is_map : Bool) (to : List ℕ)
-    → IsRename files reads c after seen token above aim is_map to → (file : ℕ) → file < length files → (p : Placed) → Contains (file_placed (items_in (read_at reads file).tree)) p
+NamesTurn =
+    (files : List FileOf) (reads : List ReadOf) (c : NewWords) (after : List FileOf)
+    (seen : List ReadOf) (token : At) (above : List (Source At)) (aim : Declared At) (is_map : Bool)
+    (to : List ℕ)
+    → IsRename files reads c after seen token above aim is_map to
+    → (file : ℕ)
+    → file < length files
+    → (p : Placed)
+    → Contains (file_placed (items_in (read_at reads file).tree)) p
     → spell (text (scene_of None after seen file)) entry_name p.last
-    ≡ word_under (renaming_of (text_of files reads) entry_name token above is_map to) (name_of (text (scene_of None files reads file)) entry_name p.above) (spell (text (scene_of None files reads file)) entry_name p.last)
+    ≡ word_under (renaming_of (text_of files reads) entry_name token above is_map to)
+    (name_of (text (scene_of None files reads file)) entry_name p.above)
+    (spell (text (scene_of None files reads file)) entry_name p.last)
 
 -- each reference means what it meant, under the name map
 abbrev pub MeaningsTurn : Type 0
-MeaningsTurn = (files : List FileOf) (reads : List ReadOf) (c : NewWords) (after : List FileOf) (seen : List ReadOf) (token : At) (above : List (Source At)) (aim : Declared At) (is_map : Bool) (to : List ℕ)
-    → IsRename files reads c after seen token above aim is_map to → (file : ℕ) → file < length files → (r : Reference)
-    → IsUnder (renaming_of (text_of files reads) entry_name token above is_map to) (meant_by (scene_of None files reads file) r) (meant_by (scene_of None after seen file) r)
+MeaningsTurn =
+    (files : List FileOf) (reads : List ReadOf) (c : NewWords) (after : List FileOf)
+    (seen : List ReadOf) (token : At) (above : List (Source At)) (aim : Declared At) (is_map : Bool)
+    (to : List ℕ)
+    → IsRename files reads c after seen token above aim is_map to
+    → (file : ℕ)
+    → file < length files
+    → (r : Reference)
+    → IsUnder (renaming_of (text_of files reads) entry_name token above is_map to)
+    (meant_by (scene_of None files reads file) r) (meant_by (scene_of None after seen file) r)

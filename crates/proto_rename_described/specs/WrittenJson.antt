@@ -7,8 +7,14 @@ use Rattle.proto_rename_described.specs.Renamed.{WritesJson}
 
 -- It has an answer,
 abbrev pub JsonIsWrittenOrNot : Type 0
-JsonIsWrittenOrNot = (files : List FileOf) (reads : List ReadOf) (t : Target) → (written : Bool) × WritesJson files reads t written
+JsonIsWrittenOrNot = (files : List FileOf) (reads : List ReadOf) (t : Target)
+    → (written : Bool) × WritesJson files reads t written
 
 -- and one alone.
 abbrev pub JsonIsWrittenOnce : Type 0
-JsonIsWrittenOnce = (files : List FileOf) (reads : List ReadOf) (t : Target) → AreRead files reads → (a b : Bool) → WritesJson files reads t a → WritesJson files reads t b → a ≡ b
+JsonIsWrittenOnce = (files : List FileOf) (reads : List ReadOf) (t : Target)
+    → AreRead files reads
+    → (a b : Bool)
+    → WritesJson files reads t a
+    → WritesJson files reads t b
+    → a ≡ b

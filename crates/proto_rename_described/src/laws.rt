@@ -28,14 +28,15 @@ pub fn enum_defaults_fit()
     ensures { EnumDefaultsFit }
 {}
 
-/// Tokens that name nothing, use nothing and are no renamed default are not changed, and no label or scalar is.
+/// Tokens that name nothing, use nothing and are no renamed default are not
+/// changed, and no label or scalar is.
 pub fn other_tokens_stay()
     ensures labels { LabelsAndScalarsStay }
     ensures tokens { OtherTokensStay }
 {}
 
-/// Each field keeps its label, type and numbers after a rename, and its defaults go with the value that they mean. So no
-/// default is wrong.
+/// Each field keeps its label, type and numbers after a rename, and its defaults go with the value
+/// that they mean. So no default is wrong.
 pub fn all_defaults_fit()
     ensures fields { FieldsHaveRoles }
     ensures fit { AllDefaultsFit }
@@ -46,7 +47,8 @@ pub fn renames_leave_no_fault()
     ensures { RenamesLeaveNoFault }
 {}
 
-/// After a rename each name is turned below what it stands in, and each reference means what it meant under the name map.
+/// After a rename each name is turned below what it stands in, and each reference means
+/// what it meant under the name map.
 pub fn scenes_turn()
     ensures names { NamesTurn }
     ensures meanings { MeaningsTurn }
