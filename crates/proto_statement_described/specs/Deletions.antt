@@ -1,4 +1,5 @@
--- A field is deleted, and its number and its name are reserved: the three trees of which one has neither.
+-- A field is deleted, and its number and its name are reserved: the
+-- three trees of which one has neither.
 use Rattle.std.specs.Prelude.{◌≡◌, ◌≢◌, ℕ, ◌==◌, false, [], Option, None}
 use Rattle.std.specs.List.{Contains}
 use Rattle.proto_tree.specs.declared.piece.Header.{Header}
@@ -23,6 +24,7 @@ pub data WrittenField : Type 0 where
   Plain : Field → WrittenField
   OfMap : MapField → WrittenField
 
+-- the statement that declares the field
 abbrev pub statement_of : WrittenField → Statement
 statement_of (Plain f) = statement.Field f
 statement_of (OfMap f) = statement.MapField f
@@ -32,11 +34,12 @@ abbrev pub field_of : Option ℕ → WrittenField → FieldOf
 field_of oneof (Plain f) = plain_field oneof f
 field_of oneof (OfMap f) = map_field f
 
--- the tokens of its name and of its number
+-- the token of its name
 abbrev pub name_of : WrittenField → ℕ
 name_of (Plain f) = f.name
 name_of (OfMap f) = f.name
 
+-- the token of its number
 abbrev pub number_of : WrittenField → ℕ
 number_of (Plain f) = f.number
 number_of (OfMap f) = f.number
@@ -50,35 +53,61 @@ pub record Reservation : Type 0 where
   pub name : ℕ
   pub last : ℕ
 
+-- the two statements of the reservation
 abbrev pub reserved : Reservation → Tree
 reserved r =
-    Leaf (statement.Reserved (record { keyword = r.keyword; list = reserved_list.Ranges (record { first = record { first = r.number; up_to = None }; rest = [] }); semicolon = r.semicolon }))
-    (Leaf (statement.Reserved (record { keyword = r.again; list = reserved_list.Names (record { first = r.name; rest = [] }); semicolon = r.last })) End)
+    Leaf (statement.Reserved (record {
+      keyword = r.keyword;
+      list = reserved_list.Ranges
+          (record { first = record { first = r.number; up_to = None }; rest = [] });
+      semicolon = r.semicolon;
+    }))
+    (Leaf (statement.Reserved (record {
+      keyword = r.again;
+      list = reserved_list.Names (record { first = r.name; rest = [] });
+      semicolon = r.last;
+    })) End)
 
 -- ---- trees
 
 -- The second tree is the first, moved, with the field put in: among the fields of a oneof.
 pub data IsAmong (g : Move) (f : Field) : Tree → Tree → Type 0 where
   Found : (rest : Tree) → IsAmong g f rest (Leaf (statement.Field f) (move_tree g rest))
-  FurtherOn : (a : Statement) (x t : Tree) → IsAmong g f x t → IsAmong g f (Leaf a x) (Leaf (move_statement g a) t)
+  FurtherOn : (a : Statement) (x t : Tree)
+      → IsAmong g f x t
+      → IsAmong g f (Leaf a x) (Leaf (move_statement g a) t)
 
--- The second tree is the first, moved, with the field put in, and the third is the first, moved, with the reservation put in, in the same place
--- or behind the field's oneof, which has another field: among the members of a message.
-pub data IsDeletedRight (g k : Move) (w : WrittenField) (r : Reservation) : Tree → Tree → Tree → Type 0 where
-  AtField : (rest : Tree) → IsDeletedRight g k w r rest (Leaf (statement_of w) (move_tree g rest)) (joined (reserved r) (move_tree k rest))
-  AtOneof : (h : Heading) (f : Field) (i : ℕ) (x t : Tree) (j : ℕ) (rest : Tree) → w ≡ Plain f → is_empty (statements x) ≡ false → IsAmong g f x t
+-- The second tree is the first, moved, with the field put in, and the third is the first, moved,
+-- with the reservation put in, in the same place or behind the field's oneof, which has another
+-- field: among the members of a message.
+pub data IsDeletedRight
+    (g k : Move) (w : WrittenField) (r : Reservation) : Tree → Tree → Tree → Type 0 where
+  AtField : (rest : Tree)
+      → IsDeletedRight g k w r rest (Leaf (statement_of w) (move_tree g rest))
+      (joined (reserved r) (move_tree k rest))
+  AtOneof : (h : Heading) (f : Field) (i : ℕ) (x t : Tree) (j : ℕ) (rest : Tree)
+      → w ≡ Plain f
+      → is_empty (statements x) ≡ false
+      → IsAmong g f x t
       → IsDeletedRight g k w r (Block (header.Oneof h) i x j rest)
       (Block (move_header g (header.Oneof h)) (g i) t (g j) (move_tree g rest))
-      (Block (move_header k (header.Oneof h)) (k i) (move_tree k x) (k j) (joined (reserved r) (move_tree k rest)))
-  PastLeaf : (a : Statement) (x t u : Tree) → IsDeletedRight g k w r x t u → IsDeletedRight g k w r (Leaf a x) (Leaf (move_statement g a) t) (Leaf (move_statement k a) u)
-  PastBlock : (h : Header) (i : ℕ) (within : Tree) (j : ℕ) (x t u : Tree) → IsDeletedRight g k w r x t u
+      (Block (move_header k (header.Oneof h)) (k i) (move_tree k x) (k j)
+      (joined (reserved r) (move_tree k rest)))
+  PastLeaf : (a : Statement) (x t u : Tree)
+      → IsDeletedRight g k w r x t u
+      → IsDeletedRight g k w r (Leaf a x) (Leaf (move_statement g a) t)
+      (Leaf (move_statement k a) u)
+  PastBlock : (h : Header) (i : ℕ) (within : Tree) (j : ℕ) (x t u : Tree)
+      → IsDeletedRight g k w r x t u
       → IsDeletedRight g k w r (Block h i within j x)
       (Block (move_header g h) (g i) (move_tree g within) (g j) t)
       (Block (move_header k h) (k i) (move_tree k within) (k j) u)
 
 -- in a message at any depth
-pub data IsDeletedIn (g k : Move) (w : WrittenField) (r : Reservation) : Tree → Tree → Tree → Type 0 where
-  InMessage : (h : Heading) (i : ℕ) (x t u : Tree) (j : ℕ) (rest : Tree) → IsDeletedRight g k w r x t u
+pub data IsDeletedIn
+    (g k : Move) (w : WrittenField) (r : Reservation) : Tree → Tree → Tree → Type 0 where
+  InMessage : (h : Heading) (i : ℕ) (x t u : Tree) (j : ℕ) (rest : Tree)
+      → IsDeletedRight g k w r x t u
       → IsDeletedIn g k w r (Block (header.Message h) i x j rest)
       (Block (move_header g (header.Message h)) (g i) t (g j) (move_tree g rest))
       (Block (move_header k (header.Message h)) (k i) u (k j) (move_tree k rest))
@@ -86,8 +115,11 @@ pub data IsDeletedIn (g k : Move) (w : WrittenField) (r : Reservation) : Tree �
       → IsDeletedIn g k w r (Block (header.Message h) i x j rest)
       (Block (move_header g (header.Message h)) (g i) t (g j) (move_tree g rest))
       (Block (move_header k (header.Message h)) (k i) u (k j) (move_tree k rest))
-  BehindLeaf : (a : Statement) (x t u : Tree) → IsDeletedIn g k w r x t u → IsDeletedIn g k w r (Leaf a x) (Leaf (move_statement g a) t) (Leaf (move_statement k a) u)
-  BehindBlock : (h : Header) (i : ℕ) (within : Tree) (j : ℕ) (x t u : Tree) → IsDeletedIn g k w r x t u
+  BehindLeaf : (a : Statement) (x t u : Tree)
+      → IsDeletedIn g k w r x t u
+      → IsDeletedIn g k w r (Leaf a x) (Leaf (move_statement g a) t) (Leaf (move_statement k a) u)
+  BehindBlock : (h : Header) (i : ℕ) (within : Tree) (j : ℕ) (x t u : Tree)
+      → IsDeletedIn g k w r x t u
       → IsDeletedIn g k w r (Block h i within j x)
       (Block (move_header g h) (g i) (move_tree g within) (g j) t)
       (Block (move_header k h) (k i) (move_tree k within) (k j) u)
@@ -101,11 +133,23 @@ pub record Reserves (old new : Scene) (w : WrittenField) (r : Reservation) : Typ
 
 -- fields of a message that stand at different tokens have different names
 abbrev pub FieldNamesDiffer : Scene → Tree → Type 0
-FieldNamesDiffer scene tree = (b : BlockOf) (h : Heading) (f g : FieldOf) → Contains (blocks_in tree) b → b.header ≡ header.Message h → Contains (fields_in b.within) f → Contains (fields_in b.within) g
-    → f.name ≢ g.name → text scene f.name ≢ text scene g.name
+FieldNamesDiffer scene tree = (b : BlockOf) (h : Heading) (f g : FieldOf)
+    → Contains (blocks_in tree) b
+    → b.header ≡ header.Message h
+    → Contains (fields_in b.within) f
+    → Contains (fields_in b.within) g
+    → f.name ≢ g.name
+    → text scene f.name ≢ text scene g.name
 
 -- No flaw comes in by a deletion, where the field's name token is not that of anything that stays.
 abbrev pub DeletionsBringNoFlaw : Type 0
-DeletionsBringNoFlaw = (g k : Move) (middle old new : Scene) (w : WrittenField) (r : Reservation) (x t u : Tree)
-    → IsMoved g middle old → IsMoved k middle new → Reserves old new w r → IsDeletedIn g k w r x t u → ((i : ℕ) → (g i == name_of w) ≡ false) → FieldNamesDiffer old t
-    → file_flaws old t ≡ [] → file_flaws new u ≡ []
+DeletionsBringNoFlaw =
+    (g k : Move) (middle old new : Scene) (w : WrittenField) (r : Reservation) (x t u : Tree)
+    → IsMoved g middle old
+    → IsMoved k middle new
+    → Reserves old new w r
+    → IsDeletedIn g k w r x t u
+    → ((i : ℕ) → (g i == name_of w) ≡ false)
+    → FieldNamesDiffer old t
+    → file_flaws old t ≡ []
+    → file_flaws new u ≡ []

@@ -1,4 +1,5 @@
--- Files of which one is read otherwise: when no fault of the checks comes in, and which descriptor changes.
+-- Files of which one is read otherwise: when no fault of the checks comes
+-- in, and which descriptor changes.
 use Rattle.std.specs.Prelude.{◌≡◌, ◌≢◌, ℕ, ◌<◌, ◌==◌, false, List, [], length, None}
 use Rattle.std.specs.List.{All}
 use Rattle.std.specs.Str.{bytes_eq}
@@ -20,14 +21,19 @@ use Rattle.proto_statement_described.specs.Lists.{changed_at}
 use Rattle.proto_statement_described.specs.Mapped.{mapped_deletion}
 use Rattle.proto_statement_described.specs.Scenes.{IsMovedScene}
 
+-- the scene of the file at this place
 abbrev pub scene_at : List FileOf → List ReadOf → ℕ → Scene
 scene_at files reads k = scene_of None files reads k
 
+-- the tree of the file at this place
 abbrev pub tree_at : List ReadOf → ℕ → Tree
 tree_at reads k = (read_at reads k).tree
 
--- The file at this place is read otherwise; no path changes, and each other file has its tree and reads the same.
-pub record OthersStay (files : List FileOf) (reads : List ReadOf) (after : List FileOf) (seen : List ReadOf) (place : ℕ) : Type 0 where
+-- The file at this place is read otherwise; no path changes, and each other
+-- file has its tree and reads the same.
+pub record OthersStay
+    (files : List FileOf) (reads : List ReadOf) (after : List FileOf) (seen : List ReadOf)
+    (place : ℕ) : Type 0 where
   pub read : AreRead files reads
   pub seen_are : AreRead after seen
   pub count : length after ≡ length files
@@ -38,9 +44,12 @@ pub record OthersStay (files : List FileOf) (reads : List ReadOf) (after : List 
 
 -- ---- a field less
 
--- The field with this name token is deleted from the file, and its number and name are reserved. Of one scene and tree without both, the old
--- ones are those with the field put in, and the new ones those with the reservation put in.
-pub record IsDeletion (files : List FileOf) (reads : List ReadOf) (after : List FileOf) (seen : List ReadOf) (place token : ℕ) : Type 0 where
+-- The field with this name token is deleted from the file, and its number and name are reserved. Of
+-- one scene and tree without both, the old ones are those with the field put in, and the new ones
+-- those with the reservation put in.
+pub record IsDeletion
+    (files : List FileOf) (reads : List ReadOf) (after : List FileOf) (seen : List ReadOf)
+    (place token : ℕ) : Type 0 where
   pub others : OthersStay files reads after seen place
   pub middle : Scene
   pub without : Tree
@@ -51,25 +60,38 @@ pub record IsDeletion (files : List FileOf) (reads : List ReadOf) (after : List 
   pub old : IsMovedScene to_old middle (scene_at files reads place)
   pub new : IsMovedScene to_new middle (scene_at after seen place)
   pub says : Reserves (scene_at files reads place) (scene_at after seen place) field reservation
-  pub trees : IsDeletedIn to_old to_new field reservation without (tree_at reads place) (tree_at seen place)
+  pub trees : IsDeletedIn to_old to_new field reservation without (tree_at reads place)
+      (tree_at seen place)
   pub named : name_of field ≡ token
   pub fresh : (i : ℕ) → (to_old i == name_of field) ≡ false
 
 -- No fault of the checks comes in, where the old files are linked,
 abbrev pub DeletionsLeaveNoFault : Type 0
-DeletionsLeaveNoFault = (files : List FileOf) (reads : List ReadOf) (after : List FileOf) (seen : List ReadOf) (place token : ℕ)
-    → IsDeletion files reads after seen place token → IsLinked (names_of_files files reads) → HasNoFault (CheckFaults files) → HasNoFault (CheckFaults after)
+DeletionsLeaveNoFault =
+    (files : List FileOf) (reads : List ReadOf) (after : List FileOf) (seen : List ReadOf)
+    (place token : ℕ)
+    → IsDeletion files reads after seen place token
+    → IsLinked (names_of_files files reads)
+    → HasNoFault (CheckFaults files)
+    → HasNoFault (CheckFaults after)
 
 -- and the descriptors are the old ones, of which that of the file is mapped.
 abbrev pub DeletionsMapDescriptors : Type 0
-DeletionsMapDescriptors = (files : List FileOf) (reads : List ReadOf) (after : List FileOf) (seen : List ReadOf) (place token : ℕ)
-    → IsDeletion files reads after seen place token → (ds new : List FileDesc) → AreDescribed files ds → AreDescribed after new
+DeletionsMapDescriptors =
+    (files : List FileOf) (reads : List ReadOf) (after : List FileOf) (seen : List ReadOf)
+    (place token : ℕ)
+    → IsDeletion files reads after seen place token
+    → (ds new : List FileDesc)
+    → AreDescribed files ds
+    → AreDescribed after new
     → new ≡ changed_at place (mapped_deletion token (tree_at reads place)) ds
 
 -- ---- an import more, and one less
 
 -- The file imports the path as well, as its last import, which is not public.
-pub record IsAddition (files : List FileOf) (reads : List ReadOf) (after : List FileOf) (seen : List ReadOf) (place : ℕ) (path : List ℕ) : Type 0 where
+pub record IsAddition
+    (files : List FileOf) (reads : List ReadOf) (after : List FileOf) (seen : List ReadOf)
+    (place : ℕ) (path : List ℕ) : Type 0 where
   pub others : OthersStay files reads after seen place
   pub move : Move
   pub scenes : IsMovedScene move (scene_at files reads place) (scene_at after seen place)
@@ -79,30 +101,56 @@ pub record IsAddition (files : List FileOf) (reads : List ReadOf) (after : List 
   pub private : wanted.is_public ≡ false
   pub says : value (scene_at after seen place) wanted.path ≡ path
 
+-- An added import brings no fault of the checks,
 abbrev pub AdditionsLeaveNoFault : Type 0
-AdditionsLeaveNoFault = (files : List FileOf) (reads : List ReadOf) (after : List FileOf) (seen : List ReadOf) (place : ℕ) (path : List ℕ)
-    → IsAddition files reads after seen place path → HasNoFault (CheckFaults files) → HasNoFault (CheckFaults after)
+AdditionsLeaveNoFault =
+    (files : List FileOf) (reads : List ReadOf) (after : List FileOf) (seen : List ReadOf)
+    (place : ℕ) (path : List ℕ)
+    → IsAddition files reads after seen place path
+    → HasNoFault (CheckFaults files)
+    → HasNoFault (CheckFaults after)
 
+-- and the descriptors are the old ones, of which that of the file has one dependency more.
 abbrev pub AdditionsMapDescriptors : Type 0
-AdditionsMapDescriptors = (files : List FileOf) (reads : List ReadOf) (after : List FileOf) (seen : List ReadOf) (place : ℕ) (path : List ℕ)
-    → IsAddition files reads after seen place path → (ds new : List FileDesc) → AreDescribed files ds → AreDescribed after new
+AdditionsMapDescriptors =
+    (files : List FileOf) (reads : List ReadOf) (after : List FileOf) (seen : List ReadOf)
+    (place : ℕ) (path : List ℕ)
+    → IsAddition files reads after seen place path
+    → (ds new : List FileDesc)
+    → AreDescribed files ds
+    → AreDescribed after new
     → new ≡ changed_at place (with_dependency path) ds
 
--- The file imports the path no more: the old file is the new one with the import put in, and had no earlier import of the path.
-pub record IsDrop (files : List FileOf) (reads : List ReadOf) (after : List FileOf) (seen : List ReadOf) (place : ℕ) (path : List ℕ) : Type 0 where
+-- The file imports the path no more: the old file is the new one with the import put in, and
+-- had no earlier import of the path.
+pub record IsDrop
+    (files : List FileOf) (reads : List ReadOf) (after : List FileOf) (seen : List ReadOf)
+    (place : ℕ) (path : List ℕ) : Type 0 where
   pub others : OthersStay files reads after seen place
   pub move : Move
   pub scenes : IsMovedScene move (scene_at after seen place) (scene_at files reads place)
   pub wanted : Wanted
   pub trees : HasImport move wanted (tree_at seen place) (tree_at reads place)
-  pub first : All (λ v. bytes_eq (value (scene_at files reads place) wanted.path) (value (scene_at after seen place) v.path) ≡ false) trees.front
+  pub first : All (λ v. bytes_eq (value (scene_at files reads place) wanted.path)
+      (value (scene_at after seen place) v.path) ≡ false) trees.front
   pub says : value (scene_at files reads place) wanted.path ≡ path
 
+-- A dropped import brings no fault of the checks,
 abbrev pub DropsLeaveNoFault : Type 0
-DropsLeaveNoFault = (files : List FileOf) (reads : List ReadOf) (after : List FileOf) (seen : List ReadOf) (place : ℕ) (path : List ℕ)
-    → IsDrop files reads after seen place path → HasNoFault (CheckFaults files) → HasNoFault (CheckFaults after)
+DropsLeaveNoFault =
+    (files : List FileOf) (reads : List ReadOf) (after : List FileOf) (seen : List ReadOf)
+    (place : ℕ) (path : List ℕ)
+    → IsDrop files reads after seen place path
+    → HasNoFault (CheckFaults files)
+    → HasNoFault (CheckFaults after)
 
+-- and the descriptors are the old ones, of which that of the file has one dependency less.
 abbrev pub DropsMapDescriptors : Type 0
-DropsMapDescriptors = (files : List FileOf) (reads : List ReadOf) (after : List FileOf) (seen : List ReadOf) (place : ℕ) (path : List ℕ)
-    → IsDrop files reads after seen place path → (ds new : List FileDesc) → AreDescribed files ds → AreDescribed after new
+DropsMapDescriptors =
+    (files : List FileOf) (reads : List ReadOf) (after : List FileOf) (seen : List ReadOf)
+    (place : ℕ) (path : List ℕ)
+    → IsDrop files reads after seen place path
+    → (ds new : List FileDesc)
+    → AreDescribed files ds
+    → AreDescribed after new
     → new ≡ changed_at place (without_dependency path) ds

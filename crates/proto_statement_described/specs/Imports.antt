@@ -34,11 +34,14 @@ with_dependency path d = with_imports (d.dependency ++ path ∷ []) d.public_dep
 
 -- a place goes, and those behind it are lowered by one
 abbrev pub lowered : ℕ → List ℕ → List ℕ
-lowered n places = flat_map (λ p. if p == n then [] else (if nat_lt n p then (p - 1) ∷ [] else p ∷ [])) places
+lowered n places =
+    flat_map (λ p. if p == n then [] else (if nat_lt n p then (p - 1) ∷ [] else p ∷ [])) places
 
 -- the path goes, and its place from the public ones
 abbrev pub without_dependency : List ℕ → FileDesc → FileDesc
-without_dependency path d = with_imports (without_place (places_before (bytes_eq path) d.dependency) d.dependency) (lowered (places_before (bytes_eq path) d.dependency) d.public_dependency) d
+without_dependency path d =
+    with_imports (without_place (places_before (bytes_eq path) d.dependency) d.dependency)
+    (lowered (places_before (bytes_eq path) d.dependency) d.public_dependency) d
 
 -- ---- trees
 
@@ -46,7 +49,8 @@ without_dependency path d = with_imports (without_place (places_before (bytes_eq
 abbrev pub move_wanted : Move → Wanted → Wanted
 move_wanted g w = record { path = g w.path; is_public = w.is_public }
 
--- The second tree has this import more at one place among its imports; all else is that of the first, moved.
+-- The second tree has this import more at one place among its imports; all
+-- else is that of the first, moved.
 pub record HasImport (g : Move) (w : Wanted) (s t : Tree) : Type 0 where
   pub front : List Wanted
   pub back : List Wanted
@@ -58,10 +62,17 @@ pub record HasImport (g : Move) (w : Wanted) (s t : Tree) : Type 0 where
 
 -- An import more as the last of all.
 abbrev pub AdditionsAreMapped : Type 0
-AdditionsAreMapped = (g : Move) (a b : Scene) (path : List ℕ) (w : Wanted) (s t : Tree) → IsMovedScene g a b → (i : HasImport g w s t) → i.back ≡ [] → w.is_public ≡ false
+AdditionsAreMapped = (g : Move) (a b : Scene) (path : List ℕ) (w : Wanted) (s t : Tree)
+    → IsMovedScene g a b
+    → (i : HasImport g w s t)
+    → i.back ≡ []
+    → w.is_public ≡ false
     → file_described b path t ≡ with_dependency (value b w.path) (file_described a path s)
 
 -- An import less: the first tree has it no more, of which no earlier import had the path.
 abbrev pub DropsAreMapped : Type 0
-DropsAreMapped = (g : Move) (a b : Scene) (path : List ℕ) (w : Wanted) (s t : Tree) → IsMovedScene g a b → (i : HasImport g w s t) → All (λ v. bytes_eq (value b w.path) (value a v.path) ≡ false) i.front
+DropsAreMapped = (g : Move) (a b : Scene) (path : List ℕ) (w : Wanted) (s t : Tree)
+    → IsMovedScene g a b
+    → (i : HasImport g w s t)
+    → All (λ v. bytes_eq (value b w.path) (value a v.path) ≡ false) i.front
     → file_described a path s ≡ without_dependency (value b w.path) (file_described b path t)

@@ -1,5 +1,5 @@
--- The descriptor of a file without a field, as a function of the old descriptor and of the place of the field in the old tree, which its name
--- token tells.
+-- The descriptor of a file without a field, as a function of the old descriptor and of the place of
+-- the field in the old tree, which its name token tells.
 use Rattle.std.specs.Prelude.{◌≡◌, ℕ, ◌+◌, ◌==◌, Bool, false, if◌then◌else◌, List, [], ◌∷◌, length, flat_map, map, None}
 use Rattle.std.specs.List.{list_any}
 use Rattle.proto_tree.specs.declared.piece.Header.TheVariants as header
@@ -29,8 +29,10 @@ declare token ss = list_any (is_named_at token) (flat_map (statement_fields None
 -- the statements right in a message before the field, or before its oneof
 abbrev pub statements_before : ℕ → Tree → List Statement
 statements_before token End = []
-statements_before token (Leaf s rest) = if declare token (s ∷ []) then [] else s ∷ statements_before token rest
-statements_before token (Block (header.Oneof h) opens within closes rest) = if declare token (statements within) then [] else statements_before token rest
+statements_before token (Leaf s rest) =
+    if declare token (s ∷ []) then [] else s ∷ statements_before token rest
+statements_before token (Block (header.Oneof h) opens within closes rest) =
+    if declare token (statements within) then [] else statements_before token rest
 statements_before token (Block h opens within closes rest) = statements_before token rest
 
 -- ---- descriptors
@@ -43,7 +45,8 @@ range_of_field f = record { start = f.number; end = f.number + 1 }
 abbrev pub field_place : ℕ → Tree → ℕ
 field_place token within = places_before (is_named_at token) (fields_in within)
 
--- The field is taken out. Its range and its name come behind those that stand before the field, or before its oneof.
+-- The field is taken out. Its range and its name come behind those that stand
+-- before the field, or before its oneof.
 abbrev pub without_field : ℕ → Tree → MessageDesc → MessageDesc
 without_field token within m = record {
   name = m.name;
@@ -51,8 +54,10 @@ without_field token within m = record {
   enum_type = m.enum_type;
   extension_range = m.extension_range;
   oneof_decl = m.oneof_decl;
-  reserved_range = with_more (length (flat_map reserved_ranges (statements_before token within))) (map range_of_field (at_place (field_place token within) m.field)) m.reserved_range;
-  reserved_name = with_more (length (flat_map reserved_names (statements_before token within))) (map (λ f. f.name) (at_place (field_place token within) m.field)) m.reserved_name;
+  reserved_range = with_more (length (flat_map reserved_ranges (statements_before token within)))
+      (map range_of_field (at_place (field_place token within) m.field)) m.reserved_range;
+  reserved_name = with_more (length (flat_map reserved_names (statements_before token within)))
+      (map (λ f. f.name) (at_place (field_place token within) m.field)) m.reserved_name;
   options = m.options;
 }
 
@@ -60,10 +65,12 @@ without_field token within m = record {
 abbrev pub without_entry : ℕ → Tree → Messages → Messages
 without_entry token End ms = ms
 without_entry token (Leaf (statement.MapField f) rest) NoMessages = NoMessages
-without_entry token (Leaf (statement.MapField f) rest) (Message m nested more) = if f.name == token then more else Message m nested (without_entry token rest more)
+without_entry token (Leaf (statement.MapField f) rest) (Message m nested more) =
+    if f.name == token then more else Message m nested (without_entry token rest more)
 without_entry token (Leaf s rest) ms = without_entry token rest ms
 without_entry token (Block (header.Message h) opens within closes rest) NoMessages = NoMessages
-without_entry token (Block (header.Message h) opens within closes rest) (Message m nested more) = Message m nested (without_entry token rest more)
+without_entry token (Block (header.Message h) opens within closes rest) (Message m nested more) =
+    Message m nested (without_entry token rest more)
 without_entry token (Block h opens within closes rest) ms = without_entry token rest ms
 
 -- whether the field is one of the message's
@@ -74,12 +81,15 @@ is_its token within = list_any (is_named_at token) (fields_in within)
 abbrev pub mapped_messages : ℕ → Tree → Messages → Messages
 mapped_messages token End ms = ms
 mapped_messages token (Leaf (statement.MapField f) rest) NoMessages = NoMessages
-mapped_messages token (Leaf (statement.MapField f) rest) (Message m nested more) = Message m nested (mapped_messages token rest more)
+mapped_messages token (Leaf (statement.MapField f) rest) (Message m nested more) =
+    Message m nested (mapped_messages token rest more)
 mapped_messages token (Leaf s rest) ms = mapped_messages token rest ms
 mapped_messages token (Block (header.Message h) opens within closes rest) NoMessages = NoMessages
 mapped_messages token (Block (header.Message h) opens within closes rest) (Message m nested more) =
     Message (if is_its token within then without_field token within m else m)
-    (if is_its token within then without_entry token within nested else mapped_messages token within nested)
+    (if is_its token within
+    then without_entry token within nested
+    else mapped_messages token within nested)
     (mapped_messages token rest more)
 mapped_messages token (Block h opens within closes rest) ms = mapped_messages token rest ms
 
@@ -97,8 +107,15 @@ mapped_deletion token tree d = record {
   syntax = d.syntax;
 }
 
--- A deletion maps the descriptor so, where the field's name token is not that of anything that stays.
+-- A deletion maps the descriptor so, where the field's name token
+-- is not that of anything that stays.
 abbrev pub DeletionsAreMapped : Type 0
-DeletionsAreMapped = (g k : Move) (middle old new : Scene) (path : List ℕ) (w : WrittenField) (r : Reservation) (x t u : Tree)
-    → IsMovedScene g middle old → IsMovedScene k middle new → Reserves old new w r → IsDeletedIn g k w r x t u → ((i : ℕ) → (g i == name_of w) ≡ false)
+DeletionsAreMapped =
+    (g k : Move) (middle old new : Scene) (path : List ℕ) (w : WrittenField) (r : Reservation)
+    (x t u : Tree)
+    → IsMovedScene g middle old
+    → IsMovedScene k middle new
+    → Reserves old new w r
+    → IsDeletedIn g k w r x t u
+    → ((i : ℕ) → (g i == name_of w) ≡ false)
     → file_described new path u ≡ mapped_deletion (name_of w) t (file_described old path t)

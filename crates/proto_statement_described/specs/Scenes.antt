@@ -6,17 +6,20 @@ use Rattle.proto_tree.specs.Moved.{Move, move_reference}
 use Rattle.proto_parts.specs.Scenes.{MeantOf, Scene, meant_by}
 use Rattle.proto_checks_laws.specs.Imports.{IsMoved}
 
--- the second scene reads at moved tokens what the first reads, and moved references mean the same names
+-- the second scene reads at moved tokens what the first reads, and
+-- moved references mean the same names
 pub record IsMovedScene (g : Move) (a b : Scene) : Type 0 where
   pub same : IsMoved g a b
-  pub names : (r : Reference) → option_map (λ m. m.name) (meant_by b (move_reference g r)) ≡ option_map (λ m. m.name) (meant_by a r)
+  pub names : (r : Reference)
+      → option_map (λ m. m.name) (meant_by b (move_reference g r))
+      ≡ option_map (λ m. m.name) (meant_by a r)
 
 -- what a reference means, whose first token is another
 abbrev pub move_meant : Move → MeantOf → MeantOf
 move_meant g m = record { token = g m.token; name = m.name; enum = m.enum }
 
--- The second scene has each token of the first at its moved index, and what the references of the first mean; others of its references begin
--- at tokens of its own.
+-- The second scene has each token of the first at its moved index, and what the references of the
+-- first mean; others of its references begin at tokens of its own.
 pub record HasTokens (g : Move) (a b : Scene) : Type 0 where
   pub version : a.is_proto3 ≡ b.is_proto3
   pub caps : a.cap ≡ b.cap

@@ -1,4 +1,5 @@
-//! What a deletion, an added and a dropped import leave of the faults and the descriptors of files. No code needs these laws.
+//! What a deletion, an added and a dropped import leave of the faults and the descriptors
+//! of files. No code needs these laws.
 #![tactic(auto)]
 
 pub mod laws;
