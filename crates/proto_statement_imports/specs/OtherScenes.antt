@@ -10,12 +10,21 @@ use Rattle.proto_statement_names.specs.Kept.{MeanTheSame}
 use Rattle.proto_statement_described.specs.Files.{scene_at, tree_at}
 
 -- It has its tokens and its tree, and what its references mean are the same enums.
-pub record IsLeft (files : List FileOf) (reads : List ReadOf) (after : List FileOf) (seen : List ReadOf) (k : ℕ) : Type 0 where
+pub record IsLeft
+    (files : List FileOf) (reads : List ReadOf) (after : List FileOf) (seen : List ReadOf) (k : ℕ)
+    : Type 0 where
   pub lexemes : lexemes_of after seen k ≡ lexemes_of files reads k
   pub tree : tree_at seen k ≡ tree_at reads k
-  pub enums : (u : Used ℕ) → Contains (uses_of reads k) u → (m : List (List ℕ)) → meaning_of files reads k u ≡ Some m → enum_named after seen m ≡ enum_named files reads m
+  pub enums : (u : Used ℕ)
+      → Contains (uses_of reads k) u
+      → (m : List (List ℕ))
+      → meaning_of files reads k u ≡ Some m
+      → enum_named after seen m ≡ enum_named files reads m
 
 -- Where each reference means the same name, it reads the same.
 abbrev pub OtherScenesStay : Type 0
-OtherScenesStay = (files : List FileOf) (reads : List ReadOf) (after : List FileOf) (seen : List ReadOf) (k : ℕ) → MeanTheSame files reads after seen → IsLeft files reads after seen k
+OtherScenesStay =
+    (files : List FileOf) (reads : List ReadOf) (after : List FileOf) (seen : List ReadOf) (k : ℕ)
+    → MeanTheSame files reads after seen
+    → IsLeft files reads after seen k
     → scene_at after seen k ≡ scene_at files reads k

@@ -10,14 +10,23 @@ use Rattle.proto_statement_names.specs.Cases.{AdditionCase, DropCase, IsPlaceOf}
 
 -- A file that may get an import is there.
 abbrev pub FilesAreThere : Type 0
-FilesAreThere = (files : List FileOf) (reads : List ReadOf) (file path : List ℕ) → ((n : ℕ) → AdditionCase files reads file path n → ⊥) → (place : ℕ) × IsPlaceOf files file place
+FilesAreThere = (files : List FileOf) (reads : List ReadOf) (file path : List ℕ)
+    → ((n : ℕ) → AdditionCase files reads file path n → ⊥)
+    → (place : ℕ) × IsPlaceOf files file place
 
 -- A file of which an import may be dropped is there, and the import,
 abbrev pub ImportsAreThere : Type 0
-ImportsAreThere = (files : List FileOf) (reads : List ReadOf) (file path : List ℕ) → AreRead files reads → ((n : ℕ) → DropCase files reads file path n → ⊥)
+ImportsAreThere = (files : List FileOf) (reads : List ReadOf) (file path : List ℕ)
+    → AreRead files reads
+    → ((n : ℕ) → DropCase files reads file path n → ⊥)
     → (place : ℕ) × (i : Import) × IsPlaceOf files file place × IsImportOf files reads place path i
 
 -- and it is one.
 abbrev pub ImportsAreOne : Type 0
-ImportsAreOne = (files : List FileOf) (reads : List ReadOf) (path : List ℕ) (place : ℕ) (i j : Import) → AreRead files reads → HasNoFault (LinkFaults files)
-    → IsImportOf files reads place path i → IsImportOf files reads place path j → i ≡ j
+ImportsAreOne =
+    (files : List FileOf) (reads : List ReadOf) (path : List ℕ) (place : ℕ) (i j : Import)
+    → AreRead files reads
+    → HasNoFault (LinkFaults files)
+    → IsImportOf files reads place path i
+    → IsImportOf files reads place path j
+    → i ≡ j

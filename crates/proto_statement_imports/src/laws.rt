@@ -10,14 +10,16 @@ use proto_statement_laws::laws::statements_are_exchanged;
 use proto_statement_names::laws::{additions_keep_links, drops_keep_links};
 use proto_text::laws::segments_are_made;
 
-/// A file that an edit of another one leaves reads the same, where its references mean the same names and enums. Where an
-/// import comes into a file, all others read the same, and this one at moved tokens.
+/// A file that an edit of another one leaves reads the same, where its references mean
+/// the same names and enums. Where an import comes into a file, all others read the
+/// same, and this one at moved tokens.
 pub fn scenes_stay()
     ensures others { OtherScenesStay }
     ensures moved { MovedFilesRead }
 {}
 
-/// An added import that no case refuses leaves files without a fault, with the old descriptors but for the import.
+/// An added import that no case refuses leaves files without a fault, with the
+/// old descriptors but for the import.
 pub fn additions_are_made()
     ensures { AdditionsAreMade }
 {
