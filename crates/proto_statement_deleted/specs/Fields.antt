@@ -8,4 +8,8 @@ use Rattle.proto_statement_changes.specs.DeletionChanges.{FieldAt, IsFieldAt, nu
 
 -- Without a fault of the checks the number of each field is below 2^64.
 abbrev pub NumbersAreSmall : Type 0
-NumbersAreSmall = (files : List FileOf) (reads : List ReadOf) (f : FieldAt) → AreRead files reads → HasNoFault (CheckFaults files) → IsFieldAt files reads f → number_of_field files reads f < 2 ^ 64
+NumbersAreSmall = (files : List FileOf) (reads : List ReadOf) (f : FieldAt)
+    → AreRead files reads
+    → HasNoFault (CheckFaults files)
+    → IsFieldAt files reads f
+    → number_of_field files reads f < 2 ^ 64

@@ -7,7 +7,8 @@ use Rattle.proto_statement_described.specs.Deletions.{IsDeletedIn, Reservation, 
 use Rattle.proto_statement_names.specs.Files.{DeclaresMore}
 use Rattle.proto_statement_names.specs.Trees.{MovesNames, move_wanted}
 
--- The second tree declares and uses more than the first, and imports the same; the third declares, uses and imports what the first does.
+-- The second tree declares and uses more than the first, and imports the same; the third declares,
+-- uses and imports what the first does.
 pub record AreNamed (g k : Move) (x t u : Tree) : Type 0 where
   pub more : DeclaresMore g x t
   pub same : MovesNames k x u
@@ -15,4 +16,6 @@ pub record AreNamed (g k : Move) (x t u : Tree) : Type 0 where
 
 -- So it is where a field is deleted.
 abbrev pub TreesAreNamed : Type 0
-TreesAreNamed = (g k : Move) (w : WrittenField) (r : Reservation) (x t u : Tree) → IsDeletedIn g k w r x t u → AreNamed g k x t u
+TreesAreNamed = (g k : Move) (w : WrittenField) (r : Reservation) (x t u : Tree)
+    → IsDeletedIn g k w r x t u
+    → AreNamed g k x t u

@@ -17,9 +17,13 @@ use Rattle.proto_statement_described.specs.Files.{OthersStay, scene_at, tree_at}
 use Rattle.proto_statement_described.specs.Scenes.{HasTokens}
 use Rattle.proto_statement_names.specs.Kept.{MeanTheSame}
 
--- One file is read of other tokens and as another tree. Of the tokens that are neither the field's nor the reservation's, each stands at its
--- moved index, apart from the others, and the first one first; and no token of the field's type is one of them.
-pub record IsReadWithout (files : List FileOf) (reads : List ReadOf) (after : List FileOf) (seen : List ReadOf) (place : ℕ) (g k : Move) (w : WrittenField) (r : Reservation) (x : Tree) (without : List Lexeme) : Type 0 where
+-- One file is read of other tokens and as another tree. Of the tokens that are neither the field's
+-- nor the reservation's, each stands at its moved index, apart from the others, and the first one
+-- first; and no token of the field's type is one of them.
+pub record IsReadWithout
+    (files : List FileOf) (reads : List ReadOf) (after : List FileOf) (seen : List ReadOf)
+    (place : ℕ) (g k : Move) (w : WrittenField) (r : Reservation) (x : Tree) (without : List Lexeme)
+    : Type 0 where
   pub read : AreRead files reads
   pub seen_are : AreRead after seen
   pub count : length after ≡ length files
@@ -34,19 +38,36 @@ pub record IsReadWithout (files : List FileOf) (reads : List ReadOf) (after : Li
   pub new_apart : (i j : ℕ) → k i ≡ k j → i ≡ j
   pub old_first : g 0 ≡ 0
   pub new_first : k 0 ≡ 0
-  pub own : (scope : List (Source ℕ)) (u : Used ℕ) → Contains (statement_uses scope (statement_of w)) u → (i : ℕ) → u.first ≢ g i
+  pub own : (scope : List (Source ℕ)) (u : Used ℕ)
+      → Contains (statement_uses scope (statement_of w)) u
+      → (i : ℕ)
+      → u.first ≢ g i
 
 -- Where each reference means what it meant, the scenes of the file have the tokens of one scene,
-pub record HaveTokens (files : List FileOf) (reads : List ReadOf) (after : List FileOf) (seen : List ReadOf) (place : ℕ) (g k : Move) : Type 0 where
+pub record HaveTokens
+    (files : List FileOf) (reads : List ReadOf) (after : List FileOf) (seen : List ReadOf)
+    (place : ℕ) (g k : Move) : Type 0 where
   pub middle : Scene
   pub old : HasTokens g middle (scene_at files reads place)
   pub new : HasTokens k middle (scene_at after seen place)
 
+-- Where each reference means what it meant, the old and the new scene of the file have the
+-- tokens of one scene, moved.
 abbrev pub ScenesHaveTokens : Type 0
-ScenesHaveTokens = (files : List FileOf) (reads : List ReadOf) (after : List FileOf) (seen : List ReadOf) (place : ℕ) (g k : Move) (w : WrittenField) (r : Reservation) (x : Tree) (without : List Lexeme)
-    → IsReadWithout files reads after seen place g k w r x without → IsLinked (names_of_files files reads) → MeanTheSame files reads after seen → HaveTokens files reads after seen place g k
+ScenesHaveTokens =
+    (files : List FileOf) (reads : List ReadOf) (after : List FileOf) (seen : List ReadOf)
+    (place : ℕ) (g k : Move) (w : WrittenField) (r : Reservation) (x : Tree) (without : List Lexeme)
+    → IsReadWithout files reads after seen place g k w r x without
+    → IsLinked (names_of_files files reads)
+    → MeanTheSame files reads after seen
+    → HaveTokens files reads after seen place g k
 
 -- and each other file reads the same.
 abbrev pub OtherScenesStay : Type 0
-OtherScenesStay = (files : List FileOf) (reads : List ReadOf) (after : List FileOf) (seen : List ReadOf) (place : ℕ) (g k : Move) (w : WrittenField) (r : Reservation) (x : Tree) (without : List Lexeme)
-    → IsReadWithout files reads after seen place g k w r x without → IsLinked (names_of_files files reads) → MeanTheSame files reads after seen → OthersStay files reads after seen place
+OtherScenesStay =
+    (files : List FileOf) (reads : List ReadOf) (after : List FileOf) (seen : List ReadOf)
+    (place : ℕ) (g k : Move) (w : WrittenField) (r : Reservation) (x : Tree) (without : List Lexeme)
+    → IsReadWithout files reads after seen place g k w r x without
+    → IsLinked (names_of_files files reads)
+    → MeanTheSame files reads after seen
+    → OthersStay files reads after seen place

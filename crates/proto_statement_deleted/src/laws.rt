@@ -11,22 +11,24 @@ use proto_statement_changes::laws::{deletions_are_changes, fields_are_one};
 use proto_statement_laws::laws::statements_are_exchanged;
 use proto_text::laws::{runs_are_replaced, segments_are_made};
 
-/// Where a field is deleted, the old tree is one tree with the field put in among the members of a message, or of a oneof of
-/// it; the new tree is that one with the reservation put in, in the same place or behind the oneof. The old tree declares the
-/// field and uses its type besides what the new one does.
+/// Where a field is deleted, the old tree is one tree with the field put in among the
+/// members of a message, or of a oneof of it; the new tree is that one with the reservation
+/// put in, in the same place or behind the oneof. The old tree declares the field and uses
+/// its type besides what the new one does.
 pub fn trees_are_deleted()
     ensures deleted { TreesAreDeleted }
     ensures named { TreesAreNamed }
 {}
 
-/// Where each reference means what it meant, both scenes of the file have the tokens of one scene, moved, and the scene of
-/// each other file stays.
+/// Where each reference means what it meant, both scenes of the file have the tokens of one scene,
+/// moved, and the scene of each other file stays.
 pub fn scenes_have_tokens()
     ensures edited { ScenesHaveTokens }
     ensures others { OtherScenesStay }
 {}
 
-/// Without a fault of the checks the number of each field is below 2^64; and a number in decimal is read as itself.
+/// Without a fault of the checks the number of each field is below 2^64; and a
+/// number in decimal is read as itself.
 pub fn numbers_are_read()
     ensures small { NumbersAreSmall }
     ensures decimal { DecimalsAreNumbers }
@@ -40,8 +42,9 @@ pub fn fields_may_be_deleted()
     fields_are_one();
 }
 
-/// A deletion that no case refuses is of the names and of the descriptors what their laws ask for: the names lose a field, and
-/// each reference means what it meant; the file loses the field, and the other files read the same.
+/// A deletion that no case refuses is of the names and of the descriptors what their laws ask
+/// for: the names lose a field, and each reference means what it meant; the file loses the field,
+/// and the other files read the same.
 pub fn deletions_join()
     ensures less { DeletionsAreLess }
     ensures means { DeletionsMeanTheSame }
@@ -52,8 +55,8 @@ pub fn deletions_join()
     segments_are_made();
 }
 
-/// Such a deletion brings no fault, and leaves the descriptors but for that of the file, which loses the field and has its
-/// number and its name reserved.
+/// Such a deletion brings no fault, and leaves the descriptors but for that of the file, which
+/// loses the field and has its number and its name reserved.
 pub fn deletions_leave_files_clean()
     ensures faults { DeletionsLeaveNoFault }
     ensures mapped { DeletionsAreMapped }
@@ -63,8 +66,8 @@ pub fn deletions_leave_files_clean()
     segments_are_made();
 }
 
-/// Where a field may be deleted, and its file would not be too long, the changes are an entry, and put files of a workspace
-/// without a fault, whose descriptors are mapped; and no others.
+/// Where a field may be deleted, and its file would not be too long, the changes are an entry, and
+/// put files of a workspace without a fault, whose descriptors are mapped; and no others.
 pub fn deletions_are_made()
     ensures made { DeletionsAreMade }
     ensures left { DeletionsLeaveFiles }
