@@ -14,6 +14,7 @@ use Rattle.proto_statement_names.specs.Cases.{IsField}
 use Rattle.proto_statement_splices.specs.Fields.{field_in, place_of}
 use Rattle.proto_statement_splices.specs.declared.fields.FieldPlace.{FieldPlace}
 
+-- whether a symbol of this kind is a written field
 abbrev pub is_field_kind : Kind → Bool
 is_field_kind Field = true
 is_field_kind _ = false
@@ -25,11 +26,14 @@ is_field (Some k) = is_field_kind k
 
 -- the name token of the field of this full name
 abbrev pub IsFieldToken : List FileOf → List ReadOf → List ℕ → FieldName → Type 0
-IsFieldToken files reads name field = (t : Target) × IsField files reads name t × (t.token ≡ at field.file field.token)
+IsFieldToken files reads name field = (t : Target)
+    × IsField files reads name t
+    × (t.token ≡ at field.file field.token)
 
 -- where the statement of this name token stands
 abbrev pub IsPlaceOfField : List FileOf → List ReadOf → FieldName → FieldPlace → Type 0
-IsPlaceOfField files reads field place = option_map place_of (field_in field.token (read_at reads field.file).tree) ≡ Some place
+IsPlaceOfField files reads field place =
+    option_map place_of (field_in field.token (read_at reads field.file).tree) ≡ Some place
 
 -- ---- the tokens of the statement
 
@@ -38,17 +42,24 @@ abbrev pub last_by : Option ℕ → ℕ → ℕ
 last_by None semicolon = semicolon
 last_by (Some close) semicolon = close
 
+-- the last token that is replaced where the field stands here: its `;`, or its oneof's `}`
 abbrev pub last_of : FieldPlace → ℕ
 last_of p = last_by p.oneof p.semicolon
 
 -- these are tokens of the file, in order
 abbrev pub StandsInOrder : List FileOf → ℕ → FieldPlace → Type 0
-StandsInOrder files file p = (p.first ≤ p.semicolon) × (p.semicolon ≤ last_of p) × ((tokens : List Token) → AreTokens (file_at files file).bytes tokens → last_of p < length tokens)
+StandsInOrder files file p = (p.first ≤ p.semicolon)
+    × (p.semicolon ≤ last_of p)
+    × ((tokens : List Token) → AreTokens (file_at files file).bytes tokens
+    → last_of p < length tokens)
 
 -- what comes in their place, with the reservation
 abbrev pub text_if : List ℕ → List Token → ℕ → Option ℕ → List ℕ → List ℕ
 text_if text tokens semicolon None reserved = reserved
-text_if text tokens semicolon (Some close) reserved = bytes_between text (end_before tokens (suc semicolon)) (end_before tokens (suc close)) ++ (codes " " ++ reserved)
+text_if text tokens semicolon (Some close) reserved =
+    bytes_between text (end_before tokens (suc semicolon)) (end_before tokens (suc close))
+    ++ (codes " " ++ reserved)
 
+-- what comes in the place of a field that stands here, with this reservation
 abbrev pub text_by : List ℕ → List Token → FieldPlace → List ℕ → List ℕ
 text_by text tokens p reserved = text_if text tokens p.semicolon p.oneof reserved

@@ -13,7 +13,8 @@ use Rattle.proto_statement_names.specs.Cases.{IsImported}
 -- the file does not import the path; or it does, by this statement
 abbrev pub IsImportNamed : List FileOf → List ReadOf → ℕ → List ℕ → Option Import → Type 0
 IsImportNamed files reads file path None = IsImported files reads file path → ⊥
-IsImportNamed files reads file path (Some i) = IsImported files reads file path × IsImportOf files reads file path i
+IsImportNamed files reads file path (Some i) = IsImported files reads file path
+    × IsImportOf files reads file path i
 
 -- the import, where the string with its token passes
 abbrev pub import_if : (ℕ → Bool) → Statement → Option Import

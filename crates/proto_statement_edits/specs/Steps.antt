@@ -25,37 +25,52 @@ use Rattle.proto_statement_names.specs.Cases.{IsNeededIn}
 pub record AreImportsOf (files : List FileOf) (imports : List (Vec FileImport)) : Type 0 where
   pub len : length imports ≡ length files
   pub within : All (λ v. All (λ i. i.to < length files) v.items) imports
-  pub are : (reads : List ReadOf) → AreRead files reads → all_imports 0 (map (λ v. v.items) imports) ≡ link_imports files reads
+  pub are : (reads : List ReadOf)
+      → AreRead files reads
+      → all_imports 0 (map (λ v. v.items) imports) ≡ link_imports files reads
 
 -- for each file, what it sees by these imports is marked
 abbrev pub AreSeenIn : List FileOf → Workspace → List (Vec Bool) → Type 0
-AreSeenIn files w seen = (length seen ≡ length files) × ((file : ℕ) → file < length files → MarksSeen w file (get_or (map (λ v. v.items) seen) file []))
+AreSeenIn files w seen = (length seen ≡ length files)
+    × ((file : ℕ) → file < length files
+    → MarksSeen w file (get_or (map (λ v. v.items) seen) file []))
 
 -- a name of a file that is not marked
 abbrev pub hidden_in : List Bool → Option ℕ → Bool
 hidden_in marks None = false
 hidden_in marks (Some file) = not (slice_index_or marks file false)
 
+-- whether the name in this row of the table is of a file that is not marked
 abbrev pub is_hidden : LinkOf → List Bool → ℕ → Bool
 is_hidden l marks row = hidden_in marks (file_of_row l row)
 
 -- the first token of the first reference of a file that means such a name
 abbrev pub first_hidden : LinkOf → ℕ → List Bool → Option ℕ
-first_hidden l file marks = option_map (λ m. m.token) (find (λ m. is_hidden l marks m.row) (get_or l.meant file []))
+first_hidden l file marks =
+    option_map (λ m. m.token) (find (λ m. is_hidden l marks m.row) (get_or l.meant file []))
 
 -- nothing needs the import; or this does, and nothing that stands before it
 abbrev pub IsFirstNeeded : List FileOf → List ReadOf → ℕ → List ℕ → Option RefId → Type 0
 IsFirstNeeded files reads k path None = (u : Used At) → IsNeededIn files reads k path u → ⊥
-IsFirstNeeded files reads k path (Some id) = (u : Used At) × IsNeededIn files reads k path u × (u.first ≡ at id.file id.token) × ((v : Used At) → IsNeededIn files reads k path v → StandsBefore v.first u.first → ⊥)
+IsFirstNeeded files reads k path (Some id) = (u : Used At)
+    × IsNeededIn files reads k path u
+    × (u.first ≡ at id.file id.token)
+    × ((v : Used At) → IsNeededIn files reads k path v → StandsBefore v.first u.first → ⊥)
 
 -- the place of the refusal: the path of the file, and where the token begins
 abbrev pub StandsAtToken : List FileOf → ℕ → ℕ → List ℕ → ℕ → Type 0
-StandsAtToken files file token path offset = (path ≡ (file_at files file).path) × ((tokens : List Token) → AreTokens (file_at files file).bytes tokens → offset ≡ offset_at tokens token)
+StandsAtToken files file token path offset = (path ≡ (file_at files file).path)
+    × ((tokens : List Token) → AreTokens (file_at files file).bytes tokens
+    → offset ≡ offset_at tokens token)
 
+-- the refusal is of a captured reference, and has the place of this token
 abbrev pub IsCapturedAt : List FileOf → ℕ → ℕ → Refusal → Type 0
-IsCapturedAt files file token (Captured path offset) = StandsAtToken files file token (string_bytes path) offset
+IsCapturedAt files file token (Captured path offset) =
+    StandsAtToken files file token (string_bytes path) offset
 IsCapturedAt files file token _ = ⊥
 
+-- the refusal is of a reference that needs the import, and has the place of this token
 abbrev pub IsNeededAtToken : List FileOf → ℕ → ℕ → Refusal → Type 0
-IsNeededAtToken files file token (Needed path offset) = StandsAtToken files file token (string_bytes path) offset
+IsNeededAtToken files file token (Needed path offset) =
+    StandsAtToken files file token (string_bytes path) offset
 IsNeededAtToken files file token _ = ⊥

@@ -131,7 +131,8 @@ fn changed(alloc: Global, files: &Files, paths: Paths, file: u32) -> Result<Vec<
     }
 }
 
-/// What it changes that a file, by its path, imports another path as well; or the least case that refuses it.
+/// What it changes that a file, by its path, imports another path as well;
+/// or the least case that refuses it.
 pub fn add_import(
     alloc: Global,
     files: &Files,

@@ -80,7 +80,8 @@ fn text_between<'a>(files: &'a Files, file: u32, after: u32, last: u32) -> &'a s
     requires within { (tokens : List Token) → AreTokens
         (file_at files.now file).bytes tokens → last < length tokens }
     ensures { (tokens : List Token) → AreTokens (file_at files.entry.now file).bytes tokens
-        → result.now ≡ bytes_between (file_at files.entry.now file).bytes (end_before tokens (suc after)) (end_before tokens (suc last)) }
+        → result.now ≡ bytes_between (file_at files.entry.now file).bytes
+        (end_before tokens (suc after)) (end_before tokens (suc last)) }
 {
     let tokens = files.tokens(file as usize);
     let span = Span {
@@ -90,7 +91,8 @@ fn text_between<'a>(files: &'a Files, file: u32, after: u32, last: u32) -> &'a s
     files.source(file as usize).text(span)
 }
 
-/// What comes in the place of the statement: the reservation, for a oneof behind what stands after it.
+/// What comes in the place of the statement: the reservation, for a
+/// oneof behind what stands after it.
 fn text_of(
     alloc: Global,
     files: &Files,
@@ -118,7 +120,8 @@ fn span_of(files: &Files, file: u32, place: FieldPlace) -> Span
     requires file { file < length files.now }
     requires within { StandsInOrder files.now file place }
     ensures { (tokens : List Token) → AreTokens (file_at files.now file).bytes tokens
-        → (result.start ≡ offset_at tokens place.first) × (result.end ≡ end_before tokens (suc (last_of place))) }
+        → (result.start ≡ offset_at tokens place.first)
+        × (result.end ≡ end_before tokens (suc (last_of place))) }
 {
     let tokens = files.tokens(file as usize);
     let last = place.oneof.unwrap_or(place.semicolon);
@@ -159,8 +162,8 @@ fn changed(
     }
 }
 
-/// What the deletion of the field of a full name, without a leading dot, changes; or the least case that refuses it. Its
-/// number and its name are reserved.
+/// What the deletion of the field of a full name, without a leading dot, changes; or the least case
+/// that refuses it. Its number and its name are reserved.
 pub fn delete_field(
     alloc: Global,
     files: &Files,

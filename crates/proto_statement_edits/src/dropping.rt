@@ -95,7 +95,8 @@ fn changed(
     }
 }
 
-/// What it changes that a file, by its path, imports another path no longer; or the least case that refuses it.
+/// What it changes that a file, by its path, imports another path no longer;
+/// or the least case that refuses it.
 pub fn drop_import(
     alloc: Global,
     files: &Files,

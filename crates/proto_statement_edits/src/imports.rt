@@ -38,7 +38,8 @@ pub(crate) fn linked_imports(alloc: Global, files: &Files) -> Result<Vec<Vec<Fil
     requires { HasNoFault (LinkFaults files.now) }
     ensures { IfOk result (λ imports. AreImportsOf files.now imports.items) }
 {
-    // The contracts of these say that each file is read, and that the files are those of a workspace.
+    // The contracts of these say that each file is read, and that
+    // the files are those of a workspace.
     are_read(files);
     files.len();
     let written = all_written(alloc, files)?;

@@ -34,8 +34,8 @@ fn first_hidden(link: &Link, file: u32, marks: &[bool]) -> Option<u32>
     None
 }
 
-/// The first reference, by file and first token, that means a name of a file that its own would not see. For each file
-/// the files that it would see are marked.
+/// The first reference, by file and first token, that means a name of a file that its own would not
+/// see. For each file the files that it would see are marked.
 pub(crate) fn first_needed(files: &Files, link: &Link, seen: &[Vec<bool>]) -> Option<RefId>
     requires link { IsLinkOf files.now link.now }
     requires linked { HasNoFault (LinkFaults files.now) }
