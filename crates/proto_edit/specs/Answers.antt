@@ -11,6 +11,7 @@ use Rattle.proto_entries.specs.Entries.{ChangeOf}
 use Rattle.proto_entries.specs.Putting.{IsPut}
 use Rattle.proto_edit.specs.Workspaces.{Asked, rename, delete_field, add_import, drop_import, IsUndo, Run, accepted, Undone}
 
+-- what an edit asks for, with its names and paths as bytes
 abbrev pub asked : Edit → Asked
 asked (edit.Rename name to) = rename (string_bytes name) (string_bytes to)
 asked (edit.DeleteField name) = delete_field (string_bytes name)
@@ -28,7 +29,8 @@ abbrev pub IsReopened : List FileOf → List ChangeOf → Option (List FileOf) �
 IsReopened w cs (Some after) = IsPut w cs after × AreCompiled after
 IsReopened w cs None = (after : List FileOf) → IsPut w cs after → AreCompiled after → ⊥
 
--- memory, or an entry that can't be undone from where the ones after it lead; then no files are before them all
+-- memory, or an entry that can't be undone from where the ones after it lead;
+-- then no files are before them all
 abbrev pub IsUndoAllRefusal : List FileOf → List (List ChangeOf) → Refusal → Type 0
 IsUndoAllRefusal w ss refusal.Stale = (to : List FileOf) → Undone w ss to → ⊥
 IsUndoAllRefusal w ss refusal.NoMemory = Unit {0}
@@ -36,6 +38,16 @@ IsUndoAllRefusal w ss _ = ⊥
 
 -- From the files of a run, its entries undone lead back, unless memory runs out.
 abbrev pub LeadsBack : List FileOf → List (List ChangeOf) → Result (List FileOf) Refusal → Type 0
-LeadsBack w entries (Ok to) = (first : List FileOf) (es : List Asked) (given : List (Result (List ChangeOf) Refusal)) → AreCompiled first → Run first es given w → accepted given ≡ entries → to ≡ first
+LeadsBack w entries (Ok to) =
+    (first : List FileOf) (es : List Asked) (given : List (Result (List ChangeOf) Refusal))
+    → AreCompiled first
+    → Run first es given w
+    → accepted given ≡ entries
+    → to ≡ first
 LeadsBack w entries (Err refusal.NoMemory) = Unit {0}
-LeadsBack w entries (Err r) = (first : List FileOf) (es : List Asked) (given : List (Result (List ChangeOf) Refusal)) → AreCompiled first → Run first es given w → accepted given ≡ entries → ⊥
+LeadsBack w entries (Err r) =
+    (first : List FileOf) (es : List Asked) (given : List (Result (List ChangeOf) Refusal))
+    → AreCompiled first
+    → Run first es given w
+    → accepted given ≡ entries
+    → ⊥

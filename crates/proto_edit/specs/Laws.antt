@@ -24,41 +24,78 @@ CompiledAreRead = (w : List FileOf) → AreCompiled w → (reads : List ReadOf) 
 
 -- Files that compile have one list of descriptors.
 abbrev pub DescribedOnce : Type 0
-DescribedOnce = (w : List FileOf) (a b : List FileDesc) → AreCompiled w → AreDescribed w a → AreDescribed w b → a ≡ b
+DescribedOnce = (w : List FileOf) (a b : List FileDesc)
+    → AreCompiled w
+    → AreDescribed w a
+    → AreDescribed w b
+    → a ≡ b
 
 -- ---- one edit
 
 -- An edit of files that compile changes them in one way, and leaves one list of files.
 abbrev pub StepsOnce : Type 0
-StepsOnce = (w a b : List FileOf) (e : Asked) (cs ds : List ChangeOf) → AreCompiled w → IsStep w e cs a → IsStep w e ds b → (cs ≡ ds) × (a ≡ b)
+StepsOnce = (w a b : List FileOf) (e : Asked) (cs ds : List ChangeOf)
+    → AreCompiled w
+    → IsStep w e cs a
+    → IsStep w e ds b
+    → (cs ≡ ds) × (a ≡ b)
 
 -- The descriptors under the edit's map are one list.
 abbrev pub MappedOnce : Type 0
-MappedOnce = (w : List FileOf) (e : Asked) (ds a b : List FileDesc) → AreCompiled w → AreMapped w e ds a → AreMapped w e ds b → a ≡ b
+MappedOnce = (w : List FileOf) (e : Asked) (ds a b : List FileDesc)
+    → AreCompiled w
+    → AreMapped w e ds a
+    → AreMapped w e ds b
+    → a ≡ b
 
 -- An edit is refused by one case, and with one place where one is answered.
 abbrev pub RefusedOnce : Type 0
-RefusedOnce = (w : List FileOf) (e : Asked) → AreCompiled w → ((m n : ℕ) → IsLeastCase w e m → IsLeastCase w e n → m ≡ n)
-    × ((path file : List ℕ) (offset other : ℕ) → IsPlaceOf w e path offset → IsPlaceOf w e file other → (path ≡ file) × (offset ≡ other))
+RefusedOnce = (w : List FileOf) (e : Asked)
+    → AreCompiled w
+    → ((m n : ℕ) → IsLeastCase w e m → IsLeastCase w e n → m ≡ n)
+    × ((path file : List ℕ) (offset other : ℕ)
+    → IsPlaceOf w e path offset → IsPlaceOf w e file other → (path ≡ file) × (offset ≡ other))
 
 -- Undoing what an edit answered leads back, and to no other files.
 abbrev pub StepsAreUndone : Type 0
-StepsAreUndone = (w after : List FileOf) (e : Asked) (cs : List ChangeOf) → AreCompiled w → IsStep w e cs after → IsUndo after cs w × ((b : List FileOf) → IsUndo after cs b → b ≡ w)
+StepsAreUndone = (w after : List FileOf) (e : Asked) (cs : List ChangeOf)
+    → AreCompiled w
+    → IsStep w e cs after
+    → IsUndo after cs w × ((b : List FileOf) → IsUndo after cs b → b ≡ w)
 
 -- What an admissible edit leaves compiles, and to the old descriptors under the edit's map.
 abbrev pub StepsCompile : Type 0
-StepsCompile = (w after : List FileOf) (e : Asked) (cs : List ChangeOf) → AreCompiled w → IsStep w e cs after → IsMappedStep w e cs after
+StepsCompile = (w after : List FileOf) (e : Asked) (cs : List ChangeOf)
+    → AreCompiled w
+    → IsStep w e cs after
+    → IsMappedStep w e cs after
 
--- An admissible edit can be made: it changes something, its changes are an entry, and what they leave compiles.
+-- An admissible edit can be made: it changes something, its changes are an
+-- entry, and what they leave compiles.
 abbrev pub EditsAreMade : Type 0
-EditsAreMade = (w : List FileOf) (e : Asked) → AreCompiled w → IsAdmissible w e → (cs : List ChangeOf) × AreChanges w e cs × IsEntry cs × (after : List FileOf) × IsPut w cs after × AreCompiled after
+EditsAreMade = (w : List FileOf) (e : Asked)
+    → AreCompiled w
+    → IsAdmissible w e
+    → (cs : List ChangeOf)
+    × AreChanges w e cs
+    × IsEntry cs
+    × (after : List FileOf)
+    × IsPut w cs after
+    × AreCompiled after
 
 -- ---- runs
 
 -- undoing what a run answered, last one first, leads back
 abbrev pub RunsAreUndone : Type 0
-RunsAreUndone = (w to : List FileOf) (es : List Asked) (given : List (Result (List ChangeOf) Refusal)) → AreCompiled w → Run w es given to → Undone to (reverse (accepted given)) w
+RunsAreUndone =
+    (w to : List FileOf) (es : List Asked) (given : List (Result (List ChangeOf) Refusal))
+    → AreCompiled w
+    → Run w es given to
+    → Undone to (reverse (accepted given)) w
 
 -- entries are undone to one list of files
 abbrev pub UndoneOnce : Type 0
-UndoneOnce = (w a b : List FileOf) (ss : List (List ChangeOf)) → Undone w ss a → Undone w ss b → a ≡ b
+UndoneOnce = (w a b : List FileOf) (ss : List (List ChangeOf))
+    → Undone w ss a
+    → Undone w ss b
+    → a ≡ b

@@ -6,6 +6,7 @@ use Rattle.proto_statement_imports.specs.Workspaces.{AdditionsAreMade, DropsAreM
 use Rattle.proto_statement_names.specs.Fields.{FieldsAreOne as NamedFieldsAreOne}
 use Rattle.proto_statement_names.specs.Places.{NeededPlacesAreOne, OvertakenPlacesAreOne}
 
+-- what is known of deletions, added and dropped imports: the laws that steps of these rest on
 pub record StatementLaws : Type 0 where
   pub deleted : DeletionsAreMade
   pub fields : FieldsMayBeDeleted

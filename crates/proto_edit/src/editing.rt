@@ -27,7 +27,8 @@ impl Workspace {
         rename(alloc, self.files(), self.link(), name, to)
     }
 
-    // What the deletion of a field changes, or the least case that refuses it. The numbers of fields that compile are small.
+    // What the deletion of a field changes, or the least case that refuses it. The numbers
+    // of fields that compile are small.
     fn deleted(&self, alloc: Global, name: &str) -> Result<Vec<Change>, Refusal>
         ensures ok { IfOk result (λ cs. IsAdmissible self.now (delete_asked name.now)
             × AreChanges self.now (delete_asked name.now) (map change_of cs.items)) }
@@ -86,8 +87,9 @@ impl Workspace {
         }
     }
 
-    /// The workspace after an edit, and what the edit changed, where it is admissible here; else the least case that
-    /// refuses it. The new files compile to the old descriptors under the edit's map.
+    /// The workspace after an edit, and what the edit changed, where it is admissible
+    /// here; else the least case that refuses it. The new files compile to the old
+    /// descriptors under the edit's map.
     pub fn with_edit(&self, alloc: Global, edit: &Edit) -> Result<(Workspace, Entry), Refusal>
         ensures ok { IfOk result (λ x. IsMappedStep self.now (asked edit.now) x.1 x.0) }
         ensures err { IfErr result (IsRefusal self.now (asked edit.now)) }
@@ -106,8 +108,8 @@ impl Workspace {
         }
     }
 
-    /// The workspace before an entry. It is refused as stale exactly where a file of the entry is absent or not as the
-    /// entry left it, or the files before it would not compile.
+    /// The workspace before an entry. It is refused as stale exactly where a file of the entry is
+    /// absent or not as the entry left it, or the files before it would not compile.
     pub fn without_entry(&self, alloc: Global, entry: &Entry) -> Result<Workspace, Refusal>
         ensures ok { IfOk result (IsUndo self.now entry.now) }
         ensures err { IfErr result (IsUndoRefusal self.now entry.now) }
@@ -159,8 +161,8 @@ impl Workspace {
         }
     }
 
-    /// The run of the edits: the workspace after them, and what each of them is answered. Only want of memory is
-    /// refused, and it is no answer of an edit.
+    /// The run of the edits: the workspace after them, and what each of them is answered. Only want
+    /// of memory is refused, and it is no answer of an edit.
     pub fn apply_all(
         &self,
         alloc: Global,
@@ -187,8 +189,8 @@ impl Workspace {
         Ok((workspace, answers))
     }
 
-    /// Undoes the entries, which are given first to last, from the last to the first. Stale exactly where one of them
-    /// cannot be undone in what the ones after it left.
+    /// Undoes the entries, which are given first to last, from the last to the first. Stale exactly
+    /// where one of them cannot be undone in what the ones after it left.
     pub fn undo_all(&self, alloc: Global, entries: &[Entry]) -> Result<Workspace, Refusal>
         ensures ok { IfOk result (Undone self.now (reverse entries.now)) }
         ensures err { IfErr result (IsUndoAllRefusal self.now (reverse entries.now)) }

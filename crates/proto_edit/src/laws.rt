@@ -16,8 +16,9 @@ pub fn compiled_is_clean()
     ensures read { CompiledAreRead }
 {}
 
-/// A rename that no case refuses is a mapped step: the changes of its words are an entry, and the files with them compile to
-/// the old descriptors under the name map. Each admissible rename has such a step.
+/// A rename that no case refuses is a mapped step: the changes of its words are an entry,
+/// and the files with them compile to the old descriptors under the name map. Each
+/// admissible rename has such a step.
 pub fn renames_are_steps()
     ensures steps { RenamesAreSteps }
     ensures there { AdmissibleRenamesStep }
@@ -44,7 +45,8 @@ pub fn drops_are_steps()
     statements_are_known();
 }
 
-/// An admissible edit of a workspace can be made, and leaves files that compile to the old descriptors under its map.
+/// An admissible edit of a workspace can be made, and leaves files that compile to
+/// the old descriptors under its map.
 pub fn edits_compile()
     ensures made { EditsAreMade }
     ensures mapped { StepsCompile }
@@ -52,8 +54,8 @@ pub fn edits_compile()
     statements_are_known();
 }
 
-/// Changes put one list of files; the accepted entries of a run, undone from the last to the first, lead back to the files
-/// before it, and to no others.
+/// Changes put one list of files; the accepted entries of a run, undone from the last to the first,
+/// lead back to the files before it, and to no others.
 pub fn runs_are_undone()
     ensures back { RunsAreUndone }
     ensures puts { PutsOnce }
@@ -62,8 +64,8 @@ pub fn runs_are_undone()
     statements_are_known();
 }
 
-/// Files that compile have one list of descriptors; an edit changes them in one way, to one list of descriptors under its
-/// map, or is refused by one case, with one place where one is answered.
+/// Files that compile have one list of descriptors; an edit changes them in one way, to one list of
+/// descriptors under its map, or is refused by one case, with one place where one is answered.
 pub fn answers_are_one()
     ensures described { DescribedOnce }
     ensures steps { StepsOnce }

@@ -39,8 +39,8 @@ impl Model for Workspace {
 }
 
 impl Workspace {
-    /// The files given, in the order of their paths, where they compile; else their least fault by phase, path, offset
-    /// and number.
+    /// The files given, in the order of their paths, where they compile; else their least fault
+    /// by phase, path, offset and number.
     pub fn open(alloc: Global, files: Vec<(String, Vec<u8>)>) -> Result<Workspace, SchemaFault>
         ensures files { IfOk result (λ w. IsSortedOf (files_of files.items) w) }
         ensures compiled { IfOk result (λ w. AreCompiled w) }
