@@ -1,4 +1,5 @@
--- What the steps of the resolution of imports answer: the first fault of each kind, and walks back along imports.
+-- What the steps of the resolution of imports answer: the first fault of each kind, and walks back
+-- along imports.
 use Rattle.std.specs.Prelude.{◌≡◌, ◌↔◌, ℕ, Bool, List, [], Option, Some, None, String, string_bytes, get_or}
 use Rattle.std.specs.List.{Contains}
 use Rattle.std.specs.declared.alloc.Global.{Global}
@@ -17,12 +18,16 @@ IsFirst Says (Some f) = IsLeast Says f
 
 -- an import whose path no file has, or an earlier import of its file
 pub data PathFault (paths : List (List ℕ)) (asked : List Asked) : Fault → Type 0 where
-  unknown : (a : Asked) → Contains asked a → file_of paths a.path ≡ None → PathFault paths asked (fault a.place 10)
-  double : (a : Asked) → AfterEarlier (λ x y. (x.place.file ≡ y.place.file) × (x.path ≡ y.path)) asked a → PathFault paths asked (fault a.place 11)
+  unknown : (a : Asked) → Contains asked a → file_of paths a.path ≡ None
+      → PathFault paths asked (fault a.place 10)
+  double : (a : Asked)
+      → AfterEarlier (λ x y. (x.place.file ≡ y.place.file) × (x.path ≡ y.path)) asked a
+      → PathFault paths asked (fault a.place 11)
 
 -- an import on a cycle
 pub data CycleFault (paths : List (List ℕ)) (asked : List Asked) : Fault → Type 0 where
-  cycle : (a : Asked) (to : ℕ) → Contains asked a → file_of paths a.path ≡ Some to → Leads (imports_of paths asked) to a.place.file → CycleFault paths asked (fault a.place 12)
+  cycle : (a : Asked) (to : ℕ) → Contains asked a → file_of paths a.path ≡ Some to
+      → Leads (imports_of paths asked) to a.place.file → CycleFault paths asked (fault a.place 12)
 
 -- the map gives the file with a path
 abbrev pub IsFileIndex : {S : Type 0} → IndexMap (String Global) ℕ S → List (List ℕ) → Type 0
@@ -30,11 +35,14 @@ IsFileIndex index paths = (path : List ℕ) → get_by_text index path ≡ file_
 
 -- the import names a marked file
 abbrev pub NamesMarked : List (List ℕ) → List Bool → WrittenImport → Type 0
-NamesMarked paths marked w = (to : ℕ) × (file_of paths (string_bytes w.path) ≡ Some to) × IsMarked marked to
+NamesMarked paths marked w =
+    (to : ℕ) × (file_of paths (string_bytes w.path) ≡ Some to) × IsMarked marked to
 
 -- an import of this file that names a marked file, as an import on a cycle
 abbrev pub MarkedFault : List (List ℕ) → List Bool → ℕ → List WrittenImport → Fault → Type 0
-MarkedFault paths marked file ws f = (w : WrittenImport) × Contains ws w × NamesMarked paths marked w × (f ≡ fault (at file w.token) 12)
+MarkedFault paths marked file ws f =
+    (w : WrittenImport) × Contains ws w × NamesMarked paths marked w
+    × (f ≡ fault (at file w.token) 12)
 
 -- one list has what the other has, turned round
 abbrev pub AreTurned : List (List ℕ) → List (List ℕ) → Type 0
@@ -42,4 +50,7 @@ AreTurned next back = (a b : ℕ) → Contains (get_or next a []) b ↔ Contains
 
 -- the list of a file has the files that import it
 abbrev pub AreImporters : List (List ℕ) → List Import → Type 0
-AreImporters lists imports = (from to : ℕ) → Contains (get_or lists to []) from ↔ ((i : Import) × Contains imports i × (i.from ≡ from) × (i.to ≡ to))
+AreImporters lists imports =
+    (from to : ℕ)
+    → Contains (get_or lists to []) from
+    ↔ ((i : Import) × Contains imports i × (i.from ≡ from) × (i.to ≡ to))

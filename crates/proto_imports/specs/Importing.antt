@@ -14,17 +14,22 @@ use Rattle.proto_imports.specs.declared.import.ImportError.TheVariants.{Bad, NoM
 
 -- an import as it is written in a file
 abbrev pub asked_by : ℕ → WrittenImport → Asked
-asked_by file w = record { place = at file w.token; path = string_bytes w.path; is_public = w.is_public }
+asked_by file w = record {
+  place = at file w.token;
+  path = string_bytes w.path;
+  is_public = w.is_public;
+}
 
 -- the imports of all files from this number on, file after file
 abbrev pub all_asked : ℕ → List (List WrittenImport) → List Asked
 all_asked file [] = []
 all_asked file (ws ∷ rest) = map (asked_by file) ws ++ all_asked (suc file) rest
 
+-- an import of a file as it is resolved: from this file to that one, public or not
 abbrev pub import_from : ℕ → FileImport → Import
 import_from file i = record { from = file; to = i.to; is_public = i.is_public }
 
--- the same of imports of files
+-- the resolved imports of all files from this number on, file after file
 abbrev pub all_imports : ℕ → List (List FileImport) → List Import
 all_imports file [] = []
 all_imports file (is ∷ rest) = map (import_from file) is ++ all_imports (suc file) rest
@@ -33,11 +38,13 @@ all_imports file (is ∷ rest) = map (import_from file) is ++ all_imports (suc f
 abbrev pub AreRising : List WrittenImport → Type 0
 AreRising ws = AllPairs (λ a b. a.token < b.token) ws
 
+-- the number of the fault that an import has
 abbrev pub number_of : ImportFlaw → ℕ
 number_of Unknown = 10
 number_of Double = 11
 number_of Cycle = 12
 
+-- a faulty import as a fault: at the token of its path, with its number
 abbrev pub fault_of : BadImport → Fault
 fault_of b = fault (at b.file b.token) (number_of b.flaw)
 

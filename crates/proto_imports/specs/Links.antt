@@ -1,4 +1,5 @@
--- The link of files: what they declare, see and refer to, as the texts of their tokens spell it; and the faults of imports, names and references.
+-- The link of files: what they declare, see and refer to, as the texts of their tokens spell it;
+-- and the faults of imports, names and references.
 use Rattle.std.specs.Prelude.{◌≡◌, ℕ, suc, List, [], ◌∷◌, ◌++◌, length, map, Option, Some, None}
 use Rattle.proto_text.specs.Values.{value_of}
 use Rattle.proto_text.specs.Texts.{words, offset_at}
@@ -26,27 +27,36 @@ abbrev pub value_or_none : Option (List ℕ) → List ℕ
 value_or_none None = []
 value_or_none (Some v) = v
 
+-- an import that a tree asks for: where it stands, and the path that its string spells
 abbrev pub asked_as : (At → List ℕ) → ℕ → Wanted → Asked
-asked_as text file w = record { place = at file w.path; path = value_or_none (value_of (text (at file w.path))); is_public = w.is_public }
+asked_as text file w = record {
+  place = at file w.path;
+  path = value_or_none (value_of (text (at file w.path)));
+  is_public = w.is_public;
+}
 
 -- the imports of all files from this number on, file after file
 abbrev pub all_wanted : (At → List ℕ) → ℕ → List ReadOf → List Asked
 all_wanted text file [] = []
-all_wanted text file (r ∷ rs) = map (asked_as text file) (imports_in r.tree) ++ all_wanted text (suc file) rs
+all_wanted text file (r ∷ rs) =
+    map (asked_as text file) (imports_in r.tree) ++ all_wanted text (suc file) rs
 
+-- what a file that is read declares and refers to
 abbrev pub names_in : ReadOf → FileNames
 names_in r = file_names r.tree
 
+-- the imports between the files, by their numbers
 abbrev pub link_imports : List FileOf → List ReadOf → List Import
 link_imports files reads = imports_of (paths_of files) (all_wanted (text_of files reads) 0 reads)
 
--- what the files declare and use
+-- what the files declare and refer to, by tokens, with the imports between them
 abbrev pub link_skeleton : List FileOf → List ReadOf → Skeleton At
 link_skeleton files reads = skeleton_of_files (link_imports files reads) (map names_in reads)
 
 -- the names, imports and references of the files
 abbrev pub names_of_files : List FileOf → List ReadOf → Workspace
-names_of_files files reads = workspace_of (text_of files reads) entry_name (link_skeleton files reads)
+names_of_files files reads =
+    workspace_of (text_of files reads) entry_name (link_skeleton files reads)
 
 -- ---- faults
 
@@ -56,11 +66,19 @@ pub record StandsAt (files : List FileOf) (reads : List ReadOf) (f : Fault) (x :
   pub offset : x.offset ≡ offset_at (read_at reads f.place.file).tokens f.place.token
   pub number : number_of x.kind ≡ f.number
 
--- the faults of imports, names and references (a later phase counts only where no earlier one has a fault: the least fault is by phase first)
+-- the faults of imports, names and references (a later phase counts only where no earlier one has
+-- a fault: the least fault is by phase first)
 pub data LinkFaults (files : List FileOf) : FaultAt → Type 0 where
-  of_import : (reads : List ReadOf) (f : Fault) (x : FaultAt) → AreRead files reads → StandsAt files reads f x → ImportFault (paths_of files) (all_wanted (text_of files reads) 0 reads) f → LinkFaults files x
-  of_name : (reads : List ReadOf) (f : Fault) (x : FaultAt) → AreRead files reads → StandsAt files reads f x → NameFault (text_of files reads) (link_skeleton files reads).declared f → LinkFaults files x
-  of_reference : (reads : List ReadOf) (f : Fault) (x : FaultAt) → AreRead files reads → StandsAt files reads f x → ReferenceFault (text_of files reads) (link_skeleton files reads) f → LinkFaults files x
+  of_import : (reads : List ReadOf) (f : Fault) (x : FaultAt)
+      → AreRead files reads → StandsAt files reads f x
+      → ImportFault (paths_of files) (all_wanted (text_of files reads) 0 reads) f
+      → LinkFaults files x
+  of_name : (reads : List ReadOf) (f : Fault) (x : FaultAt)
+      → AreRead files reads → StandsAt files reads f x
+      → NameFault (text_of files reads) (link_skeleton files reads).declared f → LinkFaults files x
+  of_reference : (reads : List ReadOf) (f : Fault) (x : FaultAt)
+      → AreRead files reads → StandsAt files reads f x
+      → ReferenceFault (text_of files reads) (link_skeleton files reads) f → LinkFaults files x
 
 -- ---- what is said of each file
 
@@ -70,5 +88,8 @@ pub record IsListing (r : ReadOf) (l : Listing) : Type 0 where
   pub declared : read l.declared.items ≡ package_first (items_in r.tree)
   pub used : uses_in l ≡ (file_names r.tree).used
 
+-- a listing for each of the files, and each is that of its file
 abbrev pub AreListings : List FileOf → List Listing → Type 0
-AreListings files ls = (length ls ≡ length files) × ((reads : List ReadOf) → AreRead files reads → Each (λ k l. IsListing (read_at reads k) l) ls)
+AreListings files ls =
+    (length ls ≡ length files)
+    × ((reads : List ReadOf) → AreRead files reads → Each (λ k l. IsListing (read_at reads k) l) ls)

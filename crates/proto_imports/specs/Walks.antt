@@ -12,11 +12,13 @@ abbrev pub unseen : List Bool → ℕ
 unseen [] = 0
 unseen (b ∷ bs) = (if b then 0 else 1) + unseen bs
 
+-- the number has a mark
 abbrev pub IsMarked : List Bool → ℕ → Type 0
 IsMarked seen g = get_or seen g false ≡ true
 
 -- the numbers of a list are marked, and those that were not marked before wait
-pub record Visits (next : List ℕ) (seen : List Bool) (todo : List ℕ) (seen' : List Bool) (todo' : List ℕ) : Type 0 where
+pub record Visits (next : List ℕ) (seen : List Bool) (todo : List ℕ) (seen' : List Bool)
+    (todo' : List ℕ) : Type 0 where
   pub sized : length seen' ≡ length seen
   pub kept : (g : ℕ) → IsMarked seen g → IsMarked seen' g
   pub marked : (g : ℕ) → Contains next g → IsMarked seen' g

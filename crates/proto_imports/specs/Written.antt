@@ -5,7 +5,8 @@ use Rattle.proto_imports.specs.declared.import.WrittenImport.{WrittenImport}
 use Rattle.proto_listing.specs.declared.wanted.Wanted.{Wanted}
 
 -- each stands at the token of its path, and its path is the value of that string
-pub record AreWritten (text : ℕ → List ℕ) (wanted : List Wanted) (ws : List WrittenImport) : Type 0 where
+pub record AreWritten (text : ℕ → List ℕ) (wanted : List Wanted) (ws : List WrittenImport)
+    : Type 0 where
   pub tokens : map (λ i. i.token) ws ≡ map (λ w. w.path) wanted
   pub publics : map (λ i. i.is_public) ws ≡ map (λ w. w.is_public) wanted
   pub paths : map (λ i. Some (string_bytes i.path)) ws ≡ map (λ w. value_of (text w.path)) wanted
