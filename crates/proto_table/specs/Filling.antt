@@ -1,4 +1,5 @@
--- The table of names while it is filled: the rows of declarations, what the table holds, and the first clash.
+-- The table of names while it is filled: the rows of declarations, what the table holds, and the
+-- first clash.
 use Rattle.std.specs.Prelude.{◌≡◌, ◌≢◌, ◌⊎◌, ℕ, ◌+◌, ◌<◌, ◌≤◌, List, [], ◌++◌, length, get_or, map, take, drop, not}
 use Rattle.std.specs.List.{AllPairs, Contains, filter}
 use Rattle.proto_meaning.specs.declared.kind.Kind.TheVariants.{Package}
@@ -25,29 +26,35 @@ IsNameError Says NoMemory = Unit {0}
 
 -- ---- rows
 
--- The row of a declaration: it has its name and its kind, and where that is no package, it is the one that declared the row.
+-- The row of a declaration: it has its name and its kind, and where that is no package, it is the
+-- one that declared the row.
 pub record IsRowAt (t : Table) (d : Named) (row : ℕ) : Type 0 where
   pub within : row < length t.rows.items
   pub name : get_or (names_of t) row [] ≡ joined d.name
   pub kind : (r : Row) → (get_or t.rows.items row r).symbol.kind ≡ d.kind
-  pub place : d.kind ≢ Package → (r : Row) → at (get_or t.rows.items row r).symbol.file (get_or t.rows.items row r).symbol.token ≡ d.place
+  pub place : d.kind ≢ Package → (r : Row)
+      → at (get_or t.rows.items row r).symbol.file (get_or t.rows.items row r).symbol.token
+      ≡ d.place
 
 -- for each file, the row of each of its declarations
 pub record AreRows (t : Table) (files : List (List Spelled)) (rows : List (List ℕ)) : Type 0 where
   pub paired : length rows ≡ length files
   pub counts : (i : ℕ) → i < length files → length (get_or rows i []) ≡ length (get_or files i [])
-  pub each : (i k row : ℕ) (d : Named) → i < length files → k < length (get_or files i []) → IsRowAt t (get_or (named_in i (get_or files i [])) k d) (get_or (get_or rows i []) k row)
+  pub each : (i k row : ℕ) (d : Named) → i < length files → k < length (get_or files i [])
+      → IsRowAt t (get_or (named_in i (get_or files i [])) k d) (get_or (get_or rows i []) k row)
 
 -- the rows of the first of some declarations
 pub record AreRowsOf (t : Table) (ds : List Named) (rows : List ℕ) : Type 0 where
   pub count : length rows ≤ length ds
-  pub each : (k row : ℕ) (d : Named) → k < length rows → IsRowAt t (get_or ds k d) (get_or rows k row)
+  pub each : (k row : ℕ) (d : Named) → k < length rows
+      → IsRowAt t (get_or ds k d) (get_or rows k row)
 
 -- the number of the name that a declaration stands right below, given the rows of those before it
 abbrev pub number_above : List ℕ → Above → ℕ
 number_above rows Outermost = 0
 number_above rows (Below k) = get_or rows k 0 + 1
 
+-- what a row has of a declaration of this file: its kind, its file and its token
 abbrev pub declaration_of : ℕ → Spelled → Declaration
 declaration_of file s = record { kind = s.kind; file = file; token = s.token }
 
@@ -56,14 +63,17 @@ declaration_of file s = record { kind = s.kind; file = file; token = s.token }
 -- what was in the table stays, under its numbers
 pub record IsKept (old new : Table) : Type 0 where
   pub size : length old.rows.items ≤ length new.rows.items
-  pub names : (k : ℕ) → k < length old.rows.items → get_or (names_of new) k [] ≡ get_or (names_of old) k []
-  pub symbols : (k : ℕ) (r : Row) → k < length old.rows.items → (get_or new.rows.items k r).symbol ≡ (get_or old.rows.items k r).symbol
+  pub names : (k : ℕ) → k < length old.rows.items
+      → get_or (names_of new) k [] ≡ get_or (names_of old) k []
+  pub symbols : (k : ℕ) (r : Row) → k < length old.rows.items
+      → (get_or new.rows.items k r).symbol ≡ (get_or old.rows.items k r).symbol
 
 -- the row is a new one, or was there as a package's
 abbrev pub IsNewOrPackage : Table → Table → Declaration → ℕ → Type 0
 IsNewOrPackage old new symbol row =
     ((row ≡ length old.rows.items) × ((r : Row) → (get_or new.rows.items row r).symbol ≡ symbol))
-    ⊎ ((row < length old.rows.items) × (symbol.kind ≡ Package) × ((r : Row) → (get_or old.rows.items row r).symbol.kind ≡ Package))
+    ⊎ ((row < length old.rows.items) × (symbol.kind ≡ Package)
+    × ((r : Row) → (get_or old.rows.items row r).symbol.kind ≡ Package))
 
 -- the row that a symbol was declared in
 pub record IsRowOf (old new : Table) (text : List ℕ) (symbol : Declaration) (row : ℕ) : Type 0 where
@@ -74,16 +84,17 @@ pub record IsRowOf (old new : Table) (text : List ℕ) (symbol : Declaration) (r
 
 -- the error is a clash of the symbol, whose name is taken, or want of memory
 abbrev pub IsClashAt : Table → List ℕ → Declaration → NameError → Type 0
-IsClashAt t text symbol (Clash file token) = (file ≡ symbol.file) × (token ≡ symbol.token) × IsTaken t text symbol
+IsClashAt t text symbol (Clash file token) =
+    (file ≡ symbol.file) × (token ≡ symbol.token) × IsTaken t text symbol
 IsClashAt t text symbol NoMemory = Unit {0}
 
 -- ---- what the table holds
 
--- only packages share a name
+-- among these declarations only packages share a name
 abbrev pub AreNamesApart : List Named → Type 0
 AreNamesApart ds = AllPairs (λ x y. x.name ≡ y.name → (x.kind ≡ Package) × (y.kind ≡ Package)) ds
 
--- these declarations and no others
+-- the table holds these declarations and no others
 pub record Holds (t : Table) (ds : List Named) : Type 0 where
   pub index : IsIndexOf t (map symbol_named ds)
   pub apart : AreNamesApart ds
@@ -96,16 +107,23 @@ pub record Clashes (ds : List Named) (d : Named) : Type 0 where
   pub name : other.name ≡ d.name
   pub not_packages : d.kind ≡ Package → other.kind ≡ Package → ⊥
 
--- Beside the given declarations, those of one file from `start` on were held up to the one that clashes, which stands before `end`.
+-- Beside the given declarations, those of one file from `start` on were held up to the one that
+-- clashes, which stands before `end`.
 abbrev pub StopsIn : List Named → List Named → ℕ → ℕ → NameError → Type 0
-StopsIn ds own start end (Clash file token) = (k : ℕ) × (start ≤ k) × (k < end) × ((d : Named) → ((get_or own k d).place ≡ at file token) × Clashes (ds ++ drop start (take k own)) (get_or own k d))
+StopsIn ds own start end (Clash file token) =
+    (k : ℕ) × (start ≤ k) × (k < end)
+    × ((d : Named)
+    → ((get_or own k d).place ≡ at file token)
+    × Clashes (ds ++ drop start (take k own)) (get_or own k d))
 StopsIn ds own start end NoMemory = Unit {0}
 
 -- ---- packages first
 
+-- the packages among some declarations, in order
 abbrev pub packages_in : List Named → List Named
 packages_in ds = filter (λ d. is_package d.kind) ds
 
+-- the declarations that are no packages, in order
 abbrev pub others_in : List Named → List Named
 others_in ds = filter (λ d. not (is_package d.kind)) ds
 
@@ -116,7 +134,10 @@ pub record AreInFront (count : ℕ) (ss : List Spelled) : Type 0 where
   pub behind : (k : ℕ) (s : Spelled) → count ≤ k → k < length ss → (get_or ss k s).kind ≢ Package
 
 -- for each file, the rows of its packages
-pub record ArePackageRows (t : Table) (files : List (List Spelled)) (rows : List (List ℕ)) : Type 0 where
+pub record ArePackageRows (t : Table) (files : List (List Spelled)) (rows : List (List ℕ))
+    : Type 0 where
   pub paired : length rows ≡ length files
-  pub counts : (i : ℕ) → i < length files → AreInFront (length (get_or rows i [])) (get_or files i [])
-  pub each : (i : ℕ) → i < length files → AreRowsOf t (named_in i (get_or files i [])) (get_or rows i [])
+  pub counts : (i : ℕ) → i < length files
+      → AreInFront (length (get_or rows i [])) (get_or files i [])
+  pub each : (i : ℕ) → i < length files
+      → AreRowsOf t (named_in i (get_or files i [])) (get_or rows i [])

@@ -15,12 +15,17 @@ use Rattle.proto_table.specs.declared.spelled.Spelled.{Spelled}
 
 -- a declaration by the words that its path spells
 abbrev pub named_as : ℕ → (ℕ → List ℕ) → Placed → Named
-named_as file text p = record { name = name_of text entry_name (whole p); kind = p.kind; place = at file (place_from 0 (whole p)) }
+named_as file text p = record {
+  name = name_of text entry_name (whole p);
+  kind = p.kind;
+  place = at file (place_from 0 (whole p));
+}
 
+-- the last word of the name of an entry of a file's list
 abbrev pub last_word : (ℕ → List ℕ) → Listed → List ℕ
 last_word text e = spell text entry_name (source_of e.word e.token)
 
--- what an entry says beside its last word stays
+-- spelled declarations say what the entries of the list say beside their last words
 pub record IsKept (es : List Listed) (ss : List Spelled) : Type 0 where
   pub aboves : map (λ s. s.above) ss ≡ map (λ e. e.above) es
   pub kinds : map (λ s. s.kind) ss ≡ map (λ e. e.kind) es

@@ -15,7 +15,8 @@ use Rattle.proto_table.specs.Spelled.{Named}
 -- the declarations of all files from this number on, file after file, each file's package first
 abbrev pub tree_named : (At → List ℕ) → ℕ → List FileNames → List Named
 tree_named text n [] = []
-tree_named text n (f ∷ fs) = map (named_as n (λ i. text (at n i))) (package_first f.items) ++ tree_named text (suc n) fs
+tree_named text n (f ∷ fs) =
+    map (named_as n (λ i. text (at n i))) (package_first f.items) ++ tree_named text (suc n) fs
 
 -- the tokens of each file are in order
 abbrev pub AreSpans : List FileNames → Type 0
@@ -30,12 +31,15 @@ pub data ReferenceFlaw (w : Workspace) (r : Reference) : ℕ → Type 0 where
   -- it means nothing
   unresolved : meaning w r ≡ None → ReferenceFlaw w r 14
   -- it is a method's and means an enum
-  wrong_kind : (s : Symbol) → Contains w.symbols s → meaning w r ≡ Some s.name → r.is_method ≡ true → s.kind ≡ Enum → ReferenceFlaw w r 15
+  wrong_kind : (s : Symbol) → Contains w.symbols s → meaning w r ≡ Some s.name
+      → r.is_method ≡ true → s.kind ≡ Enum → ReferenceFlaw w r 15
   -- it means a generated entry
-  of_entry : (s : Symbol) → Contains w.symbols s → meaning w r ≡ Some s.name → s.kind ≡ Entry → ReferenceFlaw w r 16
+  of_entry : (s : Symbol) → Contains w.symbols s → meaning w r ≡ Some s.name → s.kind ≡ Entry
+      → ReferenceFlaw w r 16
 
 -- a reference of one of the files has a flaw, and the fault stands at its first token
-pub record UseFault (text : At → List ℕ) (w : Workspace) (fs : List FileNames) (f : Fault) : Type 0 where
+pub record UseFault (text : At → List ℕ) (w : Workspace) (fs : List FileNames) (f : Fault)
+    : Type 0 where
   pub file : ℕ
   pub names : FileNames
   pub one : Used ℕ

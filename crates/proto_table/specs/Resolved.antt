@@ -12,15 +12,22 @@ use Rattle.proto_table.specs.declared.table.Table.{Table}
 use Rattle.proto_table.specs.Tables.{names_of}
 use Rattle.proto_table.specs.Search.{passes}
 
+-- the files that declare the name of a row: that of its first declaration, and the further ones
 abbrev pub files_of : Row → List ℕ
 files_of r = r.symbol.file ∷ r.more.items
 
 -- each symbol has the row of its name, and each row's files have a symbol
 pub record IsIndexOf (t : Table) (symbols : List Symbol) : Type 0 where
   pub plain : (s : Symbol) → Contains symbols s → ArePlain s.name
-  pub row : (s : Symbol) → Contains symbols s → (k : ℕ) × (k < length t.rows.items) × (get_or (names_of t) k [] ≡ joined s.name) × ((d : Row) → ((get_or t.rows.items k d).symbol.kind ≡ s.kind) × Contains (files_of (get_or t.rows.items k d)) s.file)
-  pub symbol : (k file : ℕ) (d : Row) → k < length t.rows.items → Contains (files_of (get_or t.rows.items k d)) file
-      → (s : Symbol) × Contains symbols s × (joined s.name ≡ get_or (names_of t) k []) × (s.kind ≡ (get_or t.rows.items k d).symbol.kind) × (s.file ≡ file)
+  pub row : (s : Symbol) → Contains symbols s
+      → (k : ℕ) × (k < length t.rows.items) × (get_or (names_of t) k [] ≡ joined s.name)
+      × ((d : Row)
+      → ((get_or t.rows.items k d).symbol.kind ≡ s.kind)
+      × Contains (files_of (get_or t.rows.items k d)) s.file)
+  pub symbol : (k file : ℕ) (d : Row) → k < length t.rows.items
+      → Contains (files_of (get_or t.rows.items k d)) file
+      → (s : Symbol) × Contains symbols s × (joined s.name ≡ get_or (names_of t) k [])
+      × (s.kind ≡ (get_or t.rows.items k d).symbol.kind) × (s.file ≡ file)
 
 -- words below a name, one behind another, as text
 abbrev pub under_all : List ℕ → List (List ℕ) → List ℕ
@@ -28,7 +35,8 @@ under_all text [] = text
 under_all text (w ∷ ws) = under_all (under text w) ws
 
 -- the table, the marks and the scope are those of the reference
-pub record IsAsked (t : Table) (seen : List Bool) (scope : ℕ) (w : Workspace) (r : Reference) : Type 0 where
+pub record IsAsked (t : Table) (seen : List Bool) (scope : ℕ) (w : Workspace) (r : Reference)
+    : Type 0 where
   pub index : IsIndexOf t w.symbols
   pub marks : MarksSeen w r.file seen
   pub scope_plain : ArePlain r.scope
@@ -36,18 +44,25 @@ pub record IsAsked (t : Table) (seen : List Bool) (scope : ℕ) (w : Workspace) 
 
 -- the row of this text, if it is a type that is seen
 abbrev pub IsTypeAt : Table → List Bool → List ℕ → Option ℕ → Type 0
-IsTypeAt t seen text (Some k) = (k < length t.rows.items) × (get_or (names_of t) k [] ≡ text) × ((d : Row) → passes seen true (get_or t.rows.items k d) ≡ true)
-IsTypeAt t seen text None = (k : ℕ) (d : Row) → k < length t.rows.items → get_or (names_of t) k [] ≡ text → passes seen true (get_or t.rows.items k d) ≡ false
+IsTypeAt t seen text (Some k) =
+    (k < length t.rows.items) × (get_or (names_of t) k [] ≡ text)
+    × ((d : Row) → passes seen true (get_or t.rows.items k d) ≡ true)
+IsTypeAt t seen text None =
+    (k : ℕ) (d : Row) → k < length t.rows.items → get_or (names_of t) k [] ≡ text
+    → passes seen true (get_or t.rows.items k d) ≡ false
 
 -- the table has one symbol more, and the names keep their numbers
 pub record IsDeclared (old new : Table) (text : List ℕ) (symbol : Declaration) : Type 0 where
   pub fronts : (n : ℕ) → n ≤ length old.rows.items → front (names_of new) n ≡ front (names_of old) n
   pub named : (k : ℕ) × (k < length new.rows.items) × (get_or (names_of new) k [] ≡ text)
-  pub index : (symbols : List Symbol) (s : Symbol) → IsIndexOf old symbols → ArePlain s.name → joined s.name ≡ text → s.kind ≡ symbol.kind → s.file ≡ symbol.file → IsIndexOf new (symbols ++ s ∷ [])
+  pub index : (symbols : List Symbol) (s : Symbol)
+      → IsIndexOf old symbols → ArePlain s.name → joined s.name ≡ text
+      → s.kind ≡ symbol.kind → s.file ≡ symbol.file → IsIndexOf new (symbols ++ s ∷ [])
 
 -- the name is taken, and not both are packages
 pub record IsTaken (t : Table) (text : List ℕ) (symbol : Declaration) : Type 0 where
   pub row : ℕ
   pub within : row < length t.rows.items
   pub name : get_or (names_of t) row [] ≡ text
-  pub apart : (d : Row) → (is_package symbol.kind && is_package (get_or t.rows.items row d).symbol.kind) ≡ false
+  pub apart : (d : Row)
+      → (is_package symbol.kind && is_package (get_or t.rows.items row d).symbol.kind) ≡ false
