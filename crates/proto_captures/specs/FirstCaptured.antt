@@ -1,6 +1,7 @@
 -- The first reference that a rename captures.
 use Rattle.std.specs.Prelude.{◌≡◌, ℕ, ◌<◌, Bool, if◌then◌else◌, List, [], ◌∷◌, Option, Some, None}
 use Rattle.std.specs.List.{Contains}
+use Rattle.proto_faults.specs.Texts.{Text}
 use Rattle.proto_files.specs.Faults.{HasNoFault}
 use Rattle.proto_files.specs.FilesRead.{ReadOf, AreRead}
 use Rattle.proto_files.specs.GivenFiles.{FileOf}
@@ -22,7 +23,7 @@ use Rattle.proto_captures.specs.Capturing.{captures_use}
 use Rattle.proto_captures.specs.NewTexts.{NewTexts, texts_by}
 
 -- nothing is captured; or this is, and nothing that stands before it
-abbrev pub IsFirstCaptured : List FileOf → List ReadOf → Target → List ℕ → Option RefId → Type 0
+abbrev pub IsFirstCaptured : List FileOf → List ReadOf → Target → Text → Option RefId → Type 0
 IsFirstCaptured files reads t to None = (u : Used _) → Captures files reads t to u → ⊥
 IsFirstCaptured files reads t to (Some id) = (u : Used _)
     × Captures files reads t to u
@@ -30,7 +31,7 @@ IsFirstCaptured files reads t to (Some id) = (u : Used _)
     × ((v : Used _) → Captures files reads t to v → StandsBefore v.first u.first → ⊥)
 
 -- the same among the references of one file
-abbrev pub IsFirstIn : List FileOf → List ReadOf → Target → List ℕ → ℕ → Option ℕ → Type 0
+abbrev pub IsFirstIn : List FileOf → List ReadOf → Target → Text → ℕ → Option ℕ → Type 0
 IsFirstIn files reads t to file None = (u : Used ℕ)
     → Contains (uses_of reads file) u
     → Captures files reads t to (used_in file u)
@@ -44,26 +45,26 @@ IsFirstIn files reads t to file (Some token) = (u : Used ℕ)
 
 -- a rename of a target that these linked files have, to a word, without collision
 pub record IsRenameOf
-    (files : List FileOf) (reads : List ReadOf) (t : Target) (to : List ℕ) : Type 0 where
+    (files : List FileOf) (reads : List ReadOf) (t : Target) (to : Text) : Type 0 where
   pub read : AreRead files reads
   pub clean : HasNoFault (LinkFaults files)
-  pub name : List ℕ
+  pub name : Text
   pub named : IsNamed files reads name t
   pub word : IsPlain to
   pub free : Collides (name_map files reads t to) (names_of_files files reads) → ⊥
 
 -- these are its names
-abbrev pub AreNewNames : List FileOf → List ReadOf → Target → List ℕ → NewTexts → Type 0
+abbrev pub AreNewNames : List FileOf → List ReadOf → Target → Text → NewTexts → Type 0
 AreNewNames files reads t to n = n ≡ texts_by (joined (target (name_map files reads t to)))
     (text_of files reads t.token) t.is_map to
 
 -- the text, where there is one
-abbrev pub or_nothing : Option (List ℕ) → List ℕ
+abbrev pub or_nothing : Option Text → Text
 or_nothing None = []
 or_nothing (Some text) = text
 
 -- of a reference, by what the link says that it means
-abbrev pub captures_by : LinkOf → ℕ → NewTexts → (ℕ → List ℕ) → List Listed → Use → Meant → Bool
+abbrev pub captures_by : LinkOf → ℕ → NewTexts → (ℕ → Text) → List Listed → Use → Meant → Bool
 captures_by l file n text declared u m =
     captures_use l file n text declared u (or_nothing (text_at l m.row))
 

@@ -1,5 +1,6 @@
 -- What is first by texts is first by names.
 use Rattle.std.specs.Prelude.{◌≡◌, ℕ, ◌<◌, Bool, List, [], length, get_or, map, Option}
+use Rattle.proto_faults.specs.Texts.{Text}
 use Rattle.proto_files.specs.Faults.{HasNoFault}
 use Rattle.proto_files.specs.FilesRead.{ReadOf, AreRead, read_at}
 use Rattle.proto_files.specs.GivenFiles.{FileOf, file_at}
@@ -27,7 +28,7 @@ FirstsAreOvertaken = (files : List FileOf) (reads : List ReadOf)
     → (file : ℕ)
     → file < length files
     → SeesMarked files reads v file marks
-    → (packages : List ℕ → Bool)
+    → (packages : Text → Bool)
     → TellsPackages files marks packages
     → (declared : List Listed) (us : List Use) (ms : List Meant)
     → map (used_by (read declared)) us ≡ uses_of reads file

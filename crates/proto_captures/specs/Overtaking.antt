@@ -3,6 +3,7 @@
 use Rattle.std.specs.Prelude.{◌≡◌, ◌↔◌, ℕ, ◌-◌, ◌<◌, length, Bool, true, false, not, ◌&&◌, if◌then◌else◌, List, [], ◌∷◌, map, get_or, Option, Some, None, is_some, slice_index_or}
 use Rattle.std.specs.List.{Contains, find}
 use Rattle.std.specs.Str.{bytes_eq}
+use Rattle.proto_faults.specs.Texts.{Text}
 use Rattle.proto_case.specs.Camel.{entry_name}
 use Rattle.proto_files.specs.FilesRead.{ReadOf, AreRead, read_at}
 use Rattle.proto_files.specs.GivenFiles.{FileOf}
@@ -57,61 +58,61 @@ abbrev pub is_marked : List Bool → ℕ → Bool
 is_marked marks file = slice_index_or marks file false
 
 -- the fronts that go on from this one, as text
-abbrev pub fronts_from : List ℕ → List (List ℕ) → List (List ℕ)
+abbrev pub fronts_from : Text → List Text → List Text
 fronts_from front [] = []
 fronts_from front (w ∷ ws) = under front w ∷ fronts_from (under front w) ws
 
 -- the package of a file with its fronts, as text
-abbrev pub package_texts : List FileOf → List ReadOf → ℕ → List (List ℕ)
+abbrev pub package_texts : List FileOf → List ReadOf → ℕ → List Text
 package_texts files reads file = fronts_from []
     (map (λ i. text_of files reads (at file i)) (package_of (items_in (read_at reads file).tree)))
 
 -- it is the package of a marked file, or a front of that
-abbrev pub IsPackageSeen : List FileOf → List ReadOf → List Bool → List ℕ → Type 0
+abbrev pub IsPackageSeen : List FileOf → List ReadOf → List Bool → Text → Type 0
 IsPackageSeen files reads marks text = (file : ℕ)
     × (file < length files)
     × (is_marked marks file ≡ true)
     × Contains (package_texts files reads file) text
 
 -- a test for packages that are seen
-abbrev pub TellsPackages : List FileOf → List Bool → (List ℕ → Bool) → Type 0
+abbrev pub TellsPackages : List FileOf → List Bool → (Text → Bool) → Type 0
 TellsPackages files marks packages = (reads : List ReadOf)
     → AreRead files reads
-    → (text : List ℕ)
+    → (text : Text)
     → (packages text ≡ true) ↔ IsPackageSeen files reads marks text
 
 -- the name's file is marked, or it is a package that is seen
-abbrev pub is_seen : List Bool → (List ℕ → Bool) → NameOf → Bool
+abbrev pub is_seen : List Bool → (Text → Bool) → NameOf → Bool
 is_seen marks packages n =
     if is_package n.kind then packages n.text else is_marked marks (get_or n.files 0 0)
 
 -- whether a name is there, of a kind that fits a first word, and is seen
-abbrev pub fits_seen : List Bool → (List ℕ → Bool) → Bool → Option NameOf → Bool
+abbrev pub fits_seen : List Bool → (Text → Bool) → Bool → Option NameOf → Bool
 fits_seen marks packages is_long None = false
 fits_seen marks packages is_long (Some n) = first_fits is_long n.kind && is_seen marks packages n
 
 -- a name with this text fits, and is seen
-abbrev pub sees_text : LinkOf → List Bool → (List ℕ → Bool) → Bool → List ℕ → Bool
+abbrev pub sees_text : LinkOf → List Bool → (Text → Bool) → Bool → Text → Bool
 sees_text l marks packages is_long text =
     fits_seen marks packages is_long (find (λ n. bytes_eq n.text text) l.names)
 
 -- in a front of the scope that is longer than that of the hit,
 -- something is seen under the first word
-abbrev pub overtakes_words : LinkOf → List Bool → (List ℕ → Bool) → List (List ℕ) → List ℕ
-    → List (List ℕ) → List ℕ → Bool
+abbrev pub overtakes_words : LinkOf → List Bool → (Text → Bool) → List Text → Text
+    → List Text → Text → Bool
 overtakes_words l marks packages scope first rest meaning =
     shown_from (λ front. sees_text l marks packages (is_cons rest) (below front first))
     (bytes_before (length meaning) rest - length first) [] scope
 
 -- of a reference of a file, in a scope that the file declares
-abbrev pub overtakes_use : LinkOf → List Bool → (List ℕ → Bool) → (ℕ → List ℕ) → List Listed → Use
-    → List ℕ → Bool
+abbrev pub overtakes_use : LinkOf → List Bool → (Text → Bool) → (ℕ → Text) → List Listed → Use
+    → Text → Bool
 overtakes_use l marks packages text declared u meaning = not (is_some u.reference.now.dot)
     && overtakes_words l marks packages (name_of text entry_name (path_of (read declared) u.scope))
     (text u.reference.now.words.first) (map (λ b. text b.item) u.reference.now.words.rest) meaning
 
 -- by what the link says that it means
-abbrev pub overtakes_by : LinkOf → List Bool → (List ℕ → Bool) → (ℕ → List ℕ) → List Listed → Use
+abbrev pub overtakes_by : LinkOf → List Bool → (Text → Bool) → (ℕ → Text) → List Listed → Use
     → Meant → Bool
 overtakes_by l marks packages text declared u m =
     overtakes_use l marks packages text declared u (or_nothing (text_at l m.row))

@@ -1,7 +1,8 @@
 -- What fits and is visible below a scope by a link, under the new names of a rename: all by texts.
-use Rattle.std.specs.Prelude.{ℕ, Bool, true, false, ◌&&◌, ◌||◌, if◌then◌else◌, List, ◌∷◌, ◌++◌, Option, Some, None, option_map}
+use Rattle.std.specs.Prelude.{ℕ, Bool, true, false, ◌&&◌, ◌||◌, if◌then◌else◌, ◌∷◌, ◌++◌, Option, Some, None, option_map}
 use Rattle.std.specs.List.{find}
 use Rattle.std.specs.Str.{bytes_eq}
+use Rattle.proto_faults.specs.Texts.{Text}
 use Rattle.proto_meaning.specs.declared.kind.Kind.{Kind}
 use Rattle.proto_meaning.specs.Names.{is_type, is_outer}
 use Rattle.proto_names.specs.Linking.{LinkOf, is_visible}
@@ -13,7 +14,7 @@ first_fits true k = is_outer k
 first_fits false k = is_type k
 
 -- the kind of the name with this text
-abbrev pub kind_named : LinkOf → List ℕ → Option Kind
+abbrev pub kind_named : LinkOf → Text → Option Kind
 kind_named l text = option_map (λ n. n.kind) (find (λ n. bytes_eq n.text text) l.names)
 
 -- there is such a kind, and it fits
@@ -22,31 +23,31 @@ kind_fits is_long None = false
 kind_fits is_long (Some k) = first_fits is_long k
 
 -- a name with this text fits, and is visible from the file
-abbrev pub shows_text : LinkOf → ℕ → Bool → List ℕ → Bool
+abbrev pub shows_text : LinkOf → ℕ → Bool → Text → Bool
 shows_text l file is_long text = kind_fits is_long (kind_named l text) && is_visible l file text
 
 -- a word right below a scope
-abbrev pub below : List ℕ → List ℕ → List ℕ
+abbrev pub below : Text → Text → Text
 below scope word = scope ++ 46 ∷ word
 
 -- a map field's entry under its new name
-abbrev pub entry_shown : LinkOf → ℕ → Bool → List ℕ × List ℕ → List ℕ → List ℕ → Bool
+abbrev pub entry_shown : LinkOf → ℕ → Bool → Text × Text → Text → Text → Bool
 entry_shown l file is_long p scope word =
     bytes_eq word p.1 && shows_text l file is_long (below scope p.0)
 
 -- the same, if there is an entry
-abbrev pub entry_shown_if : LinkOf → ℕ → Bool → Option (List ℕ × List ℕ) → List ℕ → List ℕ → Bool
+abbrev pub entry_shown_if : LinkOf → ℕ → Bool → Option (Text × Text) → Text → Text → Bool
 entry_shown_if l file is_long None scope word = false
 entry_shown_if l file is_long (Some p) scope word = entry_shown l file is_long p scope word
 
 -- the target, or its entry, under its new name
-abbrev pub shown_beside : LinkOf → ℕ → Bool → NewTexts → List ℕ → List ℕ → Bool
+abbrev pub shown_beside : LinkOf → ℕ → Bool → NewTexts → Text → Text → Bool
 shown_beside l file is_long n scope word =
     (bytes_eq word n.new && shows_text l file is_long n.target)
     || entry_shown_if l file is_long n.entry scope word
 
 -- below the target's parent the target or its entry, elsewhere what has the name now
-abbrev pub shown_below : LinkOf → ℕ → Bool → NewTexts → List ℕ → List ℕ → Bool
+abbrev pub shown_below : LinkOf → ℕ → Bool → NewTexts → Text → Text → Bool
 shown_below l file is_long n scope word =
     if bytes_eq (below scope n.old) n.target
     then shown_beside l file is_long n scope word

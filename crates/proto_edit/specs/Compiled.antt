@@ -1,5 +1,6 @@
 -- Files that compile.
 use Rattle.std.specs.Prelude.{ℕ, List}
+use Rattle.proto_faults.specs.Texts.{Path}
 use Rattle.proto_faults.specs.declared.fault.FaultKind.{FaultKind}
 use Rattle.proto_files.specs.Faults.{FaultAt, HasNoFault}
 use Rattle.proto_files.specs.GivenFiles.{FileOf, AreWorkspaceFiles}
@@ -11,5 +12,5 @@ pub record AreCompiled (files : List FileOf) : Type 0 where
   pub clean : HasNoFault (FileFaults files)
 
 -- the fault of a kind at an offset of the file at a path
-abbrev pub at : List ℕ → ℕ → FaultKind → FaultAt
+abbrev pub at : Path → ℕ → FaultKind → FaultAt
 at path offset k = record { path = path; offset = offset; kind = k }

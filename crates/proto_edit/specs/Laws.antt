@@ -1,5 +1,6 @@
 -- The laws of edits over workspaces and over runs.
 use Rattle.std.specs.Prelude.{◌≡◌, ℕ, List, reverse, Result}
+use Rattle.proto_faults.specs.Texts.{Path}
 use Rattle.proto_files.specs.Faults.{HasNoFault}
 use Rattle.proto_files.specs.FilesRead.{ReadOf, AreRead}
 use Rattle.proto_files.specs.GivenFiles.{FileOf}
@@ -53,7 +54,7 @@ abbrev pub RefusedOnce : Type 0
 RefusedOnce = (w : List FileOf) (e : Asked)
     → AreCompiled w
     → ((m n : ℕ) → IsLeastCase w e m → IsLeastCase w e n → m ≡ n)
-    × ((path file : List ℕ) (offset other : ℕ)
+    × ((path file : Path) (offset other : ℕ)
     → IsPlaceOf w e path offset → IsPlaceOf w e file other → (path ≡ file) × (offset ≡ other))
 
 -- Undoing what an edit answered leads back, and to no other files.

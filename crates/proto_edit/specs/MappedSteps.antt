@@ -1,6 +1,7 @@
 -- An edit that no case refuses is a mapped step: it leaves files that compile, to
 -- the old descriptors under its map.
-use Rattle.std.specs.Prelude.{List, ℕ}
+use Rattle.std.specs.Prelude.{List}
+use Rattle.proto_faults.specs.Texts.{Path, Text}
 use Rattle.proto_files.specs.FilesRead.{ReadOf, AreRead}
 use Rattle.proto_files.specs.GivenFiles.{FileOf}
 use Rattle.proto_entries.specs.Entries.{ChangeOf, IsEntry}
@@ -13,7 +14,7 @@ use Rattle.proto_edit.specs.Workspaces.{IsAdmissible, IsMappedStep, add_import, 
 -- The files with the new words are one edit away, and the changes of these words are its entry.
 abbrev pub RenamesAreSteps : Type 0
 RenamesAreSteps =
-    (files : List FileOf) (reads : List ReadOf) (name to : List ℕ) (t : Target)
+    (files : List FileOf) (reads : List ReadOf) (name to : Text) (t : Target)
     (after : List FileOf) (seen : List ReadOf)
     → AreCompiled files
     → AreRead files reads
@@ -26,7 +27,7 @@ RenamesAreSteps =
 
 -- So each admissible rename has its step.
 abbrev pub AdmissibleRenamesStep : Type 0
-AdmissibleRenamesStep = (files : List FileOf) (name to : List ℕ)
+AdmissibleRenamesStep = (files : List FileOf) (name to : Text)
     → AreCompiled files
     → IsAdmissible files (rename name to)
     → (cs : List ChangeOf) × (after : List FileOf)
@@ -35,7 +36,7 @@ AdmissibleRenamesStep = (files : List FileOf) (name to : List ℕ)
 
 -- Each admissible deletion of a field has its step, and its changes are an entry.
 abbrev pub AdmissibleDeletionsStep : Type 0
-AdmissibleDeletionsStep = (files : List FileOf) (name : List ℕ)
+AdmissibleDeletionsStep = (files : List FileOf) (name : Text)
     → AreCompiled files
     → IsAdmissible files (delete_field name)
     → (cs : List ChangeOf) × (after : List FileOf)
@@ -44,7 +45,7 @@ AdmissibleDeletionsStep = (files : List FileOf) (name : List ℕ)
 
 -- So has each added import,
 abbrev pub AdmissibleAdditionsStep : Type 0
-AdmissibleAdditionsStep = (files : List FileOf) (file path : List ℕ)
+AdmissibleAdditionsStep = (files : List FileOf) (file path : Path)
     → AreCompiled files
     → IsAdmissible files (add_import file path)
     → (cs : List ChangeOf) × (after : List FileOf)
@@ -53,7 +54,7 @@ AdmissibleAdditionsStep = (files : List FileOf) (file path : List ℕ)
 
 -- and each dropped one.
 abbrev pub AdmissibleDropsStep : Type 0
-AdmissibleDropsStep = (files : List FileOf) (file path : List ℕ)
+AdmissibleDropsStep = (files : List FileOf) (file path : Path)
     → AreCompiled files
     → IsAdmissible files (drop_import file path)
     → (cs : List ChangeOf) × (after : List FileOf)

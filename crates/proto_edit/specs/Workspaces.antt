@@ -2,6 +2,7 @@
 -- edits. What is particular to an edit is said by cases on the edit, over the files and what is
 -- read of them; all else speaks of changes, and of no edit.
 use Rattle.std.specs.Prelude.{◌≡◌, ◌≢◌, ℕ, ◌<◌, List, [], ◌∷◌, Result, Ok, Err, string_bytes}
+use Rattle.proto_faults.specs.Texts.{Path, Text}
 use Rattle.proto_files.specs.FilesRead.{ReadOf, AreRead}
 use Rattle.proto_files.specs.GivenFiles.{FileOf}
 use Rattle.proto_json.specs.Descriptors.{FileDesc}
@@ -28,10 +29,10 @@ use Rattle.proto_edit.specs.Compiled.{AreCompiled}
 
 -- the edits that may be asked: of names, or of a file's imports
 pub data Asked : Type 0 where
-  rename : (name to : List ℕ) → Asked
-  delete_field : (name : List ℕ) → Asked
-  add_import : (file path : List ℕ) → Asked
-  drop_import : (file path : List ℕ) → Asked
+  rename : (name to : Text) → Asked
+  delete_field : (name : Text) → Asked
+  add_import : (file path : Path) → Asked
+  drop_import : (file path : Path) → Asked
 
 -- ---- the cases that refuse an edit
 
@@ -57,7 +58,7 @@ IsAdmissible w e = (n : ℕ) → IsCase w e n → ⊥
 
 -- the path and offset that are answered with the case: of the least reference that is captured, by
 -- a rename or by an added import, or that needs a dropped one
-abbrev pub PlaceOf : List FileOf → List ReadOf → Asked → List ℕ → ℕ → Type 0
+abbrev pub PlaceOf : List FileOf → List ReadOf → Asked → Path → ℕ → Type 0
 PlaceOf files reads (rename name to) path offset = (t : Target)
     × IsNamed files reads name t
     × IsFirstPlace files reads (Captures files reads t to) path offset
@@ -68,7 +69,7 @@ PlaceOf files reads (drop_import file imported) path offset =
     IsNeededAt files reads file imported path offset
 
 -- this path and offset are answered with the case
-abbrev pub IsPlaceOf : List FileOf → Asked → List ℕ → ℕ → Type 0
+abbrev pub IsPlaceOf : List FileOf → Asked → Path → ℕ → Type 0
 IsPlaceOf w e path offset = (reads : List ReadOf) × AreRead w reads × PlaceOf w reads e path offset
 
 -- The least case, with its place where one is answered; memory may come in the place of any.

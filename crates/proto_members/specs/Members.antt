@@ -2,6 +2,7 @@
 use Rattle.std.specs.Prelude.{◌≡◌, ℕ, Bool, false, not, ◌==◌, ◌&&◌, List, [], is_none, codes}
 use Rattle.std.specs.List.{list_any}
 use Rattle.std.specs.Str.{bytes_eq}
+use Rattle.proto_faults.specs.Texts.{Text}
 use Rattle.proto_tree.specs.declared.piece.Header.{Header}
 use Rattle.proto_tree.specs.declared.piece.Header.TheVariants as header
 use Rattle.proto_tree.specs.declared.tree.Value.{Value}
@@ -65,11 +66,11 @@ name_token (header.Method s) = s.name
 -- ---- reserved names
 
 -- one of these strings is the word
-abbrev pub says : Scene → List ℕ → List ℕ → Bool
+abbrev pub says : Scene → Text → List ℕ → Bool
 says scene word tokens = list_any (λ t. bytes_eq (value scene t) word) tokens
 
 -- the block has the member, and reserves the word
-abbrev pub reserves : Scene → ℕ → List ℕ → BlockOf → Bool
+abbrev pub reserves : Scene → ℕ → Text → BlockOf → Bool
 reserves scene token word b =
     has_member token b.header b.within && says scene word (reserved_names_in b.within)
 
@@ -85,14 +86,14 @@ abbrev pub is_made : Scene → ℕ → FieldOf → Bool
 is_made scene token f = (f.name == token) && is_unwritten scene f
 
 -- it is another field, with this JSON name
-abbrev pub is_other : Scene → ℕ → List ℕ → FieldOf → Bool
+abbrev pub is_other : Scene → ℕ → Text → FieldOf → Bool
 is_other scene token name f = not (f.name == token) && bytes_eq (json_name_of scene f) name
 
 -- the field of the name token would share the JSON name with another one
-abbrev pub fields_clash : Scene → ℕ → List ℕ → List FieldOf → Bool
+abbrev pub fields_clash : Scene → ℕ → Text → List FieldOf → Bool
 fields_clash scene token name fs =
     list_any (is_made scene token) fs && list_any (is_other scene token name) fs
 
 -- the same of the fields of a block
-abbrev pub clash_in : Scene → ℕ → List ℕ → BlockOf → Bool
+abbrev pub clash_in : Scene → ℕ → Text → BlockOf → Bool
 clash_in scene token name b = fields_clash scene token name (fields_by b.header b.within)

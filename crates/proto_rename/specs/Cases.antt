@@ -1,5 +1,6 @@
 -- The cases of a rename in their order.
 use Rattle.std.specs.Prelude.{◌≡◌, ◌<◌, List, ℕ, string_bytes}
+use Rattle.proto_faults.specs.Texts.{Text}
 use Rattle.proto_text.specs.declared.lexer.Token.{Token}
 use Rattle.proto_text.specs.Texts.{offset_at}
 use Rattle.proto_text.specs.Tokens.{AreTokens}
@@ -9,7 +10,7 @@ use Rattle.proto_entries.specs.declared.refusal.Refusal.TheVariants.{Captured}
 use Rattle.proto_rename.specs.Renames.{IsRenameCase}
 
 -- no case before this one refuses it
-abbrev pub IsFreeBefore : List FileOf → List ℕ → List ℕ → ℕ → Type 0
+abbrev pub IsFreeBefore : List FileOf → Text → Text → ℕ → Type 0
 IsFreeBefore files name to n = (k : ℕ) → k < n → IsRenameCase files name to k → ⊥
 
 -- captured, at the path of the file and where the token begins

@@ -1,6 +1,7 @@
 -- The changes of a rename, file by file.
 use Rattle.std.specs.Prelude.{◌≡◌, ◌↔◌, ℕ, zero, suc, ◌<◌, ◌==◌, if◌then◌else◌, List, [], ◌∷◌, ◌++◌, length, flat_map, Option, Some, None, option_map}
 use Rattle.std.specs.List.{Contains}
+use Rattle.proto_faults.specs.Texts.{Text}
 use Rattle.proto_files.specs.GivenFiles.{FileOf, file_at}
 use Rattle.proto_files.specs.FilesRead.{ReadOf, AreRead, read_at}
 use Rattle.proto_meaning.specs.Grown.{At, at}
@@ -20,7 +21,7 @@ use Rattle.proto_targets.specs.Aims.{IsAimedAt}
 use Rattle.proto_targets.specs.declared.aim.Aim.{Aim}
 
 -- the tokens that a rename changes
-abbrev pub places_of : List FileOf → List ReadOf → Target → List ℕ → List At
+abbrev pub places_of : List FileOf → List ReadOf → Target → Text → List At
 places_of files reads t to =
     renamed_places (text_of files reads) (link_skeleton files reads) (name_map files reads t to)
     t.token (renamed_defaults files reads t.enum (name_map files reads t to).old)
@@ -31,7 +32,7 @@ ArePlacesIn files aim file found = (reads : List ReadOf)
     → AreRead files reads
     → (t : Target)
     → IsAimedAt files reads aim t
-    → (to : List ℕ) (i : ℕ)
+    → (to : Text) (i : ℕ)
     → Contains found i ↔ Contains (places_of files reads t to) (at file i)
 
 -- the changes of so many files
@@ -47,7 +48,7 @@ pub record AreWholeChanges
   pub short : (k : ℕ) → k < length files → IsTooLong c files reads k → ⊥
 
 -- the same of each reading of the files
-abbrev pub AreChangesOf : List FileOf → Aim → List ℕ → List ChangeOf → Type 0
+abbrev pub AreChangesOf : List FileOf → Aim → Text → List ChangeOf → Type 0
 AreChangesOf files aim to cs = (reads : List ReadOf)
     → AreRead files reads
     → (t : Target)
@@ -55,7 +56,7 @@ AreChangesOf files aim to cs = (reads : List ReadOf)
     → AreWholeChanges files reads (renamed_words files reads t to) cs
 
 -- a file gets too long by them, or memory is wanting
-abbrev pub IsChangesFault : List FileOf → Aim → List ℕ → RewordFault → Type 0
+abbrev pub IsChangesFault : List FileOf → Aim → Text → RewordFault → Type 0
 IsChangesFault files aim to TooLarge = (reads : List ReadOf)
     → AreRead files reads
     → (t : Target)
@@ -66,7 +67,7 @@ IsChangesFault files aim to NoMemory = Unit {0}
 -- ---- the tokens of a file
 
 -- the name of the enum that has the value, if it is one, and its old word
-abbrev pub IsValueOf : List FileOf → Aim → Option (List ℕ) → List ℕ → Type 0
+abbrev pub IsValueOf : List FileOf → Aim → Option Text → Text → Type 0
 IsValueOf files aim enum_name old = (reads : List ReadOf)
     → AreRead files reads
     → (old ≡ text_of files reads (at aim.file aim.token))
@@ -77,11 +78,11 @@ abbrev pub or_own : ℕ → ℕ → ℕ → List ℕ
 or_own own token file = if own == file then token ∷ [] else []
 
 -- the defaults of the file that mean the value of the enum with this full name
-abbrev pub HasDefaultsIn : List FileOf → ℕ → Option (List ℕ) → List ℕ → List ℕ → Type 0
+abbrev pub HasDefaultsIn : List FileOf → ℕ → Option Text → Text → List ℕ → Type 0
 HasDefaultsIn files file None old found = found ≡ []
 HasDefaultsIn files file (Some name) old found = (reads : List ReadOf)
     → AreRead files reads
-    → (enum : List (List ℕ))
+    → (enum : List Text)
     → ArePlain enum
     → joined enum ≡ name
     → found ≡ flat_map (renamed_default files reads (Some enum) old file)
@@ -90,7 +91,7 @@ HasDefaultsIn files file (Some name) old found = (reads : List ReadOf)
 -- ---- the change of a file
 
 -- the change that the new words make of the file, or none, and the file does not get too long
-abbrev pub IsChangeIn : List FileOf → Aim → ℕ → List ℕ → Option Change → Type 0
+abbrev pub IsChangeIn : List FileOf → Aim → ℕ → Text → Option Change → Type 0
 IsChangeIn files aim file to found = (reads : List ReadOf)
     → AreRead files reads
     → (t : Target)
@@ -98,7 +99,7 @@ IsChangeIn files aim file to found = (reads : List ReadOf)
     → IsMade files reads (renamed_words files reads t to) file found
 
 -- it gets too long, or memory is wanting
-abbrev pub IsFaultIn : List FileOf → Aim → ℕ → List ℕ → RewordFault → Type 0
+abbrev pub IsFaultIn : List FileOf → Aim → ℕ → Text → RewordFault → Type 0
 IsFaultIn files aim file to TooLarge = (reads : List ReadOf)
     → AreRead files reads
     → (t : Target)

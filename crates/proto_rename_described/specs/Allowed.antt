@@ -1,6 +1,7 @@
 -- An admissible rename of files without a fault leaves files without one.
 use Rattle.std.specs.Prelude.{◌≡◌, ℕ, ◌<◌, List, [], length, None}
 use Rattle.std.specs.List.{Contains}
+use Rattle.proto_faults.specs.Texts.{Text}
 use Rattle.proto_tree.specs.declared.piece.Heading.{Heading}
 use Rattle.proto_tree.specs.declared.piece.Header.TheVariants as header
 use Rattle.proto_files.specs.Faults.{HasNoFault}
@@ -17,7 +18,7 @@ use Rattle.proto_rename_laws.specs.Targets.{Target, IsNamed, renamed_words}
 
 -- files without a fault, and the rename of a symbol of theirs that no case refuses
 pub record IsAllowed
-    (files : List FileOf) (reads : List ReadOf) (name to : List ℕ) (t : Target) : Type 0 where
+    (files : List FileOf) (reads : List ReadOf) (name to : Text) (t : Target) : Type 0 where
   pub read : AreRead files reads
   pub link : HasNoFault (LinkFaults files)
   pub checks : HasNoFault (CheckFaults files)
@@ -36,7 +37,7 @@ DefaultsFit after seen = (file : ℕ) (b : BlockOf) (h : Heading) (f : FieldOf)
 -- No fault of links and checks comes in.
 abbrev pub RenamesLeaveNoFault : Type 0
 RenamesLeaveNoFault =
-    (files : List FileOf) (reads : List ReadOf) (name to : List ℕ) (t : Target)
+    (files : List FileOf) (reads : List ReadOf) (name to : Text) (t : Target)
     (after : List FileOf) (seen : List ReadOf)
     → IsAllowed files reads name to t
     → AreReworded (renamed_words files reads t to) files reads after seen

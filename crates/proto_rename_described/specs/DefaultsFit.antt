@@ -1,5 +1,6 @@
 -- No default is wrong after a rename.
-use Rattle.std.specs.Prelude.{ℕ, List}
+use Rattle.std.specs.Prelude.{List}
+use Rattle.proto_faults.specs.Texts.{Text}
 use Rattle.proto_files.specs.GivenFiles.{FileOf}
 use Rattle.proto_files.specs.FilesRead.{ReadOf}
 use Rattle.proto_rename_laws.specs.Roles.{HasFieldRoles}
@@ -10,7 +11,7 @@ use Rattle.proto_rename_described.specs.Allowed.{DefaultsFit, IsAllowed}
 -- Each field keeps its label, type and numbers, and its defaults go with the value that they mean.
 abbrev pub FieldsHaveRoles : Type 0
 FieldsHaveRoles =
-    (files : List FileOf) (reads : List ReadOf) (name to : List ℕ) (t : Target)
+    (files : List FileOf) (reads : List ReadOf) (name to : Text) (t : Target)
     (after : List FileOf) (seen : List ReadOf)
     → IsAllowed files reads name to t
     → AreReworded (renamed_words files reads t to) files reads after seen
@@ -19,7 +20,7 @@ FieldsHaveRoles =
 -- So no default is wrong.
 abbrev pub AllDefaultsFit : Type 0
 AllDefaultsFit =
-    (files : List FileOf) (reads : List ReadOf) (name to : List ℕ) (t : Target)
+    (files : List FileOf) (reads : List ReadOf) (name to : Text) (t : Target)
     (after : List FileOf) (seen : List ReadOf)
     → IsAllowed files reads name to t
     → AreReworded (renamed_words files reads t to) files reads after seen

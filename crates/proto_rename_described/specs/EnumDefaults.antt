@@ -1,5 +1,6 @@
 -- A default of an enum's field is one of the enum's values after a rename.
 use Rattle.std.specs.Prelude.{◌≡◌, ℕ, ◌<◌, true, List, if◌then◌else◌, length, Some, None}
+use Rattle.proto_faults.specs.Texts.{Text}
 use Rattle.proto_tree.specs.declared.tree.Reference.{Reference}
 use Rattle.proto_tree.specs.References.{first_of}
 use Rattle.proto_files.specs.GivenFiles.{FileOf}
@@ -18,7 +19,7 @@ use Rattle.proto_rename_described.specs.Allowed.{IsAllowed}
 -- afterwards where it was one before.
 abbrev pub EnumDefaultsFit : Type 0
 EnumDefaultsFit =
-    (files : List FileOf) (reads : List ReadOf) (name to : List ℕ) (t : Target)
+    (files : List FileOf) (reads : List ReadOf) (name to : Text) (t : Target)
     (after : List FileOf) (seen : List ReadOf)
     → IsAllowed files reads name to t
     → AreReworded (renamed_words files reads t to) files reads after seen

@@ -1,6 +1,7 @@
 -- Each file of an allowed rename turns, so its descriptors afterwards
 -- are the old ones under the name map.
 use Rattle.std.specs.Prelude.{◌≡◌, ℕ, ◌<◌, Bool, List, length, None}
+use Rattle.proto_faults.specs.Texts.{Text}
 use Rattle.proto_files.specs.GivenFiles.{FileOf}
 use Rattle.proto_files.specs.FilesRead.{ReadOf, read_at}
 use Rattle.proto_json.specs.Descriptors.{FileDesc}
@@ -16,7 +17,7 @@ use Rattle.proto_rename_described.specs.Turns.{FileTurns}
 -- What makes the descriptor afterwards the mapped one, file by file.
 abbrev pub FilesTurn : Type 0
 FilesTurn =
-    (files : List FileOf) (reads : List ReadOf) (name to : List ℕ) (t : Target)
+    (files : List FileOf) (reads : List ReadOf) (name to : Text) (t : Target)
     (after : List FileOf) (seen : List ReadOf)
     → IsAllowed files reads name to t
     → AreReworded (renamed_words files reads t to) files reads after seen
@@ -30,7 +31,7 @@ FilesTurn =
 -- The descriptors of the files afterwards.
 abbrev pub AllAreMapped : Type 0
 AllAreMapped =
-    (files : List FileOf) (reads : List ReadOf) (name to : List ℕ) (t : Target)
+    (files : List FileOf) (reads : List ReadOf) (name to : Text) (t : Target)
     (after : List FileOf) (seen : List ReadOf)
     → IsAllowed files reads name to t
     → AreReworded (renamed_words files reads t to) files reads after seen
@@ -42,7 +43,7 @@ AllAreMapped =
 -- So a rename leaves descriptors that are the old ones under its name map.
 abbrev pub RenamesAreMapped : Type 0
 RenamesAreMapped =
-    (files : List FileOf) (reads : List ReadOf) (name to : List ℕ) (t : Target)
+    (files : List FileOf) (reads : List ReadOf) (name to : Text) (t : Target)
     (after : List FileOf) (seen : List ReadOf)
     → IsAllowed files reads name to t
     → AreReworded (renamed_words files reads t to) files reads after seen

@@ -1,6 +1,7 @@
 -- Descriptors under the name map of a rename, as a function of the old descriptors.
 use Rattle.std.specs.Prelude.{ℕ, Bool, false, ◌==◌, ◌&&◌, not, if◌then◌else◌, List, [], ◌∷◌, ◌++◌, map, flat_map, Option, Some, None, option_map}
 use Rattle.std.specs.Str.{bytes_eq}
+use Rattle.proto_faults.specs.Texts.{Text}
 use Rattle.proto_meaning.specs.Edits.{Renaming, ren, target, turned}
 use Rattle.proto_meaning.specs.Names.{same_name}
 use Rattle.proto_parts.specs.JsonNames.{json_word}
@@ -10,66 +11,66 @@ use Rattle.proto_described.specs.Described.{package_prefix}
 -- ---- full names as text: each word behind a dot
 
 -- the name as text, each word behind a dot
-abbrev pub dotted : List (List ℕ) → List ℕ
+abbrev pub dotted : List Text → Text
 dotted x = flat_map (λ w. 46 ∷ w) x
 
 -- one byte more before the first part
-abbrev pub put_first : ℕ → List (List ℕ) → List (List ℕ)
+abbrev pub put_first : ℕ → List Text → List Text
 put_first b [] = (b ∷ []) ∷ []
 put_first b (w ∷ ws) = (b ∷ w) ∷ ws
 
 -- what stands before, between and behind the dots
-abbrev pub parts : List ℕ → List (List ℕ)
+abbrev pub parts : Text → List Text
 parts [] = [] ∷ []
 parts (b ∷ bs) = if b == 46 then [] ∷ parts bs else put_first b (parts bs)
 
 -- what stands behind the first dot
-abbrev pub behind_first : List (List ℕ) → List (List ℕ)
+abbrev pub behind_first : List Text → List Text
 behind_first [] = []
 behind_first (w ∷ ws) = ws
 
 -- the words of a name that stands behind a dot
-abbrev pub words_of : List ℕ → List (List ℕ)
+abbrev pub words_of : Text → List Text
 words_of text = behind_first (parts text)
 
 -- ---- names
 
 -- a word right below a name
-abbrev pub word_under : Renaming → List (List ℕ) → List ℕ → List ℕ
+abbrev pub word_under : Renaming → List Text → Text → Text
 word_under e above word = if same_name above e.parent then turned e word else word
 
 -- a full name as text
-abbrev pub mapped_name : Renaming → List ℕ → List ℕ
+abbrev pub mapped_name : Renaming → Text → Text
 mapped_name e text = dotted (ren e (words_of text))
 
 -- what the map takes from the old files besides names: whether the renamed field has a written JSON
 -- name, and the enum that has the renamed value
 pub record Taken : Type 0 where
   pub written : Bool
-  pub enum : Option (List (List ℕ))
+  pub enum : Option (List Text)
 
 -- ---- fields
 
 -- whether the type is the enum
-abbrev pub is_name_of : Option (List (List ℕ)) → Option (List ℕ) → Bool
+abbrev pub is_name_of : Option (List Text) → Option Text → Bool
 is_name_of None type_name = false
 is_name_of (Some enum) None = false
 is_name_of (Some enum) (Some type_name) = same_name (words_of type_name) enum
 
 -- a default that means the renamed value
-abbrev pub mapped_default : Renaming → Taken → Option (List ℕ) → List ℕ → List ℕ
+abbrev pub mapped_default : Renaming → Taken → Option Text → Text → Text
 mapped_default e taken type_name word =
     if is_name_of taken.enum type_name && bytes_eq word e.old then e.new else word
 
 -- the renamed field's is made anew, where none is written
-abbrev pub mapped_json : Renaming → Taken → List (List ℕ) → FieldDesc → Option (List ℕ)
+abbrev pub mapped_json : Renaming → Taken → List Text → FieldDesc → Option Text
 mapped_json e taken above f =
     if same_name (above ++ f.name ∷ []) (target e) && not taken.written
     then Some (json_word e.new)
     else f.json_name
 
 -- a field right in a message of this full name
-abbrev pub mapped_field : Renaming → Taken → List (List ℕ) → FieldDesc → FieldDesc
+abbrev pub mapped_field : Renaming → Taken → List Text → FieldDesc → FieldDesc
 mapped_field e taken above f = record {
   name = word_under e above f.name;
   number = f.number;
@@ -86,7 +87,7 @@ mapped_field e taken above f = record {
 -- ---- enums, messages, services and files
 
 -- a value of an enum right below this name
-abbrev pub mapped_value : Renaming → List (List ℕ) → EnumValueDesc → EnumValueDesc
+abbrev pub mapped_value : Renaming → List Text → EnumValueDesc → EnumValueDesc
 mapped_value e above v = record {
   name = word_under e above v.name;
   number = v.number;
@@ -94,7 +95,7 @@ mapped_value e above v = record {
 }
 
 -- an enum right below this name; its values stand beside it
-abbrev pub mapped_enum : Renaming → List (List ℕ) → EnumDesc → EnumDesc
+abbrev pub mapped_enum : Renaming → List Text → EnumDesc → EnumDesc
 mapped_enum e above d = record {
   name = word_under e above d.name;
   value = map (mapped_value e above) d.value;
@@ -104,7 +105,7 @@ mapped_enum e above d = record {
 }
 
 -- a message with this full name
-abbrev pub mapped_message : Renaming → Taken → List (List ℕ) → List (List ℕ) → MessageDesc
+abbrev pub mapped_message : Renaming → Taken → List Text → List Text → MessageDesc
     → MessageDesc
 mapped_message e taken above full m = record {
   name = word_under e above m.name;
@@ -118,14 +119,14 @@ mapped_message e taken above full m = record {
 }
 
 -- messages right below this name, with what is nested in them
-abbrev pub mapped_messages : Renaming → Taken → List (List ℕ) → Messages → Messages
+abbrev pub mapped_messages : Renaming → Taken → List Text → Messages → Messages
 mapped_messages e taken above NoMessages = NoMessages
 mapped_messages e taken above (Message m nested rest) =
     Message (mapped_message e taken above (above ++ m.name ∷ []) m)
     (mapped_messages e taken (above ++ m.name ∷ []) nested) (mapped_messages e taken above rest)
 
 -- a method of a service of this full name
-abbrev pub mapped_method : Renaming → List (List ℕ) → MethodDesc → MethodDesc
+abbrev pub mapped_method : Renaming → List Text → MethodDesc → MethodDesc
 mapped_method e full m = record {
   name = word_under e full m.name;
   input_type = mapped_name e m.input_type;
@@ -136,7 +137,7 @@ mapped_method e full m = record {
 }
 
 -- a service right below this name
-abbrev pub mapped_service : Renaming → List (List ℕ) → ServiceDesc → ServiceDesc
+abbrev pub mapped_service : Renaming → List Text → ServiceDesc → ServiceDesc
 mapped_service e above s = record {
   name = word_under e above s.name;
   method = map (mapped_method e (above ++ s.name ∷ [])) s.method;

@@ -2,6 +2,7 @@
 -- block has no flaw of names afterwards.
 use Rattle.std.specs.Prelude.{◌≡◌, ◌≢◌, ◌⊎◌, ℕ, true, List, [], map, None, Option, codes}
 use Rattle.std.specs.List.{AllPairs, Contains}
+use Rattle.proto_faults.specs.Texts.{Text}
 use Rattle.proto_parts.specs.Options.{text_option}
 use Rattle.proto_parts.specs.Parts.{FieldOf}
 use Rattle.proto_parts.specs.Scenes.{Scene, text, value}
@@ -9,14 +10,14 @@ use Rattle.proto_parts.specs.JsonNames.{json_name_of, json_word}
 use Rattle.proto_checks.specs.FileFlaws.{json_clashes, name_flaws}
 
 -- this token has the word afterwards, and the others of the list their own
-abbrev pub AreKept : Scene → Scene → ℕ → List ℕ → List ℕ → Type 0
+abbrev pub AreKept : Scene → Scene → ℕ → Text → List ℕ → Type 0
 AreKept a b token to ts = (t : ℕ)
     → Contains ts t
     → ((t ≡ token) × (text b t ≡ to)) ⊎ ((t ≢ token) × (text b t ≡ text a t))
 
 -- no name is a reserved one, where the new word is not reserved
 abbrev pub ReservedNamesStay : Type 0
-ReservedNamesStay = (a b : Scene) (token : ℕ) (to : List ℕ) (reserved names : List ℕ)
+ReservedNamesStay = (a b : Scene) (token : ℕ) (to : Text) (reserved names : List ℕ)
     → ((t : ℕ) → value a t ≡ value b t)
     → AreKept a b token to names
     → (Contains names token → Contains (map (value a) reserved) to → ⊥)
@@ -24,12 +25,12 @@ ReservedNamesStay = (a b : Scene) (token : ℕ) (to : List ℕ) (reserved names 
     → name_flaws b reserved names ≡ []
 
 -- the written JSON name of a field
-abbrev pub written : Scene → FieldOf → Option (List ℕ)
+abbrev pub written : Scene → FieldOf → Option Text
 written s f = text_option (text s) (value s) (codes "json_name") f.options
 
 -- no two fields get one JSON name, where the renamed one gets none of another's
 abbrev pub JsonNamesStay : Type 0
-JsonNamesStay = (a b : Scene) (token : ℕ) (to : List ℕ) (fs : List FieldOf)
+JsonNamesStay = (a b : Scene) (token : ℕ) (to : Text) (fs : List FieldOf)
     → a.is_proto3 ≡ b.is_proto3
     → ((f : FieldOf) → Contains fs f → written a f ≡ written b f)
     → AreKept a b token to (map (λ f. f.name) fs)

@@ -1,6 +1,7 @@
 -- What is not changed of a field whose default is a number or a truth value.
 use Rattle.std.specs.Prelude.{◌≡◌, ℕ, ◌<◌, List, length, Some, None}
 use Rattle.std.specs.List.{Contains}
+use Rattle.proto_faults.specs.Texts.{Text}
 use Rattle.proto_tree.specs.declared.piece.Heading.{Heading}
 use Rattle.proto_tree.specs.declared.piece.Header.TheVariants as header
 use Rattle.proto_tree.specs.declared.tree.FieldType.TheVariants as field_type
@@ -16,7 +17,7 @@ use Rattle.proto_rename_described.specs.Allowed.{IsAllowed}
 
 -- Labels and scalar types of messages' fields are not changed.
 abbrev pub LabelsAndScalarsStay : Type 0
-LabelsAndScalarsStay = (files : List FileOf) (reads : List ReadOf) (name to : List ℕ) (t : Target)
+LabelsAndScalarsStay = (files : List FileOf) (reads : List ReadOf) (name to : Text) (t : Target)
     → IsAllowed files reads name to t
     → (file : ℕ) (b : BlockOf) (h : Heading) (f : FieldOf)
     → file < length files
@@ -28,7 +29,7 @@ LabelsAndScalarsStay = (files : List FileOf) (reads : List ReadOf) (name to : Li
 
 -- A token that is no name, no word of a reference and no default of the value's is not changed.
 abbrev pub OtherTokensStay : Type 0
-OtherTokensStay = (files : List FileOf) (reads : List ReadOf) (name to : List ℕ) (t : Target)
+OtherTokensStay = (files : List FileOf) (reads : List ReadOf) (name to : Text) (t : Target)
     → IsAllowed files reads name to t
     → (i : At)
     → (Names (link_skeleton files reads) i → ⊥)

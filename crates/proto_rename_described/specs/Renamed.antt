@@ -1,6 +1,7 @@
 -- The descriptors of files under a rename: the old ones under its name map, where whether the JSON
 -- name was written and which enum has the value are read of the files.
-use Rattle.std.specs.Prelude.{◌≡◌, ℕ, Bool, false, List, codes, is_some}
+use Rattle.std.specs.Prelude.{◌≡◌, Bool, false, List, codes, is_some}
+use Rattle.proto_faults.specs.Texts.{Text}
 use Rattle.proto_files.specs.FilesRead.{ReadOf}
 use Rattle.proto_files.specs.GivenFiles.{FileOf}
 use Rattle.proto_parts.specs.Options.{text_option}
@@ -21,7 +22,7 @@ pub data WritesJson (files : List FileOf) (reads : List ReadOf) (t : Target) : B
       → WritesJson files reads t false
 
 -- the second descriptors are the first under the name map of the rename
-abbrev pub AreRenamed : List FileOf → List ReadOf → Target → List ℕ → List FileDesc → List FileDesc
+abbrev pub AreRenamed : List FileOf → List ReadOf → Target → Text → List FileDesc → List FileDesc
     → Type 0
 AreRenamed files reads t to ds new = (written : Bool)
     × WritesJson files reads t written

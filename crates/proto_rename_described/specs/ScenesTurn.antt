@@ -2,6 +2,7 @@
 -- reference means what it meant, under the name map.
 use Rattle.std.specs.Prelude.{◌≡◌, ℕ, ◌<◌, Bool, List, length, None}
 use Rattle.std.specs.List.{Contains}
+use Rattle.proto_faults.specs.Texts.{Text}
 use Rattle.proto_case.specs.Camel.{entry_name}
 use Rattle.proto_tree.specs.declared.tree.Reference.{Reference}
 use Rattle.proto_files.specs.GivenFiles.{FileOf}
@@ -23,7 +24,7 @@ abbrev pub NamesTurn : Type 0
 NamesTurn =
     (files : List FileOf) (reads : List ReadOf) (c : NewWords) (after : List FileOf)
     (seen : List ReadOf) (token : At) (above : List (Source At)) (aim : Declared At) (is_map : Bool)
-    (to : List ℕ)
+    (to : Text)
     → IsRename files reads c after seen token above aim is_map to
     → (file : ℕ)
     → file < length files
@@ -39,7 +40,7 @@ abbrev pub MeaningsTurn : Type 0
 MeaningsTurn =
     (files : List FileOf) (reads : List ReadOf) (c : NewWords) (after : List FileOf)
     (seen : List ReadOf) (token : At) (above : List (Source At)) (aim : Declared At) (is_map : Bool)
-    (to : List ℕ)
+    (to : Text)
     → IsRename files reads c after seen token above aim is_map to
     → (file : ℕ)
     → file < length files

@@ -2,6 +2,7 @@
 -- below what it stands in, and all else stays.
 use Rattle.std.specs.Prelude.{◌≡◌, ◌≢◌, ℕ, Bool, true, false, ◌&&◌, ◌++◌, List, [], ◌∷◌, flat_map, map, Option, Some, None, is_some, codes}
 use Rattle.std.specs.List.{Contains}
+use Rattle.proto_faults.specs.Texts.{Path, Text}
 use Rattle.proto_case.specs.Camel.{entry_name}
 use Rattle.proto_tree.specs.declared.tree.Constant.{Constant}
 use Rattle.proto_tree.specs.declared.tree.MapField.{MapField}
@@ -30,7 +31,7 @@ abbrev pub IsUnder : Renaming → Option MeantOf → Option MeantOf → Type 0
 IsUnder e None None = Unit {0}
 IsUnder e None (Some n) = ⊥
 IsUnder e (Some m) None = ⊥
-IsUnder e (Some m) (Some n) = (x : List (List ℕ))
+IsUnder e (Some m) (Some n) = (x : List Text)
     × ArePlain x
     × (x ≢ [])
     × (m.name ≡ joined x)
@@ -38,7 +39,7 @@ IsUnder e (Some m) (Some n) = (x : List (List ℕ))
 
 module _ (e : Renaming) (taken : Taken) (a b : Scene) where
   -- the full name of a path in the old scene
-  abbrev pub full : List (Source ℕ) → List (List ℕ)
+  abbrev pub full : List (Source ℕ) → List Text
   full path = name_of (text a) entry_name path
 
   -- the word below the path is turned
@@ -47,11 +48,11 @@ module _ (e : Renaming) (taken : Taken) (a b : Scene) where
       spell (text b) entry_name s ≡ word_under e (full path) (spell (text a) entry_name s)
 
   -- whether the word below the path is the renamed name
-  abbrev pub is_target : List (Source ℕ) → List ℕ → Bool
+  abbrev pub is_target : List (Source ℕ) → Text → Bool
   is_target path word = same_name (full path ++ word ∷ []) (target e)
 
   -- the written JSON name of a field
-  abbrev pub written_json : Scene → FieldOf → Option (List ℕ)
+  abbrev pub written_json : Scene → FieldOf → Option Text
   written_json s f = text_option (text s) (value s) (codes "json_name") f.options
 
   -- besides names
@@ -172,6 +173,6 @@ module _ (e : Renaming) (taken : Taken) (a b : Scene) where
 
 -- So the descriptor after is the old one under the name map.
 abbrev pub DescriptorsAreMapped : Type 0
-DescriptorsAreMapped = (e : Renaming) (taken : Taken) (a b : Scene) (path : List ℕ) (tree : Tree)
+DescriptorsAreMapped = (e : Renaming) (taken : Taken) (a b : Scene) (path : Path) (tree : Tree)
     → FileTurns e taken a b tree
     → file_described b path tree ≡ mapped_file e taken (file_described a path tree)

@@ -1,6 +1,7 @@
 -- The cases that refuse a rename: sentences on the files and what is read of them.
 use Rattle.std.specs.Prelude.{◌≡◌, ◌≢◌, ◌⊎◌, ℕ, ◌<◌, Bool, true, false, not, List, length, map, codes, None}
 use Rattle.std.specs.List.{Contains}
+use Rattle.proto_faults.specs.Texts.{Path, Text}
 use Rattle.proto_case.specs.Camel.{entry_name}
 use Rattle.proto_text.specs.Texts.{offset_at}
 use Rattle.proto_text.specs.Words.{is_run}
@@ -30,11 +31,11 @@ use Rattle.proto_rename_laws.specs.Targets.{Target, IsNamed, may_rename, name_ma
 -- ---- words that a kind may not be named
 
 -- a word that may not name a value (`option` and `reserved`)
-abbrev pub is_value_keyword : List ℕ → Bool
+abbrev pub is_value_keyword : Text → Bool
 is_value_keyword word = not (fits want.ValueName (class_by Word word))
 
 -- a word that a symbol of this kind may not be named
-abbrev pub is_keyword_of : Kind → List ℕ → Bool
+abbrev pub is_keyword_of : Kind → Text → Bool
 is_keyword_of Message word = is_listed word
 is_keyword_of Enum word = is_listed word
 is_keyword_of Service word = is_listed word
@@ -65,7 +66,7 @@ HasMember within token = Contains (map (λ f. f.name) (fields_in within)) token
     ⊎ Contains (map (λ v. v.name) (values_in within)) token
 
 -- the message of the field, or the enum of the value, reserves the word
-abbrev pub Reserves : List FileOf → List ReadOf → At → List ℕ → Type 0
+abbrev pub Reserves : List FileOf → List ReadOf → At → Text → Type 0
 Reserves files reads a word = (b : BlockOf) × Contains (blocks_in (read_at reads a.file).tree) b
     × HasMember b.within a.token
     × Contains (map (value (scene_at files reads a)) (reserved_names_in b.within)) word
@@ -73,7 +74,7 @@ Reserves files reads a word = (b : BlockOf) × Contains (blocks_in (read_at read
 -- a field of a proto3 file without a written JSON name would get
 -- that of another field of its message
 pub record Clashes
-    (files : List FileOf) (reads : List ReadOf) (a : At) (word : List ℕ) : Type 0 where
+    (files : List FileOf) (reads : List ReadOf) (a : At) (word : Text) : Type 0 where
   pub b : BlockOf
   pub f : FieldOf
   pub other : FieldOf
@@ -89,7 +90,7 @@ pub record Clashes
 
 -- a reference that the rename captures
 pub record Captures
-    (files : List FileOf) (reads : List ReadOf) (t : Target) (to : List ℕ) (u : Used At)
+    (files : List FileOf) (reads : List ReadOf) (t : Target) (to : Text) (u : Used At)
     : Type 0 where
   pub used : Contains (link_skeleton files reads).used u
   pub captured : IsCaptured (name_map files reads t to) (names_of_files files reads)
@@ -101,7 +102,7 @@ StandsBefore a b = (a.file < b.file) ⊎ ((a.file ≡ b.file) × (a.token < b.to
 
 -- the path and offset of the least use of which this holds, by path and offset of its first token
 pub record IsFirstPlace
-    (files : List FileOf) (reads : List ReadOf) (Holds : Used At → Type 0) (path : List ℕ)
+    (files : List FileOf) (reads : List ReadOf) (Holds : Used At → Type 0) (path : Path)
     (offset : ℕ) : Type 0 where
   pub u : Used At
   pub holds : Holds u
@@ -112,7 +113,7 @@ pub record IsFirstPlace
 -- ---- the cases
 
 -- no symbol has this full name
-abbrev pub IsUnknown : List FileOf → List ReadOf → List ℕ → Type 0
+abbrev pub IsUnknown : List FileOf → List ReadOf → Text → Type 0
 IsUnknown files reads name = (s : Symbol)
     → Contains (names_of_files files reads).symbols s
     → joined s.name ≡ name
@@ -120,7 +121,7 @@ IsUnknown files reads name = (s : Symbol)
 
 -- Case n refuses the rename; of several the least is answered.
 pub data RenameCase
-    (files : List FileOf) (reads : List ReadOf) (name to : List ℕ) : ℕ → Type 0 where
+    (files : List FileOf) (reads : List ReadOf) (name to : Text) : ℕ → Type 0 where
   unknown_target : IsUnknown files reads name → RenameCase files reads name to 1
   kind_not_allowed : (s : Symbol)
       → Contains (names_of_files files reads).symbols s

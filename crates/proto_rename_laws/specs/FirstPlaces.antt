@@ -1,5 +1,6 @@
 -- A rename that captures a reference has one least captured place.
 use Rattle.std.specs.Prelude.{◌≡◌, ℕ, List}
+use Rattle.proto_faults.specs.Texts.{Path, Text}
 use Rattle.proto_files.specs.GivenFiles.{FileOf}
 use Rattle.proto_files.specs.FilesRead.{ReadOf}
 use Rattle.proto_meaning.specs.Grown.{At}
@@ -10,15 +11,15 @@ use Rattle.proto_rename_laws.specs.Targets.{Target}
 -- There is one, where a reference is captured.
 abbrev pub FirstPlacesAreThere : Type 0
 FirstPlacesAreThere =
-    (files : List FileOf) (reads : List ReadOf) (t : Target) (to : List ℕ) (u : Used At)
+    (files : List FileOf) (reads : List ReadOf) (t : Target) (to : Text) (u : Used At)
     → Captures files reads t to u
-    → (path : List ℕ) × (offset : ℕ)
+    → (path : Path) × (offset : ℕ)
     × IsFirstPlace files reads (Captures files reads t to) path offset
 
 -- Two such places are the same.
 abbrev pub FirstPlacesAreOne : Type 0
 FirstPlacesAreOne =
-    (files : List FileOf) (reads : List ReadOf) (t : Target) (to path other : List ℕ)
+    (files : List FileOf) (reads : List ReadOf) (t : Target) (to : Text) (path other : Path)
     (offset at : ℕ)
     → IsFirstPlace files reads (Captures files reads t to) path offset
     → IsFirstPlace files reads (Captures files reads t to) other at

@@ -1,5 +1,6 @@
 -- What files declare and use stands at tokens of theirs.
-use Rattle.std.specs.Prelude.{◌⊎◌, ℕ, ◌<◌, List, length}
+use Rattle.std.specs.Prelude.{◌⊎◌, ◌<◌, List, length}
+use Rattle.proto_faults.specs.Texts.{Text}
 use Rattle.proto_files.specs.FilesRead.{ReadOf, AreRead, read_at}
 use Rattle.proto_files.specs.GivenFiles.{FileOf}
 use Rattle.proto_meaning.specs.Grown.{At}
@@ -21,7 +22,7 @@ TokensAreInside = (files : List FileOf) (reads : List ReadOf)
 
 -- So is that of a target.
 abbrev pub TargetsAreInside : Type 0
-TargetsAreInside = (files : List FileOf) (reads : List ReadOf) (name : List ℕ) (t : Target)
+TargetsAreInside = (files : List FileOf) (reads : List ReadOf) (name : Text) (t : Target)
     → AreRead files reads
     → IsNamed files reads name t
     → IsInside files reads t.token

@@ -1,5 +1,6 @@
 -- No fault of texts, the grammar, imports, names and references comes in by a rename.
 use Rattle.std.specs.Prelude.{ℕ, ◌<◌, Bool, List, length}
+use Rattle.proto_faults.specs.Texts.{Text}
 use Rattle.proto_files.specs.Faults.{HasNoFault}
 use Rattle.proto_files.specs.GivenFiles.{FileOf, file_at}
 use Rattle.proto_files.specs.ReadFaults.{IsText, ReadFaults}
@@ -36,7 +37,7 @@ abbrev pub NoLinkFaultComesIn : Type 0
 NoLinkFaultComesIn =
     (files : List FileOf) (reads : List ReadOf) (c : NewWords) (after : List FileOf)
     (seen : List ReadOf) (token : At) (above : List (Source At)) (aim : Declared At) (is_map : Bool)
-    (to : List ℕ)
+    (to : Text)
     → IsRename files reads c after seen token above aim is_map to
     → HasNoFault (LinkFaults files)
     → HasNoFault (LinkFaults after)

@@ -1,5 +1,6 @@
 -- A name is that of one target.
-use Rattle.std.specs.Prelude.{◌≡◌, List, ℕ}
+use Rattle.std.specs.Prelude.{◌≡◌, List}
+use Rattle.proto_faults.specs.Texts.{Text}
 use Rattle.proto_files.specs.Faults.{HasNoFault}
 use Rattle.proto_files.specs.GivenFiles.{FileOf}
 use Rattle.proto_files.specs.FilesRead.{ReadOf, AreRead}
@@ -9,7 +10,7 @@ use Rattle.proto_rename_laws.specs.Targets.{Target, IsNamed}
 
 -- Two targets of one name are the same.
 abbrev pub TargetsAreOne : Type 0
-TargetsAreOne = (files : List FileOf) (reads : List ReadOf) (name : List ℕ) (t u : Target)
+TargetsAreOne = (files : List FileOf) (reads : List ReadOf) (name : Text) (t u : Target)
     → AreRead files reads
     → HasNoFault (LinkFaults files)
     → IsNamed files reads name t
@@ -18,7 +19,7 @@ TargetsAreOne = (files : List FileOf) (reads : List ReadOf) (name : List ℕ) (t
 
 -- And there is one, where no symbol of the name is missing, or of a kind that may not be renamed.
 abbrev pub TargetsAreThere : Type 0
-TargetsAreThere = (files : List FileOf) (reads : List ReadOf) (name to : List ℕ)
+TargetsAreThere = (files : List FileOf) (reads : List ReadOf) (name to : Text)
     → AreRead files reads
     → (RenameCase files reads name to 1 → ⊥)
     → (RenameCase files reads name to 2 → ⊥)

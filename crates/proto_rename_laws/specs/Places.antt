@@ -1,7 +1,8 @@
 -- The tokens that a rename changes: the declaring one, those of references that
 -- stand for the target, and defaults.
-use Rattle.std.specs.Prelude.{◌≡◌, ◌⊎◌, ℕ, Bool, ◌==◌, ◌&&◌, if◌then◌else◌, List, [], ◌∷◌, ◌++◌, flat_map, Some, None}
+use Rattle.std.specs.Prelude.{◌≡◌, ◌⊎◌, Bool, ◌==◌, ◌&&◌, if◌then◌else◌, List, [], ◌∷◌, ◌++◌, flat_map, Some, None}
 use Rattle.std.specs.List.{Contains, list_any}
+use Rattle.proto_faults.specs.Texts.{Text}
 use Rattle.proto_case.specs.Camel.{entry_name}
 use Rattle.proto_meaning.specs.Names.{same_name, hit, front_at}
 use Rattle.proto_meaning.specs.Edits.{Renaming, target}
@@ -14,27 +15,27 @@ abbrev pub same_at : At → At → Bool
 same_at a b = (a.file == b.file) && (a.token == b.token)
 
 -- the words of a reference that stand for the target, where the words before them give the front
-abbrev pub stands : Renaming → (At → List ℕ) → List (List ℕ) → List At → List At
+abbrev pub stands : Renaming → (At → Text) → List Text → List At → List At
 stands e text front [] = []
 stands e text front (i ∷ is) = (if same_name (front ++ text i ∷ []) (target e) then i ∷ [] else [])
     ++ stands e text (front ++ text i ∷ []) is
 
 -- the name that the words of a reference go on from: the prefix of its
 -- scope at which it hits, or nothing
-abbrev pub front_of : (At → List ℕ) → Skeleton At → Used At → List (List ℕ)
+abbrev pub front_of : (At → Text) → Skeleton At → Used At → List Text
 front_of text k u = front_at (reference_of text entry_name u)
     (hit (workspace_of text entry_name k) (reference_of text entry_name u))
 
 -- the words of this reference that stand for the target
-abbrev pub standing : (At → List ℕ) → Skeleton At → Renaming → Used At → List At
+abbrev pub standing : (At → Text) → Skeleton At → Renaming → Used At → List At
 standing text k e u = stands e text (front_of text k u) u.tokens
 
 -- the declaring token, the words of references, and these defaults
-abbrev pub renamed_places : (At → List ℕ) → Skeleton At → Renaming → At → List At → List At
+abbrev pub renamed_places : (At → Text) → Skeleton At → Renaming → At → List At → List At
 renamed_places text k e token defaults = token ∷ (flat_map (standing text k e) k.used ++ defaults)
 
 -- each of these tokens becomes the word
-abbrev pub change_at : List At → List ℕ → NewWords
+abbrev pub change_at : List At → Text → NewWords
 change_at places to a = if list_any (same_at a) places then Some to else None
 
 -- the token names a declaration, or the map field of an entry

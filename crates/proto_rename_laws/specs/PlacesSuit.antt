@@ -1,5 +1,6 @@
 -- The new word suits each place where a rename puts it.
-use Rattle.std.specs.Prelude.{◌≡◌, ℕ, true, List}
+use Rattle.std.specs.Prelude.{◌≡◌, true, List}
+use Rattle.proto_faults.specs.Texts.{Text}
 use Rattle.proto_text.specs.declared.class.Class.TheVariants.{Letter}
 use Rattle.proto_text.specs.Pieces.{IsRun}
 use Rattle.proto_files.specs.GivenFiles.{FileOf}
@@ -13,7 +14,7 @@ use Rattle.proto_rename_laws.specs.Roles.{HasWants}
 
 -- a word that is none of the keywords that its kind may not have
 abbrev pub PlacesSuit : Type 0
-PlacesSuit = (files : List FileOf) (reads : List ReadOf) (name to : List ℕ) (t : Target)
+PlacesSuit = (files : List FileOf) (reads : List ReadOf) (name to : Text) (t : Target)
     → IsLinked (names_of_files files reads)
     → IsNamed files reads name t
     → HasWants files reads t to

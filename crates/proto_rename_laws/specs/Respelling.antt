@@ -1,5 +1,6 @@
 -- The texts with the places changed spell the names as the name map wants them.
-use Rattle.std.specs.Prelude.{◌≡◌, ◌⊎◌, ℕ, Bool, List}
+use Rattle.std.specs.Prelude.{◌≡◌, ◌⊎◌, Bool, List}
+use Rattle.proto_faults.specs.Texts.{Text}
 use Rattle.proto_case.specs.Camel.{entry_name}
 use Rattle.proto_text.specs.Texts.{or_word}
 use Rattle.proto_meaning.specs.Grown.{At}
@@ -11,8 +12,8 @@ use Rattle.proto_rename_laws.specs.Places.{Names, Uses, change_at, renamed_place
 -- own, and each reference is rewritten.
 abbrev pub PlacesRespell : Type 0
 PlacesRespell =
-    (text now : At → List ℕ) (k : Skeleton At) (token : At) (above : List (Source At))
-    (aim : Declared At) (is_map : Bool) (to : List ℕ) (defaults : List At)
+    (text now : At → Text) (k : Skeleton At) (token : At) (above : List (Source At))
+    (aim : Declared At) (is_map : Bool) (to : Text) (defaults : List At)
     → IsAim k token above aim
     → AreApart k defaults
     → ((i : At) → (Names k i ⊎ Uses k i) → now i ≡ or_word

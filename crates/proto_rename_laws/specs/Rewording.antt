@@ -1,5 +1,6 @@
 -- Other words at tokens of many files: the files with them, and what is read of these.
 use Rattle.std.specs.Prelude.{◌≡◌, ℕ, ◌<◌, List, length, map, Option, None}
+use Rattle.proto_faults.specs.Texts.{Text}
 use Rattle.proto_text.specs.Texts.{IsReworded, or_word}
 use Rattle.proto_tree.specs.Laws.{Suits, PutsWords}
 use Rattle.proto_tree.specs.Tree.{flat}
@@ -10,10 +11,10 @@ use Rattle.proto_imports.specs.Links.{text_of, link_skeleton}
 
 -- the new word of a token, where it has one
 abbrev pub NewWords : Type 0
-NewWords = At → Option (List ℕ)
+NewWords = At → Option Text
 
 -- those of one file
-abbrev pub in_file : NewWords → ℕ → ℕ → Option (List ℕ)
+abbrev pub in_file : NewWords → ℕ → ℕ → Option Text
 in_file c file i = c (at file i)
 
 -- each new word is one that its place wants

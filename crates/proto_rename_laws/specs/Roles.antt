@@ -3,6 +3,7 @@
 -- grammar tells apart a declared name, a word of a reference, the name of an option and a constant.
 use Rattle.std.specs.Prelude.{◌≡◌, ◌≢◌, ◌⊎◌, ℕ, ◌<◌, true, false, List, ◌∷◌, ◌++◌, length, map, Option, Some, None, is_some, if◌then◌else◌, codes}
 use Rattle.std.specs.List.{All, AllPairs, Contains}
+use Rattle.proto_faults.specs.Texts.{Text}
 use Rattle.proto_case.specs.Camel.{entry_name}
 use Rattle.proto_tree.specs.References.{first_of}
 use Rattle.proto_tree.specs.Flat.{Mark}
@@ -50,7 +51,7 @@ pub record AreApart (k : Skeleton At) (defaults : List At) : Type 0 where
 -- what is wanted where the target is named, where a word of a reference stands, and
 -- where a default that means it stands
 pub record HasWants
-    (files : List FileOf) (reads : List ReadOf) (t : Target) (to : List ℕ) : Type 0 where
+    (files : List FileOf) (reads : List ReadOf) (t : Target) (to : Text) : Type 0 where
   pub name : (k : ℕ) (m : Mark)
       → Contains (flat (read_at reads k).tree) m
       → at k m.at ≡ t.token
@@ -75,7 +76,7 @@ NumbersStay c reads = (file : ℕ) (b : BlockOf) (v : Value)
 
 -- the tokens of the files, besides those of values and defaults
 pub record HasRoles
-    (files : List FileOf) (reads : List ReadOf) (t : Target) (to : List ℕ) : Type 0 where
+    (files : List FileOf) (reads : List ReadOf) (t : Target) (to : Text) : Type 0 where
   pub apart : AreApart (link_skeleton files reads)
       (renamed_defaults files reads t.enum (name_map files reads t to).old)
   pub wants : HasWants files reads t to
@@ -129,7 +130,7 @@ pub record HasEnumRoles (files : List FileOf) (reads : List ReadOf) (t : Target)
 -- Numbers are not changed; a word names and uses nothing, and is a renamed
 -- default only as one of this field's.
 pub record HasDefaultWords
-    (files : List FileOf) (reads : List ReadOf) (t : Target) (to : List ℕ) (file : ℕ) (f : FieldOf)
+    (files : List FileOf) (reads : List ReadOf) (t : Target) (to : Text) (file : ℕ) (f : FieldOf)
     : Type 0 where
   pub number : (o : OptionOf) (n : Signed)
       → Contains f.options o
@@ -155,8 +156,8 @@ pub record HasDefaultWords
 -- What is not changed of a field and its defaults, and that an enum's default is
 -- changed where it means the value.
 pub record HasDefaultRoles
-    (c : NewWords) (text now : At → List ℕ) (means : ℕ → Option (List (List ℕ)))
-    (enum : Option (List (List ℕ))) (old to : List ℕ) (file : ℕ) (f : FieldOf) : Type 0 where
+    (c : NewWords) (text now : At → Text) (means : ℕ → Option (List Text))
+    (enum : Option (List Text)) (old to : Text) (file : ℕ) (f : FieldOf) : Type 0 where
   pub label : (i : ℕ) → f.label ≡ Some i → c (at file i) ≡ None
   pub scalar : (i : ℕ) → f.kind ≡ field_type.Scalar i → c (at file i) ≡ None
   pub number : (o : OptionOf) (n : Signed)
@@ -180,7 +181,7 @@ pub record HasDefaultRoles
 
 -- All fields of messages have these roles.
 pub record HasFieldRoles
-    (files : List FileOf) (reads : List ReadOf) (t : Target) (to : List ℕ) (after : List FileOf)
+    (files : List FileOf) (reads : List ReadOf) (t : Target) (to : Text) (after : List FileOf)
     (seen : List ReadOf) : Type 0 where
   pub defaults : (file : ℕ) (b : BlockOf) (h : Heading) (f : FieldOf)
       → file < length files
@@ -191,7 +192,7 @@ pub record HasFieldRoles
       (meaning_from files reads file) t.enum (text_of files reads t.token) to file f
 
 -- The words of the defaults of all fields of messages are as they are to be.
-abbrev pub HaveDefaultWords : List FileOf → List ReadOf → Target → List ℕ → Type 0
+abbrev pub HaveDefaultWords : List FileOf → List ReadOf → Target → Text → Type 0
 HaveDefaultWords files reads t to = (file : ℕ) (b : BlockOf) (h : Heading) (f : FieldOf)
     → file < length files
     → Contains (blocks_in (read_at reads file).tree) b
@@ -203,7 +204,7 @@ HaveDefaultWords files reads t to = (file : ℕ) (b : BlockOf) (h : Heading) (f 
 
 -- what is wanted of the tokens of the files, for a rename of this target
 pub record TokensHaveRoles
-    (files : List FileOf) (reads : List ReadOf) (t : Target) (to : List ℕ) : Type 0 where
+    (files : List FileOf) (reads : List ReadOf) (t : Target) (to : Text) : Type 0 where
   pub tokens : HasRoles files reads t to
   pub enums : HasEnumRoles files reads t
   pub defaults : HaveDefaultWords files reads t to

@@ -1,5 +1,6 @@
 -- What is read of files before and after a rename: scenes that differ in names.
 use Rattle.std.specs.Prelude.{ℕ, ◌<◌, Bool, List, length, None, is_some}
+use Rattle.proto_faults.specs.Texts.{Text}
 use Rattle.proto_case.specs.Camel.{entry_name}
 use Rattle.proto_files.specs.GivenFiles.{FileOf}
 use Rattle.proto_files.specs.FilesRead.{ReadOf, AreRead}
@@ -17,7 +18,7 @@ use Rattle.proto_rename_laws.specs.Roles.{NumbersStay}
 pub record IsRename
     (files : List FileOf) (reads : List ReadOf) (c : NewWords) (after : List FileOf)
     (seen : List ReadOf) (token : At) (above : List (Source At)) (aim : Declared At) (is_map : Bool)
-    (to : List ℕ) : Type 0 where
+    (to : Text) : Type 0 where
   pub read : AreRead files reads
   pub suits : SuitFiles c reads
   pub reworded : AreReworded c files reads after seen
@@ -37,7 +38,7 @@ abbrev pub ScenesDiffer : Type 0
 ScenesDiffer =
     (files : List FileOf) (reads : List ReadOf) (c : NewWords) (after : List FileOf)
     (seen : List ReadOf) (token : At) (above : List (Source At)) (aim : Declared At) (is_map : Bool)
-    (to : List ℕ)
+    (to : Text)
     → IsRename files reads c after seen token above aim is_map to
     → (file : ℕ)
     → file < length files

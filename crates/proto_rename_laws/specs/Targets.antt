@@ -1,6 +1,7 @@
 -- What a rename aims at, the name map that it gives, and the tokens that it changes.
 use Rattle.std.specs.Prelude.{◌≡◌, ◌≢◌, ℕ, Bool, true, false, List, [], ◌∷◌, ◌++◌, find, map, Option, Some, None}
 use Rattle.std.specs.List.{Contains}
+use Rattle.proto_faults.specs.Texts.{Text}
 use Rattle.proto_case.specs.Camel.{entry_name}
 use Rattle.proto_files.specs.GivenFiles.{FileOf}
 use Rattle.proto_files.specs.FilesRead.{ReadOf, read_at}
@@ -38,7 +39,7 @@ pub record Target : Type 0 where
   pub above : List (Source At)
   pub aim : Declared At
   pub is_map : Bool
-  pub enum : Option (List (List ℕ))
+  pub enum : Option (List Text)
 
 -- the block of a declared enum has a value with this name token
 pub record HasValue
@@ -51,7 +52,7 @@ pub record HasValue
 
 -- the enum of this full name is declared in the file of the value, and its block has the value
 pub record IsEnumOf
-    (files : List FileOf) (reads : List ReadOf) (token : At) (enum : List (List ℕ)) : Type 0 where
+    (files : List FileOf) (reads : List ReadOf) (token : At) (enum : List Text) : Type 0 where
   pub d : Declared At
   pub declared : Contains (link_skeleton files reads).declared d
   pub kind : d.kind ≡ Enum
@@ -63,13 +64,13 @@ pub record IsEnumOf
   pub within : Contains (map (λ v. v.name) (values_in b.within)) token.token
 
 -- the full name of the enum that has the value; none for another kind
-abbrev pub HasEnum : List FileOf → List ReadOf → Declared At → At → Option (List (List ℕ)) → Type 0
+abbrev pub HasEnum : List FileOf → List ReadOf → Declared At → At → Option (List Text) → Type 0
 HasEnum files reads aim token None = aim.kind ≢ Value
 HasEnum files reads aim token (Some enum) = (aim.kind ≡ Value) × IsEnumOf files reads token enum
 
 -- the declaration has the full name, as text
 pub record IsNamed
-    (files : List FileOf) (reads : List ReadOf) (name : List ℕ) (t : Target) : Type 0 where
+    (files : List FileOf) (reads : List ReadOf) (name : Text) (t : Target) : Type 0 where
   pub within : Contains (link_skeleton files reads).declared t.aim
   pub path : t.aim.path ≡ t.above ++ Token t.token ∷ []
   pub name_is : joined (name_of (text_of files reads) entry_name t.aim.path) ≡ name
@@ -78,11 +79,11 @@ pub record IsNamed
   pub enum_is : HasEnum files reads t.aim t.token t.enum
 
 -- the target goes under its new name, and all below it; a map field's entry as well
-abbrev pub name_map : List FileOf → List ReadOf → Target → List ℕ → Renaming
+abbrev pub name_map : List FileOf → List ReadOf → Target → Text → Renaming
 name_map files reads t to = renaming_of (text_of files reads) entry_name t.token t.above t.is_map to
 
 -- the new words, by their tokens
-abbrev pub renamed_words : List FileOf → List ReadOf → Target → List ℕ → NewWords
+abbrev pub renamed_words : List FileOf → List ReadOf → Target → Text → NewWords
 renamed_words files reads t to =
     change_at
     (renamed_places (text_of files reads) (link_skeleton files reads) (name_map files reads t to)

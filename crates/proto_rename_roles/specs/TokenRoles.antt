@@ -1,5 +1,6 @@
 -- The tokens of linked files have the roles that a rename wants of them.
-use Rattle.std.specs.Prelude.{ℕ, List}
+use Rattle.std.specs.Prelude.{List}
+use Rattle.proto_faults.specs.Texts.{Text}
 use Rattle.proto_files.specs.Faults.{HasNoFault}
 use Rattle.proto_files.specs.FilesRead.{ReadOf, AreRead}
 use Rattle.proto_files.specs.GivenFiles.{FileOf}
@@ -9,7 +10,7 @@ use Rattle.proto_rename_laws.specs.Targets.{Target, IsNamed}
 
 -- For each symbol that may be renamed, whatever the new word.
 abbrev pub AllTokensHaveRoles : Type 0
-AllTokensHaveRoles = (files : List FileOf) (reads : List ReadOf) (name to : List ℕ) (t : Target)
+AllTokensHaveRoles = (files : List FileOf) (reads : List ReadOf) (name to : Text) (t : Target)
     → AreRead files reads
     → HasNoFault (LinkFaults files)
     → IsNamed files reads name t

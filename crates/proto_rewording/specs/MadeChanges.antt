@@ -1,6 +1,7 @@
 -- The change of a file that puts a word at some of its tokens.
 use Rattle.std.specs.Prelude.{◌≡◌, ℕ, ◌+◌, ◌-◌, ◌<◌, ◌≤◌, Bool, true, if◌then◌else◌, List, [], ◌∷◌, ◌++◌, map, Option, Some, None, slice_set}
 use Rattle.std.specs.List.{Contains}
+use Rattle.proto_faults.specs.Texts.{Text}
 use Rattle.proto_text.specs.declared.lexer.Token.{Token}
 use Rattle.proto_text.specs.Edits.{Edit}
 use Rattle.proto_text.specs.SourceFacts.{text_at}
@@ -16,7 +17,7 @@ use Rattle.proto_rewording.specs.declared.changing.RewordFault.{RewordFault}
 use Rattle.proto_rewording.specs.declared.changing.RewordFault.TheVariants.{TooLarge, NoMemory}
 
 -- in this file the word comes at these tokens, and no other token changes
-pub record PutsAt (c : NewWords) (file : ℕ) (places : List ℕ) (to : List ℕ) : Type 0 where
+pub record PutsAt (c : NewWords) (file : ℕ) (places : List ℕ) (to : Text) : Type 0 where
   pub placed : (i : ℕ) → Contains places i → c (at file i) ≡ Some to
   pub others : (i : ℕ) → (Contains places i → ⊥) → c (at file i) ≡ None
 
@@ -30,7 +31,7 @@ pub record IsMade
   pub short : IsTooLong c files reads file → ⊥
 
 -- the same of each reading and each change of words that puts the word at these tokens
-abbrev pub IsChangeAt : List FileOf → ℕ → List ℕ → List ℕ → Option Change → Type 0
+abbrev pub IsChangeAt : List FileOf → ℕ → List ℕ → Text → Option Change → Type 0
 IsChangeAt files file places to found = (reads : List ReadOf)
     → AreRead files reads
     → (c : NewWords)
@@ -38,7 +39,7 @@ IsChangeAt files file places to found = (reads : List ReadOf)
     → IsMade files reads c file found
 
 -- it gets too long, or memory is wanting
-abbrev pub IsRewordFault : List FileOf → ℕ → List ℕ → List ℕ → RewordFault → Type 0
+abbrev pub IsRewordFault : List FileOf → ℕ → List ℕ → Text → RewordFault → Type 0
 IsRewordFault files file places to TooLarge = (reads : List ReadOf)
     → AreRead files reads
     → (c : NewWords)
@@ -60,7 +61,7 @@ marked_tokens (t ∷ ts) [] = []
 marked_tokens (t ∷ ts) (m ∷ marks) = (if m then t ∷ [] else []) ++ marked_tokens ts marks
 
 -- the word in the place of a token
-abbrev pub word_put : List ℕ → List ℕ → Token → Edit
+abbrev pub word_put : Text → Text → Token → Edit
 word_put text to t = record { at = t.span.start; old = text_at text t.span; new = to }
 
 -- Tokens from one byte on, each with a byte or more, no two over one

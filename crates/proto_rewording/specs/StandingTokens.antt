@@ -2,6 +2,7 @@
 use Rattle.std.specs.Prelude.{◌↔◌, ℕ, ◌+◌, ◌==◌, if◌then◌else◌, List, [], ◌∷◌, ◌++◌, length, flat_map, Option, Some, None}
 use Rattle.std.specs.List.{Contains}
 use Rattle.std.specs.Option.{option_and_then}
+use Rattle.proto_faults.specs.Texts.{Text}
 use Rattle.proto_tree.specs.References.{dotted}
 use Rattle.proto_files.specs.GivenFiles.{FileOf}
 use Rattle.proto_files.specs.FilesRead.{ReadOf, AreRead}
@@ -22,7 +23,7 @@ IsStandingIn files aim file found = (reads : List ReadOf)
     → AreRead files reads
     → (t : Target)
     → IsAimedAt files reads aim t
-    → (to : List ℕ) (i : ℕ)
+    → (to : Text) (i : ℕ)
     → Contains found i
     ↔ Contains (flat_map (standing (text_of files reads) (link_skeleton files reads)
     (name_map files reads t to)) (link_skeleton files reads).used) (at file i)
@@ -30,25 +31,25 @@ IsStandingIn files aim file found = (reads : List ReadOf)
 -- ---- full names by their texts
 
 -- how many points a text has
-abbrev pub points : List ℕ → ℕ
+abbrev pub points : Text → ℕ
 points [] = 0
 points (b ∷ rest) = if b == 46 then 1 + points rest else points rest
 
 -- what stands behind a front in a text; none where the text begins otherwise
-abbrev pub behind : List ℕ → List ℕ → Option (List ℕ)
+abbrev pub behind : Text → Text → Option Text
 behind [] text = Some text
 behind (c ∷ front) [] = None
 behind (c ∷ front) (b ∷ text) = if b == c then behind front text else None
 
 -- how many words stand behind a name: a point before each; none
 -- where its last word only begins here
-abbrev pub words_in : List ℕ → Option ℕ
+abbrev pub words_in : Text → Option ℕ
 words_in [] = Some 0
 words_in (b ∷ rest) = if b == 46 then Some (points (b ∷ rest)) else None
 
 -- how many words a name has behind this front; none where it is not
 -- the front and does not go on from it
-abbrev pub words_behind : List ℕ → List ℕ → Option ℕ
+abbrev pub words_behind : Text → Text → Option ℕ
 words_behind front name = option_and_then words_in (behind front name)
 
 -- ---- tokens by the words behind them
@@ -64,12 +65,12 @@ listed None = []
 listed (Some x) = x ∷ []
 
 -- the word of a reference that stands for the name, where the reference means what has this text
-abbrev pub counted : List ℕ → List ℕ → Option (List ℕ) → Option ℕ
+abbrev pub counted : Text → List ℕ → Option Text → Option ℕ
 counted name tokens text =
     option_and_then (λ n. from_end n tokens) (option_and_then (words_behind name) text)
 
 -- those of many references, one by one with what they mean
-abbrev pub standing_tokens : LinkOf → List ℕ → List Use → List Meant → List ℕ
+abbrev pub standing_tokens : LinkOf → Text → List Use → List Meant → List ℕ
 standing_tokens l name [] ms = []
 standing_tokens l name (u ∷ us) [] = []
 standing_tokens l name (u ∷ us) (m ∷ ms) = listed

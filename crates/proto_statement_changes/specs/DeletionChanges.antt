@@ -1,6 +1,7 @@
 -- The changes of a deletion: the one splice of the one file that declares the field.
 use Rattle.std.specs.List.{Contains}
 use Rattle.std.specs.Prelude.{◌≡◌, ℕ, ◌<◌, ◌^◌, List, length, Option}
+use Rattle.proto_faults.specs.Texts.{Text}
 use Rattle.proto_text.specs.declared.lexer.Token.{Token as TokenOf}
 use Rattle.proto_text.specs.Edits.{Edit}
 use Rattle.proto_tree.specs.declared.piece.Statement.{Statement}
@@ -36,7 +37,7 @@ abbrev pub number_of_field : List FileOf → List ReadOf → FieldAt → ℕ
 number_of_field files reads f = number_of (word_of files reads f.file f.number)
 
 -- the name of a field, as it is written
-abbrev pub name_of_field : List FileOf → List ReadOf → FieldAt → List ℕ
+abbrev pub name_of_field : List FileOf → List ReadOf → FieldAt → Text
 name_of_field files reads f = word_of files reads f.file f.name
 
 -- the splice of the field's file that deletes the field
@@ -52,7 +53,7 @@ changes_of_deletion files reads f =
 
 -- the file is read without the field and with its reservation, the others as before
 pub record IsFieldDeleted
-    (files : List FileOf) (reads : List ReadOf) (f : FieldAt) (result : List ℕ)
+    (files : List FileOf) (reads : List ReadOf) (f : FieldAt) (result : Text)
     (after : List TokenOf) (tree : Tree) : Type 0 where
   pub deleted : IsDeleted (file_at files f.file).bytes (read_at reads f.file).tokens
       (read_at reads f.file).tree f.statement f.oneof (number_of_field files reads f)
@@ -67,7 +68,7 @@ DeletionsAreChanges = (files : List FileOf) (reads : List ReadOf) (f : FieldAt)
     → IsFieldAt files reads f
     → number_of_field files reads f < 2 ^ 64
     → (IsTooLong (file_at files f.file) (splice_of_deletion files reads f) → ⊥)
-    → (result : List ℕ) × (after : List TokenOf) × (tree : Tree)
+    → (result : Text) × (after : List TokenOf) × (tree : Tree)
     × IsFieldDeleted files reads f result after tree
 
 -- ---- which fields there are

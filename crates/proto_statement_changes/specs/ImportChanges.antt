@@ -1,5 +1,6 @@
 -- The changes of an added import and of a dropped one: the one splice of the file.
 use Rattle.std.specs.Prelude.{ℕ, ◌<◌, List, length}
+use Rattle.proto_faults.specs.Texts.{Path, Text}
 use Rattle.proto_text.specs.declared.lexer.Token.{Token}
 use Rattle.proto_text.specs.Edits.{Edit}
 use Rattle.proto_text.specs.Values.{StandsFor}
@@ -17,18 +18,18 @@ use Rattle.proto_statement_changes.specs.OneFile.{AreFiles, IsChangedBy, IsTooLo
 -- ---- an added import
 
 -- the splice of the file that puts an import of the path into it
-abbrev pub splice_of_addition : List FileOf → List ReadOf → ℕ → List ℕ → Edit
+abbrev pub splice_of_addition : List FileOf → List ReadOf → ℕ → Path → Edit
 splice_of_addition files reads file path =
     addition (file_at files file).bytes (read_at reads file).tokens (read_at reads file).tree path
 
 -- what the addition of an import of the path to a file changes
-abbrev pub changes_of_addition : List FileOf → List ReadOf → ℕ → List ℕ → List ChangeOf
+abbrev pub changes_of_addition : List FileOf → List ReadOf → ℕ → Path → List ChangeOf
 changes_of_addition files reads file path =
     one_change (file_at files file) (splice_of_addition files reads file path)
 
 -- the file is read with the import, the others as before
 pub record IsImportAdded
-    (files : List FileOf) (reads : List ReadOf) (file : ℕ) (path result : List ℕ)
+    (files : List FileOf) (reads : List ReadOf) (file : ℕ) (path : Path) (result : Text)
     (after : List Token) (tree : Tree) : Type 0 where
   pub added : IsAdded (file_at files file).bytes (read_at reads file).tokens
       (read_at reads file).tree path result after tree
@@ -38,12 +39,12 @@ pub record IsImportAdded
 -- The changes of an added import are an entry, and put files that are read,
 -- unless the file would be too long.
 abbrev pub AdditionsAreChanges : Type 0
-AdditionsAreChanges = (files : List FileOf) (reads : List ReadOf) (file : ℕ) (path : List ℕ)
+AdditionsAreChanges = (files : List FileOf) (reads : List ReadOf) (file : ℕ) (path : Path)
     → AreFiles files reads
     → file < length files
     → IsWorkspacePath path
     → (IsTooLong (file_at files file) (splice_of_addition files reads file path) → ⊥)
-    → (result : List ℕ) × (after : List Token) × (tree : Tree)
+    → (result : Text) × (after : List Token) × (tree : Tree)
     × IsImportAdded files reads file path result after tree
 
 -- ---- a dropped import
@@ -51,7 +52,7 @@ AdditionsAreChanges = (files : List FileOf) (reads : List ReadOf) (file : ℕ) (
 -- the file imports the path by this statement: its string stands
 -- for the path, however it is written
 pub record IsImportOf
-    (files : List FileOf) (reads : List ReadOf) (file : ℕ) (path : List ℕ) (i : Import)
+    (files : List FileOf) (reads : List ReadOf) (file : ℕ) (path : Path) (i : Import)
     : Type 0 where
   pub within : file < length files
   pub stands : StandsIn (statement.Import i) (read_at reads file).tree
@@ -68,7 +69,7 @@ changes_of_drop files reads file i =
 
 -- the file is read without the import, the others as before
 pub record IsImportDropped
-    (files : List FileOf) (reads : List ReadOf) (file : ℕ) (i : Import) (result : List ℕ)
+    (files : List FileOf) (reads : List ReadOf) (file : ℕ) (i : Import) (result : Text)
     (after : List Token) (tree : Tree) : Type 0 where
   pub dropped : IsDropped (file_at files file).bytes (read_at reads file).tokens
       (read_at reads file).tree i result after tree
@@ -77,8 +78,8 @@ pub record IsImportDropped
 -- The changes of a dropped import are an entry, and put files that are read; no file gets longer.
 abbrev pub DropsAreChanges : Type 0
 DropsAreChanges =
-    (files : List FileOf) (reads : List ReadOf) (file : ℕ) (path : List ℕ) (i : Import)
+    (files : List FileOf) (reads : List ReadOf) (file : ℕ) (path : Path) (i : Import)
     → AreFiles files reads
     → IsImportOf files reads file path i
-    → (result : List ℕ) × (after : List Token) × (tree : Tree)
+    → (result : Text) × (after : List Token) × (tree : Tree)
     × IsImportDropped files reads file i result after tree

@@ -1,6 +1,7 @@
 -- One file of a workspace that is changed by one splice: its change, the
 -- files then, and what is read of them.
 use Rattle.std.specs.Prelude.{◌≡◌, ℕ, ◌+◌, ◌-◌, ◌<◌, List, [], ◌∷◌, length, slice_set}
+use Rattle.proto_faults.specs.Texts.{Text}
 use Rattle.proto_text.specs.declared.lexer.Token.{Token}
 use Rattle.proto_text.specs.Edits.{Edit}
 use Rattle.proto_text.specs.Texts.{words}
@@ -18,7 +19,7 @@ pub record AreFiles (files : List FileOf) (reads : List ReadOf) : Type 0 where
   pub read : AreRead files reads
 
 -- the text of a token of a file
-abbrev pub word_of : List FileOf → List ReadOf → ℕ → ℕ → List ℕ
+abbrev pub word_of : List FileOf → List ReadOf → ℕ → ℕ → Text
 word_of files reads file token = words (file_at files file).bytes (read_at reads file).tokens token
 
 -- the length of a file with a splice
@@ -39,7 +40,7 @@ abbrev pub IsTooLong : FileOf → Edit → Type 0
 IsTooLong f e = 1048576 + length e.old < length f.bytes + length e.new
 
 -- the files with another text in the place of that of one
-abbrev pub with_text : List FileOf → ℕ → List ℕ → List FileOf
+abbrev pub with_text : List FileOf → ℕ → Text → List FileOf
 with_text files file text =
     slice_set files file (record { path = (file_at files file).path; bytes = text })
 
@@ -50,7 +51,7 @@ with_read reads file tokens tree = slice_set reads file (record { tokens = token
 -- The splice of a file is an entry, and puts the files with the new text, which
 -- are read, and have the length told.
 pub record IsChangedBy
-    (files : List FileOf) (reads : List ReadOf) (file : ℕ) (e : Edit) (result : List ℕ)
+    (files : List FileOf) (reads : List ReadOf) (file : ℕ) (e : Edit) (result : Text)
     (after : List Token) (tree : Tree) : Type 0 where
   pub entry : IsEntry (one_change (file_at files file) e)
   pub put : IsPut files (one_change (file_at files file) e) (with_text files file result)

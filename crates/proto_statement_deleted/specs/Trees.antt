@@ -2,6 +2,7 @@
 -- reservation, the old one and the new one.
 use Rattle.std.specs.Prelude.{◌≡◌, ◌≢◌, ℕ, ◌+◌, List, [], ◌∷◌, length, map, Option}
 use Rattle.std.specs.List.{Contains}
+use Rattle.proto_faults.specs.Texts.{Text}
 use Rattle.proto_text.specs.declared.lexer.Token.{Token}
 use Rattle.proto_text.specs.Segments.{moved}
 use Rattle.proto_text.specs.Tokens.{lexeme_at}
@@ -34,7 +35,7 @@ reservation_at i = record {
 }
 
 -- where the tokens of the tree without both stand in the old one, and in the new one
-abbrev pub to_old : List ℕ → List Token → Statement → Move
+abbrev pub to_old : Text → List Token → Statement → Move
 to_old text tokens s =
     moved (first_token s) (first_token s) (length (own s (map (lexeme_at text) tokens)))
 
@@ -47,8 +48,8 @@ to_new s o = moved (reserved_at s o) (reserved_at s o) 6
 -- one without both with the reservation put in.
 abbrev pub TreesAreDeleted : Type 0
 TreesAreDeleted =
-    (text : List ℕ) (tokens : List Token) (t : Tree) (w : WrittenField) (o : Option ℕ) (number : ℕ)
-    (name result : List ℕ) (after : List Token) (u : Tree)
+    (text : Text) (tokens : List Token) (t : Tree) (w : WrittenField) (o : Option ℕ) (number : ℕ)
+    (name result : Text) (after : List Token) (u : Tree)
     → Reads text tokens t
     → HasFellows t (name_of w)
     → StandsAt (statement_of w) o t

@@ -1,5 +1,6 @@
 -- The deletion of a field from a workspace, where no case refuses it.
 use Rattle.std.specs.Prelude.{◌≡◌, ℕ, List}
+use Rattle.proto_faults.specs.Texts.{Text}
 use Rattle.proto_text.specs.declared.lexer.Token.{Token}
 use Rattle.proto_tree.specs.Tree.{Tree}
 use Rattle.proto_files.specs.Faults.{HasNoFault}
@@ -25,7 +26,7 @@ use Rattle.proto_statement_described.specs.Mapped.{mapped_deletion}
 -- files without a fault, and a field of theirs, by its full name and by its statement, of
 -- which no case refuses the deletion
 pub record IsAllowed
-    (files : List FileOf) (reads : List ReadOf) (name : List ℕ) (f : FieldAt) : Type 0 where
+    (files : List FileOf) (reads : List ReadOf) (name : Text) (f : FieldAt) : Type 0 where
   pub are : AreFiles files reads
   pub link : HasNoFault (LinkFaults files)
   pub checks : HasNoFault (CheckFaults files)
@@ -38,7 +39,7 @@ pub record IsAllowed
 -- Afterwards the names are those before without the field and what goes with it,
 abbrev pub DeletionsAreLess : Type 0
 DeletionsAreLess =
-    (files : List FileOf) (reads : List ReadOf) (name : List ℕ) (f : FieldAt) (result : List ℕ)
+    (files : List FileOf) (reads : List ReadOf) (name : Text) (f : FieldAt) (result : Text)
     (after : List Token) (tree : Tree)
     → IsAllowed files reads name f
     → IsFieldDeleted files reads f result after tree
@@ -47,7 +48,7 @@ DeletionsAreLess =
 -- each reference means what it meant,
 abbrev pub DeletionsMeanTheSame : Type 0
 DeletionsMeanTheSame =
-    (files : List FileOf) (reads : List ReadOf) (name : List ℕ) (f : FieldAt) (result : List ℕ)
+    (files : List FileOf) (reads : List ReadOf) (name : Text) (f : FieldAt) (result : Text)
     (after : List Token) (tree : Tree)
     → IsAllowed files reads name f
     → IsFieldDeleted files reads f result after tree
@@ -56,7 +57,7 @@ DeletionsMeanTheSame =
 -- and the file is one with the field, and one with the reservation, put in.
 abbrev pub DeletionsAreDeletions : Type 0
 DeletionsAreDeletions =
-    (files : List FileOf) (reads : List ReadOf) (name : List ℕ) (f : FieldAt) (result : List ℕ)
+    (files : List FileOf) (reads : List ReadOf) (name : Text) (f : FieldAt) (result : Text)
     (after : List Token) (tree : Tree)
     → IsAllowed files reads name f
     → IsFieldDeleted files reads f result after tree
@@ -66,7 +67,7 @@ DeletionsAreDeletions =
 -- So no fault comes in,
 abbrev pub DeletionsLeaveNoFault : Type 0
 DeletionsLeaveNoFault =
-    (files : List FileOf) (reads : List ReadOf) (name : List ℕ) (f : FieldAt) (result : List ℕ)
+    (files : List FileOf) (reads : List ReadOf) (name : Text) (f : FieldAt) (result : Text)
     (after : List Token) (tree : Tree)
     → IsAllowed files reads name f
     → IsFieldDeleted files reads f result after tree
@@ -77,7 +78,7 @@ DeletionsLeaveNoFault =
 -- its number and its name reserved.
 abbrev pub DeletionsAreMapped : Type 0
 DeletionsAreMapped =
-    (files : List FileOf) (reads : List ReadOf) (name : List ℕ) (f : FieldAt) (result : List ℕ)
+    (files : List FileOf) (reads : List ReadOf) (name : Text) (f : FieldAt) (result : Text)
     (after : List Token) (tree : Tree)
     → IsAllowed files reads name f
     → IsFieldDeleted files reads f result after tree
@@ -90,7 +91,7 @@ DeletionsAreMapped =
 
 -- A name that no case refuses is that of one field.
 abbrev pub FieldsMayBeDeleted : Type 0
-FieldsMayBeDeleted = (files : List FileOf) (reads : List ReadOf) (name : List ℕ)
+FieldsMayBeDeleted = (files : List FileOf) (reads : List ReadOf) (name : Text)
     → AreFiles files reads
     → HasNoFault (LinkFaults files)
     → HasNoFault (CheckFaults files)
@@ -99,7 +100,7 @@ FieldsMayBeDeleted = (files : List FileOf) (reads : List ReadOf) (name : List �
 
 -- A name is that of one field that may be deleted.
 abbrev pub FieldsAreOne : Type 0
-FieldsAreOne = (files : List FileOf) (reads : List ReadOf) (name : List ℕ) (f g : FieldAt)
+FieldsAreOne = (files : List FileOf) (reads : List ReadOf) (name : Text) (f g : FieldAt)
     → IsAllowed files reads name f
     → IsAllowed files reads name g
     → f ≡ g
@@ -118,7 +119,7 @@ pub record AreLeft
 
 -- Unless the file would be too long, the changes of the deletion are an entry, and put such files,
 abbrev pub DeletionsAreMade : Type 0
-DeletionsAreMade = (files : List FileOf) (reads : List ReadOf) (name : List ℕ) (f : FieldAt)
+DeletionsAreMade = (files : List FileOf) (reads : List ReadOf) (name : Text) (f : FieldAt)
     → IsAllowed files reads name f
     → (IsTooLong (file_at files f.file) (splice_of_deletion files reads f) → ⊥)
     → IsEntry (changes_of_deletion files reads f)
@@ -129,7 +130,7 @@ DeletionsAreMade = (files : List FileOf) (reads : List ReadOf) (name : List ℕ)
 -- and no others.
 abbrev pub DeletionsLeaveFiles : Type 0
 DeletionsLeaveFiles =
-    (files : List FileOf) (reads : List ReadOf) (name : List ℕ) (f : FieldAt) (after : List FileOf)
+    (files : List FileOf) (reads : List ReadOf) (name : Text) (f : FieldAt) (after : List FileOf)
     → IsAllowed files reads name f
     → (IsTooLong (file_at files f.file) (splice_of_deletion files reads f) → ⊥)
     → IsPut files (changes_of_deletion files reads f) after

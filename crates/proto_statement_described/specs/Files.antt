@@ -3,6 +3,7 @@
 use Rattle.std.specs.Prelude.{◌≡◌, ◌≢◌, ℕ, ◌<◌, ◌==◌, false, List, [], length, None}
 use Rattle.std.specs.List.{All}
 use Rattle.std.specs.Str.{bytes_eq}
+use Rattle.proto_faults.specs.Texts.{Path}
 use Rattle.proto_tree.specs.Moved.{Move}
 use Rattle.proto_tree.specs.Tree.{Tree}
 use Rattle.proto_files.specs.Faults.{HasNoFault}
@@ -91,7 +92,7 @@ DeletionsMapDescriptors =
 -- The file imports the path as well, as its last import, which is not public.
 pub record IsAddition
     (files : List FileOf) (reads : List ReadOf) (after : List FileOf) (seen : List ReadOf)
-    (place : ℕ) (path : List ℕ) : Type 0 where
+    (place : ℕ) (path : Path) : Type 0 where
   pub others : OthersStay files reads after seen place
   pub move : Move
   pub scenes : IsMovedScene move (scene_at files reads place) (scene_at after seen place)
@@ -105,7 +106,7 @@ pub record IsAddition
 abbrev pub AdditionsLeaveNoFault : Type 0
 AdditionsLeaveNoFault =
     (files : List FileOf) (reads : List ReadOf) (after : List FileOf) (seen : List ReadOf)
-    (place : ℕ) (path : List ℕ)
+    (place : ℕ) (path : Path)
     → IsAddition files reads after seen place path
     → HasNoFault (CheckFaults files)
     → HasNoFault (CheckFaults after)
@@ -114,7 +115,7 @@ AdditionsLeaveNoFault =
 abbrev pub AdditionsMapDescriptors : Type 0
 AdditionsMapDescriptors =
     (files : List FileOf) (reads : List ReadOf) (after : List FileOf) (seen : List ReadOf)
-    (place : ℕ) (path : List ℕ)
+    (place : ℕ) (path : Path)
     → IsAddition files reads after seen place path
     → (ds new : List FileDesc)
     → AreDescribed files ds
@@ -125,7 +126,7 @@ AdditionsMapDescriptors =
 -- had no earlier import of the path.
 pub record IsDrop
     (files : List FileOf) (reads : List ReadOf) (after : List FileOf) (seen : List ReadOf)
-    (place : ℕ) (path : List ℕ) : Type 0 where
+    (place : ℕ) (path : Path) : Type 0 where
   pub others : OthersStay files reads after seen place
   pub move : Move
   pub scenes : IsMovedScene move (scene_at after seen place) (scene_at files reads place)
@@ -139,7 +140,7 @@ pub record IsDrop
 abbrev pub DropsLeaveNoFault : Type 0
 DropsLeaveNoFault =
     (files : List FileOf) (reads : List ReadOf) (after : List FileOf) (seen : List ReadOf)
-    (place : ℕ) (path : List ℕ)
+    (place : ℕ) (path : Path)
     → IsDrop files reads after seen place path
     → HasNoFault (CheckFaults files)
     → HasNoFault (CheckFaults after)
@@ -148,7 +149,7 @@ DropsLeaveNoFault =
 abbrev pub DropsMapDescriptors : Type 0
 DropsMapDescriptors =
     (files : List FileOf) (reads : List ReadOf) (after : List FileOf) (seen : List ReadOf)
-    (place : ℕ) (path : List ℕ)
+    (place : ℕ) (path : Path)
     → IsDrop files reads after seen place path
     → (ds new : List FileDesc)
     → AreDescribed files ds

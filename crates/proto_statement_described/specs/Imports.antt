@@ -2,6 +2,7 @@
 use Rattle.std.specs.Prelude.{◌≡◌, ℕ, ◌-◌, ◌==◌, nat_lt, false, if◌then◌else◌, List, [], ◌∷◌, ◌++◌, flat_map, map}
 use Rattle.std.specs.List.{All}
 use Rattle.std.specs.Str.{bytes_eq}
+use Rattle.proto_faults.specs.Texts.{Path}
 use Rattle.proto_tree.specs.Moved.{Move, move_tree}
 use Rattle.proto_tree.specs.Tree.{Tree}
 use Rattle.proto_listing.specs.FromTree.{Wanted, imports_in}
@@ -15,7 +16,7 @@ use Rattle.proto_statement_described.specs.Scenes.{IsMovedScene}
 -- ---- descriptors
 
 -- with other imports
-abbrev pub with_imports : List (List ℕ) → List ℕ → FileDesc → FileDesc
+abbrev pub with_imports : List Path → List ℕ → FileDesc → FileDesc
 with_imports dependency public d = record {
   name = d.name;
   «package» = d.«package»;
@@ -29,7 +30,7 @@ with_imports dependency public d = record {
 }
 
 -- the path comes in last, and is no public import
-abbrev pub with_dependency : List ℕ → FileDesc → FileDesc
+abbrev pub with_dependency : Path → FileDesc → FileDesc
 with_dependency path d = with_imports (d.dependency ++ path ∷ []) d.public_dependency d
 
 -- a place goes, and those behind it are lowered by one
@@ -38,7 +39,7 @@ lowered n places =
     flat_map (λ p. if p == n then [] else (if nat_lt n p then (p - 1) ∷ [] else p ∷ [])) places
 
 -- the path goes, and its place from the public ones
-abbrev pub without_dependency : List ℕ → FileDesc → FileDesc
+abbrev pub without_dependency : Path → FileDesc → FileDesc
 without_dependency path d =
     with_imports (without_place (places_before (bytes_eq path) d.dependency) d.dependency)
     (lowered (places_before (bytes_eq path) d.dependency) d.public_dependency) d
@@ -62,7 +63,7 @@ pub record HasImport (g : Move) (w : Wanted) (s t : Tree) : Type 0 where
 
 -- An import more as the last of all.
 abbrev pub AdditionsAreMapped : Type 0
-AdditionsAreMapped = (g : Move) (a b : Scene) (path : List ℕ) (w : Wanted) (s t : Tree)
+AdditionsAreMapped = (g : Move) (a b : Scene) (path : Path) (w : Wanted) (s t : Tree)
     → IsMovedScene g a b
     → (i : HasImport g w s t)
     → i.back ≡ []
@@ -71,7 +72,7 @@ AdditionsAreMapped = (g : Move) (a b : Scene) (path : List ℕ) (w : Wanted) (s 
 
 -- An import less: the first tree has it no more, of which no earlier import had the path.
 abbrev pub DropsAreMapped : Type 0
-DropsAreMapped = (g : Move) (a b : Scene) (path : List ℕ) (w : Wanted) (s t : Tree)
+DropsAreMapped = (g : Move) (a b : Scene) (path : Path) (w : Wanted) (s t : Tree)
     → IsMovedScene g a b
     → (i : HasImport g w s t)
     → All (λ v. bytes_eq (value b w.path) (value a v.path) ≡ false) i.front

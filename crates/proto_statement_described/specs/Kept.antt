@@ -1,6 +1,7 @@
 -- What scenes of edited files need besides what their references mean: moved indices that
 -- stay apart, and a version that stays.
-use Rattle.std.specs.Prelude.{◌≡◌, ◌≢◌, ℕ, ◌+◌, ◌<◌, ◌≤◌, List}
+use Rattle.std.specs.Prelude.{◌≡◌, ◌≢◌, ℕ, ◌+◌, ◌<◌, ◌≤◌}
+use Rattle.proto_faults.specs.Texts.{Text}
 use Rattle.proto_text.specs.Segments.{moved}
 use Rattle.proto_tree.specs.Moved.{Move, move_tree}
 use Rattle.proto_tree.specs.Tree.{Tree}
@@ -23,7 +24,7 @@ NewTokensAreOwn = (place count token i : ℕ)
 
 -- A file that but for its imports is another, moved, has its version.
 abbrev pub ImportsKeepVersions : Type 0
-ImportsKeepVersions = (g : Move) (before after : ℕ → List ℕ) (s t : Tree)
+ImportsKeepVersions = (g : Move) (before after : ℕ → Text) (s t : Tree)
     → ((i : ℕ) → after (g i) ≡ before i)
     → without_imports t ≡ move_tree g (without_imports s)
     → is_proto3 after t ≡ is_proto3 before s
@@ -31,7 +32,7 @@ ImportsKeepVersions = (g : Move) (before after : ℕ → List ℕ) (s t : Tree)
 -- So has one without a field.
 abbrev pub DeletionsKeepVersions : Type 0
 DeletionsKeepVersions =
-    (g k : Move) (between before after : ℕ → List ℕ) (w : WrittenField) (r : Reservation)
+    (g k : Move) (between before after : ℕ → Text) (w : WrittenField) (r : Reservation)
     (x t u : Tree)
     → ((i : ℕ) → before (g i) ≡ between i)
     → ((i : ℕ) → after (k i) ≡ between i)

@@ -2,6 +2,7 @@
 -- the field in the old tree, which its name token tells.
 use Rattle.std.specs.Prelude.{◌≡◌, ℕ, ◌+◌, ◌==◌, Bool, false, if◌then◌else◌, List, [], ◌∷◌, length, flat_map, map, None}
 use Rattle.std.specs.List.{list_any}
+use Rattle.proto_faults.specs.Texts.{Path}
 use Rattle.proto_tree.specs.declared.piece.Header.TheVariants as header
 use Rattle.proto_tree.specs.declared.piece.Statement.{Statement}
 use Rattle.proto_tree.specs.declared.piece.Statement.TheVariants as statement
@@ -111,7 +112,7 @@ mapped_deletion token tree d = record {
 -- is not that of anything that stays.
 abbrev pub DeletionsAreMapped : Type 0
 DeletionsAreMapped =
-    (g k : Move) (middle old new : Scene) (path : List ℕ) (w : WrittenField) (r : Reservation)
+    (g k : Move) (middle old new : Scene) (path : Path) (w : WrittenField) (r : Reservation)
     (x t u : Tree)
     → IsMovedScene g middle old
     → IsMovedScene k middle new

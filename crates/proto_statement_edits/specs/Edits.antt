@@ -1,6 +1,7 @@
 -- A deleted field, an added and a dropped import over the files of a workspace: the case that
 -- refuses each, and what each changes.
 use Rattle.std.specs.Prelude.{◌≡◌, ℕ, ◌<◌, ◌^◌, List, string_bytes}
+use Rattle.proto_faults.specs.Texts.{Path, Text}
 use Rattle.proto_files.specs.FilesRead.{ReadOf, AreRead}
 use Rattle.proto_files.specs.GivenFiles.{FileOf, file_at}
 use Rattle.proto_entries.specs.declared.refusal.Refusal.{Refusal}
@@ -28,7 +29,7 @@ SomeReading files P = (reads : List ReadOf) × AreRead files reads × P reads
 
 -- the statement of the field of this full name
 pub record IsFieldNamed
-    (files : List FileOf) (reads : List ReadOf) (name : List ℕ) (f : FieldAt) : Type 0 where
+    (files : List FileOf) (reads : List ReadOf) (name : Text) (f : FieldAt) : Type 0 where
   pub t : Target
   pub field : IsField files reads name t
   pub token : t.token ≡ at f.file f.name
@@ -36,7 +37,7 @@ pub record IsFieldNamed
 
 -- Case n refuses the deletion; of several the least is answered.
 pub data RefusesDeletion
-    (files : List FileOf) (reads : List ReadOf) (name : List ℕ) : ℕ → Type 0 where
+    (files : List FileOf) (reads : List ReadOf) (name : Text) : ℕ → Type 0 where
   by_name : (n : ℕ) → DeletionCase files reads name n → RefusesDeletion files reads name n
   too_large : (f : FieldAt)
       → IsFieldNamed files reads name f
@@ -44,18 +45,18 @@ pub data RefusesDeletion
       → RefusesDeletion files reads name 16
 
 -- the case of this number refuses the deletion of the field of this name
-abbrev pub IsDeletionCase : List FileOf → List ℕ → ℕ → Type 0
+abbrev pub IsDeletionCase : List FileOf → Text → ℕ → Type 0
 IsDeletionCase files name n = SomeReading files (λ reads. RefusesDeletion files reads name n)
 
 -- the least case; memory may come in the place of any
-abbrev pub IsDeletionRefusal : List FileOf → List ℕ → Refusal → Type 0
+abbrev pub IsDeletionRefusal : List FileOf → Text → Refusal → Type 0
 IsDeletionRefusal files name refusal.NoMemory = Unit {0}
 IsDeletionRefusal files name (refusal.Captured path offset) = ⊥
 IsDeletionRefusal files name (refusal.Needed path offset) = ⊥
 IsDeletionRefusal files name r = IsLeastOf (IsDeletionCase files name) (number_of r)
 
 -- no case refuses it, and these are the changes
-pub record IsDeleted (files : List FileOf) (name : List ℕ) (cs : List ChangeOf) : Type 0 where
+pub record IsDeleted (files : List FileOf) (name : Text) (cs : List ChangeOf) : Type 0 where
   pub admissible : (n : ℕ) → IsDeletionCase files name n → ⊥
   pub changes : SomeReading files (λ reads.
       (f : FieldAt) × IsFieldNamed files reads name f × (cs ≡ changes_of_deletion files reads f))
@@ -72,7 +73,7 @@ HaveSmallNumbers files = (reads : List ReadOf)
 
 -- Case n refuses the import; of several the least is answered.
 pub data RefusesAddition
-    (files : List FileOf) (reads : List ReadOf) (file path : List ℕ) : ℕ → Type 0 where
+    (files : List FileOf) (reads : List ReadOf) (file path : Path) : ℕ → Type 0 where
   by_name : (n : ℕ) → AdditionCase files reads file path n → RefusesAddition files reads file path n
   too_large : (k : ℕ)
       → IsPlaceOf files file k
@@ -80,12 +81,12 @@ pub data RefusesAddition
       → RefusesAddition files reads file path 16
 
 -- the case of this number refuses that the file imports the path
-abbrev pub IsAdditionCase : List FileOf → List ℕ → List ℕ → ℕ → Type 0
+abbrev pub IsAdditionCase : List FileOf → Path → Path → ℕ → Type 0
 IsAdditionCase files file path n =
     SomeReading files (λ reads. RefusesAddition files reads file path n)
 
 -- the least case, with its place where a reference is overtaken
-abbrev pub IsAdditionRefusal : List FileOf → List ℕ → List ℕ → Refusal → Type 0
+abbrev pub IsAdditionRefusal : List FileOf → Path → Path → Refusal → Type 0
 IsAdditionRefusal files file path refusal.NoMemory = Unit {0}
 IsAdditionRefusal files file path (refusal.Captured place offset) =
     IsLeastOf (IsAdditionCase files file path) 7
@@ -94,7 +95,7 @@ IsAdditionRefusal files file path (refusal.Needed place offset) = ⊥
 IsAdditionRefusal files file path r = IsLeastOf (IsAdditionCase files file path) (number_of r)
 
 -- no case refuses it, and these are the changes
-pub record IsAdded (files : List FileOf) (file path : List ℕ) (cs : List ChangeOf) : Type 0 where
+pub record IsAdded (files : List FileOf) (file path : Path) (cs : List ChangeOf) : Type 0 where
   pub admissible : (n : ℕ) → IsAdditionCase files file path n → ⊥
   pub changes : SomeReading files
       (λ reads. (k : ℕ) × IsPlaceOf files file k × (cs ≡ changes_of_addition files reads k path))
@@ -102,11 +103,11 @@ pub record IsAdded (files : List FileOf) (file path : List ℕ) (cs : List Chang
 -- ---- an import dropped
 
 -- the case of this number refuses that the file imports the path no longer
-abbrev pub IsDropCase : List FileOf → List ℕ → List ℕ → ℕ → Type 0
+abbrev pub IsDropCase : List FileOf → Path → Path → ℕ → Type 0
 IsDropCase files file path n = SomeReading files (λ reads. DropCase files reads file path n)
 
 -- the least case, with its place where the import is needed
-abbrev pub IsDropRefusal : List FileOf → List ℕ → List ℕ → Refusal → Type 0
+abbrev pub IsDropRefusal : List FileOf → Path → Path → Refusal → Type 0
 IsDropRefusal files file path refusal.NoMemory = Unit {0}
 IsDropRefusal files file path (refusal.Captured place offset) = ⊥
 IsDropRefusal files file path (refusal.Needed place offset) =
@@ -115,7 +116,7 @@ IsDropRefusal files file path (refusal.Needed place offset) =
 IsDropRefusal files file path r = IsLeastOf (IsDropCase files file path) (number_of r)
 
 -- no case refuses it, and these are the changes
-pub record IsDropped (files : List FileOf) (file path : List ℕ) (cs : List ChangeOf) : Type 0 where
+pub record IsDropped (files : List FileOf) (file path : Path) (cs : List ChangeOf) : Type 0 where
   pub admissible : (n : ℕ) → IsDropCase files file path n → ⊥
   pub changes : SomeReading files (λ reads. (k : ℕ) × (i : Import) × IsPlaceOf files file k
       × IsImportOf files reads k path i × (cs ≡ changes_of_drop files reads k i))

@@ -1,5 +1,6 @@
 -- The field of a full name, by its tokens.
 use Rattle.std.specs.Prelude.{◌≡◌, ℕ, suc, Bool, true, false, ◌<◌, ◌≤◌, List, ◌++◌, length, codes, Option, Some, None, option_map}
+use Rattle.proto_faults.specs.Texts.{Text}
 use Rattle.proto_text.specs.declared.lexer.Token.{Token}
 use Rattle.proto_text.specs.Segments.{bytes_between, end_before}
 use Rattle.proto_text.specs.Tokens.{AreTokens}
@@ -25,7 +26,7 @@ is_field None = false
 is_field (Some k) = is_field_kind k
 
 -- the name token of the field of this full name
-abbrev pub IsFieldToken : List FileOf → List ReadOf → List ℕ → FieldName → Type 0
+abbrev pub IsFieldToken : List FileOf → List ReadOf → Text → FieldName → Type 0
 IsFieldToken files reads name field = (t : Target)
     × IsField files reads name t
     × (t.token ≡ at field.file field.token)
@@ -54,12 +55,12 @@ StandsInOrder files file p = (p.first ≤ p.semicolon)
     → last_of p < length tokens)
 
 -- what comes in their place, with the reservation
-abbrev pub text_if : List ℕ → List Token → ℕ → Option ℕ → List ℕ → List ℕ
+abbrev pub text_if : Text → List Token → ℕ → Option ℕ → Text → Text
 text_if text tokens semicolon None reserved = reserved
 text_if text tokens semicolon (Some close) reserved =
     bytes_between text (end_before tokens (suc semicolon)) (end_before tokens (suc close))
     ++ (codes " " ++ reserved)
 
 -- what comes in the place of a field that stands here, with this reservation
-abbrev pub text_by : List ℕ → List Token → FieldPlace → List ℕ → List ℕ
+abbrev pub text_by : Text → List Token → FieldPlace → Text → Text
 text_by text tokens p reserved = text_if text tokens p.semicolon p.oneof reserved

@@ -1,5 +1,6 @@
 -- The first import of a file that has a path, by the value of its string.
 use Rattle.std.specs.Prelude.{ℕ, Bool, if◌then◌else◌, List, Option, Some, None}
+use Rattle.proto_faults.specs.Texts.{Path}
 use Rattle.proto_files.specs.FilesRead.{ReadOf}
 use Rattle.proto_files.specs.GivenFiles.{FileOf}
 use Rattle.proto_tree.specs.declared.tree.Import.{Import}
@@ -11,7 +12,7 @@ use Rattle.proto_statement_changes.specs.ImportChanges.{IsImportOf}
 use Rattle.proto_statement_names.specs.Cases.{IsImported}
 
 -- the file does not import the path; or it does, by this statement
-abbrev pub IsImportNamed : List FileOf → List ReadOf → ℕ → List ℕ → Option Import → Type 0
+abbrev pub IsImportNamed : List FileOf → List ReadOf → ℕ → Path → Option Import → Type 0
 IsImportNamed files reads file path None = IsImported files reads file path → ⊥
 IsImportNamed files reads file path (Some i) = IsImported files reads file path
     × IsImportOf files reads file path i

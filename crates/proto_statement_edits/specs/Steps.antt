@@ -2,6 +2,7 @@
 use Rattle.std.specs.Prelude.{◌≡◌, ℕ, ◌<◌, Bool, false, not, List, [], length, map, get_or, Option, Some, None, option_map, slice_index_or, string_bytes}
 use Rattle.std.specs.Global.{Vec}
 use Rattle.std.specs.List.{All, find}
+use Rattle.proto_faults.specs.Texts.{Path}
 use Rattle.proto_text.specs.declared.lexer.Token.{Token}
 use Rattle.proto_text.specs.Texts.{offset_at}
 use Rattle.proto_text.specs.Tokens.{AreTokens}
@@ -50,7 +51,7 @@ first_hidden l file marks =
     option_map (λ m. m.token) (find (λ m. is_hidden l marks m.row) (get_or l.meant file []))
 
 -- nothing needs the import; or this does, and nothing that stands before it
-abbrev pub IsFirstNeeded : List FileOf → List ReadOf → ℕ → List ℕ → Option RefId → Type 0
+abbrev pub IsFirstNeeded : List FileOf → List ReadOf → ℕ → Path → Option RefId → Type 0
 IsFirstNeeded files reads k path None = (u : Used At) → IsNeededIn files reads k path u → ⊥
 IsFirstNeeded files reads k path (Some id) = (u : Used At)
     × IsNeededIn files reads k path u
@@ -58,7 +59,7 @@ IsFirstNeeded files reads k path (Some id) = (u : Used At)
     × ((v : Used At) → IsNeededIn files reads k path v → StandsBefore v.first u.first → ⊥)
 
 -- the place of the refusal: the path of the file, and where the token begins
-abbrev pub StandsAtToken : List FileOf → ℕ → ℕ → List ℕ → ℕ → Type 0
+abbrev pub StandsAtToken : List FileOf → ℕ → ℕ → Path → ℕ → Type 0
 StandsAtToken files file token path offset = (path ≡ (file_at files file).path)
     × ((tokens : List Token) → AreTokens (file_at files file).bytes tokens
     → offset ≡ offset_at tokens token)

@@ -1,6 +1,7 @@
 -- A file that an edit of another one leaves: what is asked of it, so that it reads the same.
 use Rattle.std.specs.Prelude.{◌≡◌, ℕ, List, Some}
 use Rattle.std.specs.List.{Contains}
+use Rattle.proto_faults.specs.Texts.{Text}
 use Rattle.proto_files.specs.FilesRead.{ReadOf}
 use Rattle.proto_files.specs.GivenFiles.{FileOf}
 use Rattle.proto_meaning.specs.Skeleton.{Used}
@@ -17,7 +18,7 @@ pub record IsLeft
   pub tree : tree_at seen k ≡ tree_at reads k
   pub enums : (u : Used ℕ)
       → Contains (uses_of reads k) u
-      → (m : List (List ℕ))
+      → (m : List Text)
       → meaning_of files reads k u ≡ Some m
       → enum_named after seen m ≡ enum_named files reads m
 

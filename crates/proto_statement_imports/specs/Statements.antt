@@ -1,5 +1,6 @@
 -- Which statement imports a path, where no case refuses an added or a dropped import: there is one.
 use Rattle.std.specs.Prelude.{◌≡◌, ℕ, List}
+use Rattle.proto_faults.specs.Texts.{Path}
 use Rattle.proto_files.specs.Faults.{HasNoFault}
 use Rattle.proto_files.specs.FilesRead.{AreRead, ReadOf}
 use Rattle.proto_files.specs.GivenFiles.{FileOf}
@@ -10,13 +11,13 @@ use Rattle.proto_statement_names.specs.Cases.{AdditionCase, DropCase, IsPlaceOf}
 
 -- A file that may get an import is there.
 abbrev pub FilesAreThere : Type 0
-FilesAreThere = (files : List FileOf) (reads : List ReadOf) (file path : List ℕ)
+FilesAreThere = (files : List FileOf) (reads : List ReadOf) (file path : Path)
     → ((n : ℕ) → AdditionCase files reads file path n → ⊥)
     → (place : ℕ) × IsPlaceOf files file place
 
 -- A file of which an import may be dropped is there, and the import,
 abbrev pub ImportsAreThere : Type 0
-ImportsAreThere = (files : List FileOf) (reads : List ReadOf) (file path : List ℕ)
+ImportsAreThere = (files : List FileOf) (reads : List ReadOf) (file path : Path)
     → AreRead files reads
     → ((n : ℕ) → DropCase files reads file path n → ⊥)
     → (place : ℕ) × (i : Import) × IsPlaceOf files file place × IsImportOf files reads place path i
@@ -24,7 +25,7 @@ ImportsAreThere = (files : List FileOf) (reads : List ReadOf) (file path : List 
 -- and it is one.
 abbrev pub ImportsAreOne : Type 0
 ImportsAreOne =
-    (files : List FileOf) (reads : List ReadOf) (path : List ℕ) (place : ℕ) (i j : Import)
+    (files : List FileOf) (reads : List ReadOf) (path : Path) (place : ℕ) (i j : Import)
     → AreRead files reads
     → HasNoFault (LinkFaults files)
     → IsImportOf files reads place path i

@@ -1,5 +1,6 @@
 -- An import added to a file of a workspace without a fault, and one dropped: the files then.
 use Rattle.std.specs.Prelude.{◌≡◌, ℕ, List}
+use Rattle.proto_faults.specs.Texts.{Path}
 use Rattle.proto_files.specs.Faults.{HasNoFault}
 use Rattle.proto_files.specs.FilesRead.{ReadOf}
 use Rattle.proto_files.specs.GivenFiles.{FileOf, file_at}
@@ -39,7 +40,7 @@ pub record IsMade
 -- no case refuses that the file of the one path imports the other,
 -- and the file would not be too long
 pub record MayAdd
-    (files : List FileOf) (reads : List ReadOf) (file path : List ℕ) (place : ℕ) : Type 0 where
+    (files : List FileOf) (reads : List ReadOf) (file path : Path) (place : ℕ) : Type 0 where
   pub faultless : AreFaultless files reads
   pub at : IsPlaceOf files file place
   pub free : (n : ℕ) → AdditionCase files reads file path n → ⊥
@@ -47,7 +48,7 @@ pub record MayAdd
 
 -- An added import that no case refuses can be made, and its file's descriptor has the path as well.
 abbrev pub AdditionsAreMade : Type 0
-AdditionsAreMade = (files : List FileOf) (reads : List ReadOf) (file path : List ℕ) (place : ℕ)
+AdditionsAreMade = (files : List FileOf) (reads : List ReadOf) (file path : Path) (place : ℕ)
     → MayAdd files reads file path place
     → (after : List FileOf) × (seen : List ReadOf)
     × IsMade files (changes_of_addition files reads place path) place (with_dependency path) after
@@ -58,7 +59,7 @@ AdditionsAreMade = (files : List FileOf) (reads : List ReadOf) (file path : List
 -- no case refuses that the file of the one path imports the other no more,
 -- and this is the statement that does
 pub record MayDrop
-    (files : List FileOf) (reads : List ReadOf) (file path : List ℕ) (place : ℕ) (i : Import)
+    (files : List FileOf) (reads : List ReadOf) (file path : Path) (place : ℕ) (i : Import)
     : Type 0 where
   pub faultless : AreFaultless files reads
   pub at : IsPlaceOf files file place
@@ -68,7 +69,7 @@ pub record MayDrop
 -- A dropped import that no case refuses can be made, and its file's descriptor loses the path.
 abbrev pub DropsAreMade : Type 0
 DropsAreMade =
-    (files : List FileOf) (reads : List ReadOf) (file path : List ℕ) (place : ℕ) (i : Import)
+    (files : List FileOf) (reads : List ReadOf) (file path : Path) (place : ℕ) (i : Import)
     → MayDrop files reads file path place i
     → (after : List FileOf) × (seen : List ReadOf)
     × IsMade files (changes_of_drop files reads place i) place (without_dependency path) after seen

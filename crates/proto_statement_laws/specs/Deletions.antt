@@ -2,6 +2,7 @@
 -- its place, and what is read then.
 use Rattle.std.specs.Prelude.{◌≡◌, ℕ, suc, ◌-◌, ◌<◌, ◌^◌, List, [], ◌∷◌, ◌++◌, take, drop, map, codes, Option, Some, None}
 use Rattle.std.specs.Str.{IsUtf8}
+use Rattle.proto_faults.specs.Texts.{Text}
 use Rattle.proto_text.specs.declared.class.Class.TheVariants.{Letter}
 use Rattle.proto_text.specs.declared.lexer.Token.{Token}
 use Rattle.proto_text.specs.Edits.{Edit, Puts}
@@ -85,13 +86,13 @@ abbrev pub ends : List Token → Statement → ℕ
 ends tokens s = end_before tokens (next_token s)
 
 -- another text in the place of the text from one offset up to the other
-abbrev pub splice : List ℕ → ℕ → ℕ → List ℕ → Edit
+abbrev pub splice : Text → ℕ → ℕ → Text → Edit
 splice text from to new = record { at = from; old = bytes_between text from to; new = new }
 
 -- Right in a message the reservation comes in the place of the statement. In a
 -- oneof, what stands behind the statement comes in its place, through the oneof's
 -- `}`, and the reservation behind that.
-abbrev pub deletion : List ℕ → List Token → Statement → Option ℕ → ℕ → List ℕ → Edit
+abbrev pub deletion : Text → List Token → Statement → Option ℕ → ℕ → Text → Edit
 deletion text tokens s None number name =
     splice text (begins tokens s) (ends tokens s) (reservation_text number name)
 deletion text tokens s (Some close) number name =
@@ -118,8 +119,8 @@ reserved_at s (Some close) = suc close - (next_token s - first_token s)
 -- A deletion is of one tree, which has neither the field nor the reservation: the old tree is that
 -- tree with the field put in, and the new one is that tree with the reservation put in.
 pub record IsDeleted
-    (text : List ℕ) (tokens : List Token) (t : Tree) (s : Statement) (o : Option ℕ) (number : ℕ)
-    (name result : List ℕ) (after : List Token) (u : Tree) : Type 0 where
+    (text : Text) (tokens : List Token) (t : Tree) (s : Statement) (o : Option ℕ) (number : ℕ)
+    (name result : Text) (after : List Token) (u : Tree) : Type 0 where
   pub put : Puts 0 text (deletion text tokens s o number name ∷ []) result
   pub utf8 : IsUtf8 text → IsUtf8 result
   pub reads : Reads result after u
@@ -133,19 +134,19 @@ pub record IsDeleted
 -- Where a field of a number below 2^64 is deleted, a tree is read of what comes out.
 abbrev pub DeletionsAreOfOneTree : Type 0
 DeletionsAreOfOneTree =
-    (text : List ℕ) (tokens : List Token) (t : Tree) (s : Statement) (o : Option ℕ) (number : ℕ)
-    (name : List ℕ)
+    (text : Text) (tokens : List Token) (t : Tree) (s : Statement) (o : Option ℕ) (number : ℕ)
+    (name : Text)
     → Reads text tokens t
     → StandsAt s o t
     → number < 2 ^ 64
     → IsRun Letter name
-    → (result : List ℕ) × (after : List Token) × (u : Tree)
+    → (result : Text) × (after : List Token) × (u : Tree)
     × IsDeleted text tokens t s o number name result after u
 
 -- A token names the field of one statement.
 abbrev pub FieldsStandOnce : Type 0
 FieldsStandOnce =
-    (text : List ℕ) (tokens : List Token) (t : Tree) (s x : Statement) (o p : Option ℕ)
+    (text : Text) (tokens : List Token) (t : Tree) (s x : Statement) (o p : Option ℕ)
     (name number other : ℕ)
     → Reads text tokens t
     → StandsAt s o t

@@ -1,6 +1,7 @@
 -- An import that is added or dropped: its place, its splice, and what is read then.
 use Rattle.std.specs.Prelude.{◌≡◌, ℕ, zero, suc, List, [], ◌∷◌, ◌++◌, map, flat_map, codes}
 use Rattle.std.specs.Str.{IsUtf8}
+use Rattle.proto_faults.specs.Texts.{Path, Text}
 use Rattle.proto_text.specs.declared.lexer.Token.{Token}
 use Rattle.proto_text.specs.Edits.{Edit, Puts}
 use Rattle.proto_text.specs.Segments.{end_before, moved, quoted}
@@ -51,17 +52,17 @@ import_place t = last_from 0 (flat_map behind_syntax (statements t)
 -- ---- the splices
 
 -- a line of its own: behind what stands there, or before all
-abbrev pub added_text : ℕ → List ℕ → List ℕ
+abbrev pub added_text : ℕ → Path → Text
 added_text zero path = import_text path ++ codes "\n"
 added_text (suc place) path = codes "\n" ++ import_text path
 
 -- nothing goes
-abbrev pub addition : List ℕ → List Token → Tree → List ℕ → Edit
+abbrev pub addition : Text → List Token → Tree → Path → Edit
 addition text tokens t path = splice text (end_before tokens (import_place t))
     (end_before tokens (import_place t)) (added_text (import_place t) path)
 
 -- nothing comes
-abbrev pub drop_of : List ℕ → List Token → Import → Edit
+abbrev pub drop_of : Text → List Token → Import → Edit
 drop_of text tokens i =
     splice text (begins tokens (statement.Import i)) (ends tokens (statement.Import i)) []
 
@@ -87,8 +88,8 @@ ImportsComeIn = (g : Move) (i : Import) (t u : Tree)
 
 -- The import is put in, and is the last.
 pub record IsAdded
-    (text : List ℕ) (tokens : List Token) (t : Tree) (path result : List ℕ) (after : List Token)
-    (u : Tree) : Type 0 where
+    (text : Text) (tokens : List Token) (t : Tree) (path : Path) (result : Text)
+    (after : List Token) (u : Tree) : Type 0 where
   pub put : Puts 0 text (addition text tokens t path ∷ []) result
   pub utf8 : IsUtf8 path → IsUtf8 text → IsUtf8 result
   pub reads : Reads result after u
@@ -99,15 +100,15 @@ pub record IsAdded
 
 -- Where a string of the path in quotes is put in, a tree is read of what comes out.
 abbrev pub AdditionsAreRead : Type 0
-AdditionsAreRead = (text : List ℕ) (tokens : List Token) (t : Tree) (path : List ℕ)
+AdditionsAreRead = (text : Text) (tokens : List Token) (t : Tree) (path : Path)
     → Reads text tokens t
     → IsString (quoted path)
-    → (result : List ℕ) × (after : List Token) × (u : Tree)
+    → (result : Text) × (after : List Token) × (u : Tree)
     × IsAdded text tokens t path result after u
 
 -- The old tree is the new one with the import put in.
 pub record IsDropped
-    (text : List ℕ) (tokens : List Token) (t : Tree) (i : Import) (result : List ℕ)
+    (text : Text) (tokens : List Token) (t : Tree) (i : Import) (result : Text)
     (after : List Token) (u : Tree) : Type 0 where
   pub put : Puts 0 text (drop_of text tokens i ∷ []) result
   pub utf8 : IsUtf8 text → IsUtf8 result
@@ -120,8 +121,8 @@ pub record IsDropped
 
 -- Where an import is taken out, a tree is read of what comes out.
 abbrev pub DropsAreRead : Type 0
-DropsAreRead = (text : List ℕ) (tokens : List Token) (t : Tree) (i : Import)
+DropsAreRead = (text : Text) (tokens : List Token) (t : Tree) (i : Import)
     → Reads text tokens t
     → StandsIn (statement.Import i) t
-    → (result : List ℕ) × (after : List Token) × (u : Tree)
+    → (result : Text) × (after : List Token) × (u : Tree)
     × IsDropped text tokens t i result after u

@@ -1,5 +1,6 @@
 -- What is read of a text in which statements come in the place of statements.
 use Rattle.std.specs.Prelude.{◌≡◌, ℕ, ◌+◌, ◌≤◌, false, List, [], ◌∷◌, ◌++◌, length}
+use Rattle.proto_faults.specs.Texts.{Text}
 use Rattle.proto_text.specs.declared.lexer.Token.{Token}
 use Rattle.proto_text.specs.Segments.{IsPlace, IsReplaced, IsSeam, IsSegment}
 use Rattle.proto_text.specs.Tokens.{Lexeme}
@@ -36,7 +37,7 @@ AreStatements (Block h i within j rest) = ⊥
 -- A place of items begins and ends behind tokens that end by themselves.
 abbrev pub PlacesAreSeams : Type 0
 PlacesAreSeams =
-    (text : List ℕ) (tokens : List Token) (g : Move) (a b t u : Tree)
+    (text : Text) (tokens : List Token) (g : Move) (a b t u : Tree)
     (r : IsExchanged g a b context.Start t u)
     → Reads text tokens t
     → IsSeam tokens (before r)
@@ -47,8 +48,8 @@ PlacesAreSeams =
 -- second tree is read of what comes out.
 abbrev pub StatementsAreRead : Type 0
 StatementsAreRead =
-    (text : List ℕ) (tokens : List Token) (g : Move) (a b t u : Tree)
-    (r : IsExchanged g a b context.Start t u) (from to : ℕ) (new : List ℕ) (ls : List Lexeme)
+    (text : Text) (tokens : List Token) (g : Move) (a b t u : Tree)
+    (r : IsExchanged g a b context.Start t u) (from to : ℕ) (new : Text) (ls : List Lexeme)
     → Reads text tokens t
     → AreStatements a
     → AreStatements b
@@ -58,6 +59,6 @@ StatementsAreRead =
     → IsSegment new ls
     → Fit (flat b) (classes (before r) ls)
     → MovesBy g (before r) (length (flat a)) (length ls)
-    → (result : List ℕ) × (after : List Token)
+    → (result : Text) × (after : List Token)
     × IsReplaced text tokens (before r) (before r + length (flat a)) from to new ls result after
     × Reads result after u

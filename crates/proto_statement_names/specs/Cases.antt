@@ -3,6 +3,7 @@
 use Rattle.std.specs.Prelude.{◌≡◌, ◌≢◌, ℕ, Bool, not, ◌&&◌, ◌==◌, List, [], ◌∷◌, ◌++◌, map, Some, None}
 use Rattle.std.specs.List.{Contains, filter}
 use Rattle.std.specs.Str.{bytes_eq}
+use Rattle.proto_faults.specs.Texts.{Path, Text}
 use Rattle.proto_case.specs.Camel.{entry_name}
 use Rattle.proto_tree.specs.declared.piece.Header.TheVariants as header
 use Rattle.proto_tree.specs.declared.piece.Heading.{Heading}
@@ -25,7 +26,7 @@ use Rattle.proto_rename_laws.specs.Targets.{IsNamed, Target}
 
 -- a written field of this full name
 pub record IsField
-    (files : List FileOf) (reads : List ReadOf) (name : List ℕ) (t : Target) : Type 0 where
+    (files : List FileOf) (reads : List ReadOf) (name : Text) (t : Target) : Type 0 where
   pub named : IsNamed files reads name t
   pub kind : t.aim.kind ≡ Field
 
@@ -38,7 +39,7 @@ pub record IsAlone (reads : List ReadOf) (a : At) : Type 0 where
   pub only : map (λ f. f.name) (fields_in b.within) ≡ a.token ∷ []
 
 -- Case n refuses the deletion; of several the least is answered.
-pub data DeletionCase (files : List FileOf) (reads : List ReadOf) (name : List ℕ) : ℕ → Type 0 where
+pub data DeletionCase (files : List FileOf) (reads : List ReadOf) (name : Text) : ℕ → Type 0 where
   unknown_target : IsUnknown files reads name → DeletionCase files reads name 1
   kind_not_allowed : (s : Symbol)
       → Contains (names_of_files files reads).symbols s
@@ -53,15 +54,15 @@ pub data DeletionCase (files : List FileOf) (reads : List ReadOf) (name : List �
 -- ---- imports
 
 -- the file at this place has this path
-abbrev pub IsPlaceOf : List FileOf → List ℕ → ℕ → Type 0
+abbrev pub IsPlaceOf : List FileOf → Path → ℕ → Type 0
 IsPlaceOf files path k = file_of (paths_of files) path ≡ Some k
 
 -- No file has this path.
-abbrev pub IsNoFile : List FileOf → List ℕ → Type 0
+abbrev pub IsNoFile : List FileOf → Path → Type 0
 IsNoFile files path = file_of (paths_of files) path ≡ None
 
 -- it is an import of this path by this file
-abbrev pub is_import_of : ℕ → List ℕ → Asked → Bool
+abbrev pub is_import_of : ℕ → Path → Asked → Bool
 is_import_of k path a = (a.place.file == k) && bytes_eq a.path path
 
 -- what each file asks for by its imports, file by file
@@ -69,7 +70,7 @@ abbrev pub asked_in : List FileOf → List ReadOf → List Asked
 asked_in files reads = all_wanted (text_of files reads) 0 reads
 
 -- the file imports the path, however its string is spelled
-abbrev pub IsImported : List FileOf → List ReadOf → ℕ → List ℕ → Type 0
+abbrev pub IsImported : List FileOf → List ReadOf → ℕ → Path → Type 0
 IsImported files reads k path = (a : Asked)
     × Contains (asked_in files reads) a
     × (a.place.file ≡ k)
@@ -92,7 +93,7 @@ pub record IsOvertakenIn
 
 -- Case n refuses to add the import of the path to the file; of several the least is answered.
 pub data AdditionCase
-    (files : List FileOf) (reads : List ReadOf) (file path : List ℕ) : ℕ → Type 0 where
+    (files : List FileOf) (reads : List ReadOf) (file path : Path) : ℕ → Type 0 where
   captured : (k to : ℕ) (u : Used At)
       → IsPlaceOf files file k
       → IsPlaceOf files path to
@@ -112,7 +113,7 @@ pub data AdditionCase
       → AdditionCase files reads file path 14
 
 -- the place that is answered with case 7: that of the least such reference
-abbrev pub IsOvertakenAt : List FileOf → List ReadOf → List ℕ → List ℕ → List ℕ → ℕ → Type 0
+abbrev pub IsOvertakenAt : List FileOf → List ReadOf → Path → Path → Path → ℕ → Type 0
 IsOvertakenAt files reads file path place offset = (k to : ℕ)
     × IsPlaceOf files file k
     × IsPlaceOf files path to
@@ -121,20 +122,20 @@ IsOvertakenAt files reads file path place offset = (k to : ℕ)
 -- ---- an import less
 
 -- the names, where the file at k does not import the path
-abbrev pub with_dropped : List FileOf → List ReadOf → ℕ → List ℕ → Workspace
+abbrev pub with_dropped : List FileOf → List ReadOf → ℕ → Path → Workspace
 with_dropped files reads k path = with_imports (names_of_files files reads)
     (imports_of (paths_of files) (filter (λ a. not (is_import_of k path a)) (asked_in files reads)))
 
 -- a reference of any file that means what its file would no longer see
 pub record IsNeededIn
-    (files : List FileOf) (reads : List ReadOf) (k : ℕ) (path : List ℕ) (u : Used At) : Type 0 where
+    (files : List FileOf) (reads : List ReadOf) (k : ℕ) (path : Path) (u : Used At) : Type 0 where
   pub used : Contains (link_skeleton files reads).used u
   pub needed : IsNeeded (names_of_files files reads) (with_dropped files reads k path)
       (reference_of (text_of files reads) entry_name u)
 
 -- Case n refuses to drop the import of the path from the file; of several the least is answered.
 pub data DropCase
-    (files : List FileOf) (reads : List ReadOf) (file path : List ℕ) : ℕ → Type 0 where
+    (files : List FileOf) (reads : List ReadOf) (file path : Path) : ℕ → Type 0 where
   no_such_file : IsNoFile files file → DropCase files reads file path 11
   not_imported : (k : ℕ)
       → IsPlaceOf files file k
@@ -146,7 +147,7 @@ pub data DropCase
       → DropCase files reads file path 15
 
 -- the place that is answered with case 15
-abbrev pub IsNeededAt : List FileOf → List ReadOf → List ℕ → List ℕ → List ℕ → ℕ → Type 0
+abbrev pub IsNeededAt : List FileOf → List ReadOf → Path → Path → Path → ℕ → Type 0
 IsNeededAt files reads file path place offset = (k : ℕ)
     × IsPlaceOf files file k
     × IsFirstPlace files reads (IsNeededIn files reads k path) place offset

@@ -1,5 +1,6 @@
 -- A name that neither case 1 nor case 2 refuses to delete is that of one written field.
-use Rattle.std.specs.Prelude.{◌≡◌, ℕ, List}
+use Rattle.std.specs.Prelude.{◌≡◌, List}
+use Rattle.proto_faults.specs.Texts.{Text}
 use Rattle.proto_files.specs.Faults.{HasNoFault}
 use Rattle.proto_files.specs.GivenFiles.{FileOf}
 use Rattle.proto_files.specs.FilesRead.{ReadOf, AreRead}
@@ -9,7 +10,7 @@ use Rattle.proto_statement_names.specs.Cases.{DeletionCase, IsField}
 
 -- There is a field,
 abbrev pub FieldsAreThere : Type 0
-FieldsAreThere = (files : List FileOf) (reads : List ReadOf) (name : List ℕ)
+FieldsAreThere = (files : List FileOf) (reads : List ReadOf) (name : Text)
     → AreRead files reads
     → (DeletionCase files reads name 1 → ⊥)
     → (DeletionCase files reads name 2 → ⊥)
@@ -17,7 +18,7 @@ FieldsAreThere = (files : List FileOf) (reads : List ReadOf) (name : List ℕ)
 
 -- one alone,
 abbrev pub FieldsAreOne : Type 0
-FieldsAreOne = (files : List FileOf) (reads : List ReadOf) (name : List ℕ) (t u : Target)
+FieldsAreOne = (files : List FileOf) (reads : List ReadOf) (name : Text) (t u : Target)
     → AreRead files reads
     → HasNoFault (LinkFaults files)
     → IsField files reads name t
@@ -26,7 +27,7 @@ FieldsAreOne = (files : List FileOf) (reads : List ReadOf) (name : List ℕ) (t 
 
 -- and its name is refused by neither case.
 abbrev pub FieldsMayGo : Type 0
-FieldsMayGo = (files : List FileOf) (reads : List ReadOf) (name : List ℕ) (t : Target)
+FieldsMayGo = (files : List FileOf) (reads : List ReadOf) (name : Text) (t : Target)
     → AreRead files reads
     → HasNoFault (LinkFaults files)
     → IsField files reads name t

@@ -1,6 +1,7 @@
 -- Files before and after a field is deleted in one of them, and before and after one of them gets
 -- an import: what is asked of the trees and texts, and the names that come out.
 use Rattle.std.specs.Prelude.{◌≡◌, ◌≢◌, ℕ, Bool, true, List, ◌∷◌, ◌++◌, length, map, Some}
+use Rattle.proto_faults.specs.Texts.{Path, Text}
 use Rattle.proto_text.specs.Values.{value_of}
 use Rattle.proto_tree.specs.Moved.{Move}
 use Rattle.proto_tree.specs.Tree.{Tree}
@@ -49,7 +50,7 @@ pub record IsFieldLess
     : Type 0 where
   pub file : IsOneFile files reads after seen
   pub middle : Tree
-  pub words : ℕ → List ℕ
+  pub words : ℕ → Text
   pub to_old : Move
   pub to_new : Move
   pub more : DeclaresMore to_old middle file.old.tree
@@ -73,7 +74,7 @@ DeletionsHaveLess =
 -- The file at this place imports this other one as well; all else is the same, moved.
 pub record IsImportMore
     (files : List FileOf) (reads : List ReadOf) (after : List FileOf) (seen : List ReadOf)
-    (from : ℕ) (path : List ℕ) (is_public : Bool) : Type 0 where
+    (from : ℕ) (path : Path) (is_public : Bool) : Type 0 where
   pub file : IsOneFile files reads after seen
   pub place : from ≡ length file.before
   pub move : Move
@@ -90,7 +91,7 @@ pub record IsImportMore
 abbrev pub ImportsAreMore : Type 0
 ImportsAreMore =
     (files : List FileOf) (reads : List ReadOf) (after : List FileOf) (seen : List ReadOf)
-    (from to : ℕ) (path : List ℕ) (is_public : Bool)
+    (from to : ℕ) (path : Path) (is_public : Bool)
     → IsImportMore files reads after seen from path is_public
     → file_of (paths_of files) path ≡ Some to
     → (names_of_files after seen

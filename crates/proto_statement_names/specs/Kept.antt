@@ -2,6 +2,7 @@
 -- it meant, and no fault of imports, names and references comes in.
 use Rattle.std.specs.Prelude.{◌≡◌, ℕ, Bool, false, List}
 use Rattle.std.specs.List.{Contains}
+use Rattle.proto_faults.specs.Texts.{Path}
 use Rattle.proto_files.specs.Faults.{HasNoFault}
 use Rattle.proto_files.specs.GivenFiles.{FileOf}
 use Rattle.proto_files.specs.FilesRead.{ReadOf, AreRead}
@@ -41,7 +42,7 @@ DeletionsKeepLinks =
 -- the file of the one path imports the other as well, and no case refuses it
 pub record IsAdded
     (files : List FileOf) (reads : List ReadOf) (after : List FileOf) (seen : List ReadOf)
-    (file path : List ℕ) : Type 0 where
+    (file path : Path) : Type 0 where
   pub from : ℕ
   pub place : IsPlaceOf files file from
   pub more : IsImportMore files reads after seen from path false
@@ -51,7 +52,7 @@ pub record IsAdded
 abbrev pub AdditionsKeepMeanings : Type 0
 AdditionsKeepMeanings =
     (files : List FileOf) (reads : List ReadOf) (after : List FileOf) (seen : List ReadOf)
-    (file path : List ℕ)
+    (file path : Path)
     → AreClean files reads
     → IsAdded files reads after seen file path
     → MeanTheSame files reads after seen
@@ -60,7 +61,7 @@ AdditionsKeepMeanings =
 abbrev pub AdditionsKeepLinks : Type 0
 AdditionsKeepLinks =
     (files : List FileOf) (reads : List ReadOf) (after : List FileOf) (seen : List ReadOf)
-    (file path : List ℕ)
+    (file path : Path)
     → AreClean files reads
     → AreRead after seen
     → IsAdded files reads after seen file path
@@ -72,7 +73,7 @@ AdditionsKeepLinks =
 -- one, and no case refuses to drop it
 pub record IsDropped
     (files : List FileOf) (reads : List ReadOf) (after : List FileOf) (seen : List ReadOf)
-    (file path : List ℕ) : Type 0 where
+    (file path : Path) : Type 0 where
   pub from : ℕ
   pub place : IsPlaceOf files file from
   pub is_public : Bool
@@ -83,7 +84,7 @@ pub record IsDropped
 abbrev pub DropsKeepMeanings : Type 0
 DropsKeepMeanings =
     (files : List FileOf) (reads : List ReadOf) (after : List FileOf) (seen : List ReadOf)
-    (file path : List ℕ)
+    (file path : Path)
     → AreClean files reads
     → IsDropped files reads after seen file path
     → MeanTheSame files reads after seen
@@ -92,7 +93,7 @@ DropsKeepMeanings =
 abbrev pub DropsKeepLinks : Type 0
 DropsKeepLinks =
     (files : List FileOf) (reads : List ReadOf) (after : List FileOf) (seen : List ReadOf)
-    (file path : List ℕ)
+    (file path : Path)
     → AreClean files reads
     → AreRead after seen
     → IsDropped files reads after seen file path

@@ -1,6 +1,7 @@
 -- A workspace without some of its fields and entries: what its references mean.
-use Rattle.std.specs.Prelude.{◌≡◌, ℕ, Bool, true, false, List, Some}
+use Rattle.std.specs.Prelude.{◌≡◌, Bool, true, false, List, Some}
 use Rattle.std.specs.List.{Contains}
+use Rattle.proto_faults.specs.Texts.{Text}
 use Rattle.proto_meaning.specs.declared.kind.Kind.{Kind}
 use Rattle.proto_meaning.specs.declared.kind.Kind.TheVariants.{Field, Entry, EntryField}
 use Rattle.proto_meaning.specs.Linked.{IsLinked, IsNested}
@@ -33,7 +34,7 @@ LessMeans = (w v : Workspace)
     → HasLess w v
     → (r : Reference)
     → Contains w.references r
-    → (m : List (List ℕ))
+    → (m : List Text)
     → meaning w r ≡ Some m
     → meaning v r ≡ Some m
 

@@ -1,6 +1,7 @@
 -- When what was found is what a name aims at, and why a name may aim at nothing.
-use Rattle.std.specs.Prelude.{◌≡◌, ◌<◌, ◌++◌, false, List, ℕ, length}
+use Rattle.std.specs.Prelude.{◌≡◌, ◌<◌, ◌++◌, false, List, length}
 use Rattle.std.specs.List.{Contains}
+use Rattle.proto_faults.specs.Texts.{Text}
 use Rattle.proto_files.specs.GivenFiles.{FileOf}
 use Rattle.proto_files.specs.FilesRead.{ReadOf, AreRead}
 use Rattle.proto_meaning.specs.Grown.{at}
@@ -28,14 +29,14 @@ IsAimOf files a = (reads : List ReadOf)
     → (t : Target) × IsAimedAt files reads a t
 
 -- a symbol has the name that may not be renamed
-pub record IsNotAllowed (files : List FileOf) (reads : List ReadOf) (name : List ℕ) : Type 0 where
+pub record IsNotAllowed (files : List FileOf) (reads : List ReadOf) (name : Text) : Type 0 where
   pub symbol : Symbol
   pub within : Contains (names_of_files files reads).symbols symbol
   pub name_is : joined symbol.name ≡ name
   pub kind : may_rename symbol.kind ≡ false
 
 -- why the name aims at nothing
-abbrev pub IsNoTarget : List FileOf → List ℕ → NoTarget → Type 0
+abbrev pub IsNoTarget : List FileOf → Text → NoTarget → Type 0
 IsNoTarget files name Unknown = (reads : List ReadOf)
     → AreRead files reads
     → IsUnknown files reads name
@@ -48,4 +49,4 @@ IsNoTarget files name NoMemory = Unit {0}
 abbrev pub IsSpelled : List FileOf → Aim → Type 0
 IsSpelled files a = (a.file < length files)
     × ((reads : List ReadOf) → AreRead files reads
-    → (front : List ℕ) × (a.name.now ≡ front ++ text_of files reads (at a.file a.token)))
+    → (front : Text) × (a.name.now ≡ front ++ text_of files reads (at a.file a.token)))

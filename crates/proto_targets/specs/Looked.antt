@@ -1,5 +1,6 @@
 -- What is looked up in a link: the declaration of a name, and the entry of a map field.
-use Rattle.std.specs.Prelude.{◌≡◌, ◌≢◌, ℕ, false, List, get_or, Some}
+use Rattle.std.specs.Prelude.{◌≡◌, ◌≢◌, ℕ, false, get_or, Some}
+use Rattle.proto_faults.specs.Texts.{Text}
 use Rattle.proto_meaning.specs.Grown.{At, at}
 use Rattle.proto_meaning.specs.declared.kind.Kind.{Kind}
 use Rattle.proto_meaning.specs.declared.kind.Kind.TheVariants.{Entry}
@@ -13,7 +14,7 @@ abbrev pub first_place : NameOf → At
 first_place n = at (get_or n.files 0 0) n.token
 
 -- the name with this text is of the kind, and declared there
-pub record HasDeclared (l : LinkOf) (text : List ℕ) (kind : Kind) (place : At) : Type 0 where
+pub record HasDeclared (l : LinkOf) (text : Text) (kind : Kind) (place : At) : Type 0 where
   pub row : ℕ
   pub found : NameOf
   pub is : name_at l row ≡ Some found
@@ -22,11 +23,11 @@ pub record HasDeclared (l : LinkOf) (text : List ℕ) (kind : Kind) (place : At)
   pub place_is : first_place found ≡ place
 
 -- some name has the text
-abbrev pub HasText : LinkOf → List ℕ → Type 0
+abbrev pub HasText : LinkOf → Text → Type 0
 HasText l text = (row : ℕ) × (text_at l row ≡ Some text)
 
 -- the name is of a kind that may not be renamed
-pub record HasUnmoved (l : LinkOf) (text : List ℕ) : Type 0 where
+pub record HasUnmoved (l : LinkOf) (text : Text) : Type 0 where
   pub row : ℕ
   pub found : NameOf
   pub is : name_at l row ≡ Some found
@@ -34,7 +35,7 @@ pub record HasUnmoved (l : LinkOf) (text : List ℕ) : Type 0 where
   pub kind_is : may_rename found.kind ≡ false
 
 -- why a link has no declaration of this name that may be renamed
-abbrev pub IsNotDeclared : LinkOf → List ℕ → NoTarget → Type 0
+abbrev pub IsNotDeclared : LinkOf → Text → NoTarget → Type 0
 IsNotDeclared l name Unknown = (row : ℕ) → text_at l row ≢ Some name
 IsNotDeclared l name NotAllowed = HasUnmoved l name
 IsNotDeclared l name NoMemory = Unit {0}
