@@ -1,1 +1,4 @@
+mod Faulted
 mod Printing
+mod Recovered
+mod Tellings

@@ -2,7 +2,7 @@
 use Rattle.std.specs.Prelude.{◌≡◌, Option, Result, Ok, Err}
 use Rattle.std.specs.Io.KnownBytes.{Appends, Keeps}
 use Rattle.proto_faults.specs.Texts.{Text}
-use Rattle.protoref_edits.specs.Answers.{asked}
+use Rattle.proto_journal.specs.Answers.{asked}
 use Rattle.proto_recovery.specs.Known.{Over}
 use Rattle.proto_output.specs.Answers.{IsAnswer}
 use Rattle.proto_output.specs.Writing.{AppendsBeginning}
@@ -12,9 +12,9 @@ use Rattle.proto_output.specs.declared.run_fault.RunFault.TheVariants.{Store, No
 use Rattle.proto_output.specs.declared.status.Status.{Status}
 use Rattle.proto_recovery.specs.Recovery.{IsRecoveryCut}
 use Rattle.proto_store.specs.Stores.{Held}
-use Rattle.protoref_edits.specs.Changes.{IsEditCut, IsUndoingCut, PrintsEdit, PrintsUndo}
-use Rattle.protoref_edits.specs.Logs.{PrintsLogOf}
-use Rattle.protoref_edits.specs.Recoveries.{PrintsRecovery}
+use Rattle.protoref_run.specs.Changes.{IsEditCut, IsUndoingCut, PrintsEdit, PrintsUndo}
+use Rattle.protoref_run.specs.Logs.{PrintsLogOf}
+use Rattle.protoref_run.specs.Recoveries.{PrintsRecovery}
 use Rattle.protoref_run.specs.Linted.{PrintsLinted}
 use Rattle.protoref_run.specs.Printed.{PrintsCompiled}
 use Rattle.protoref_run.specs.declared.command.Command.{Command}

@@ -1,3 +1,7 @@
+pub mod Changes
 pub mod Commands
 pub mod Linted
+pub mod Logs
 pub mod Printed
+pub mod Recoveries
+pub mod Told

@@ -1,7 +1,7 @@
 //! What is asked for.
 
 use proto_lint::RuleSet;
-use protoref_edits::Edit;
+use proto_journal::Edit;
 
 /// What is asked for.
 #[derive(Drop)]

@@ -2,9 +2,14 @@
 #![tactic(auto)]
 
 mod answer;
+mod beginning;
+mod changing;
 mod command;
+mod logging;
 mod opening;
+mod recovering;
 mod running;
+mod telling;
 
 pub use command::Command;
 pub use proto_output::{RunFault, Status, fault_line};

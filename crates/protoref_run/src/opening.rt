@@ -10,7 +10,7 @@ use proto_faults::SchemaFault;
 use proto_output::{Answer, RunFault, reported};
 use proto_schema::Schema;
 use proto_store::Store;
-use protoref_edits::{LoadFault, all_files};
+use proto_journal::{LoadFault, all_files};
 use std::alloc::Global;
 
 // The schemas of a store, or the answer that tells of their least fault.

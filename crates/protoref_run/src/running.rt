@@ -5,12 +5,14 @@ ghost use Rattle.proto_output.specs.Ends.{CountsStore};
 ghost use Rattle.protoref_run.specs.Commands.{Answers, Ran};
 
 use crate::answer::{described, linted};
+use crate::changing::{edit_answer, undo_answer};
 use crate::command::Command;
+use crate::logging::log_answer;
 use crate::opening::{Opening, open};
+use crate::recovering::recover_answer;
 use proto_lint::RuleSet;
 use proto_output::{Answer, RunFault, Status, write_answer};
 use proto_store::Store;
-use protoref_edits::{edit_answer, log_answer, recover_answer, undo_answer};
 use std::alloc::Global;
 use std::io::Write;
 

@@ -1,3 +1,0 @@
-pub mod Faulted
-mod Recovered
-mod Tellings
