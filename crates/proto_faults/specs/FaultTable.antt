@@ -1,10 +1,12 @@
 -- The numbers, names and phases of the faults of schemas: the table of this product.
-use Rattle.std.specs.Prelude.{ℕ, List, codes}
+use Rattle.std.specs.Prelude.{ℕ, codes}
 use Rattle.proto_faults.specs.declared.fault.FaultKind.{FaultKind}
 use Rattle.proto_faults.specs.declared.fault.FaultKind.TheVariants.{TooLarge, NotUtf8, BadChar, OpenComment, OpenString, BadEscape, BadNumber, Syntax, TooDeep, UnknownImport, DoubleImport, ImportCycle, DuplicateName, Unresolved, WrongKind, MapEntryRef, NumberRange, DuplicateNumber, ReservedNumber, ReservedName, RangeOverlap, EmptyEnum, FirstNotZero, ClosedEnum, Label, BadMap, BadOption, BadDefault, EmptyOneof, JsonClash, NotInProto3, AliasNotAllowed, BadPath, DoublePath, TooManyFiles}
 use Rattle.proto_faults.specs.declared.fault.SchemaFault.{SchemaFault}
 use Rattle.proto_faults.specs.declared.fault.SchemaFault.TheVariants as answer
+use Rattle.proto_faults.specs.Texts.{Text}
 
+-- the number of each fault: 1 to 35, no two the same
 abbrev pub number_of : FaultKind → ℕ
 number_of TooLarge = 1
 number_of NotUtf8 = 2
@@ -42,7 +44,8 @@ number_of BadPath = 33
 number_of DoublePath = 34
 number_of TooManyFiles = 35
 
-abbrev pub name_of : FaultKind → List ℕ
+-- the word that stands for each fault where one is printed
+abbrev pub name_of : FaultKind → Text
 name_of TooLarge = codes "TooLarge"
 name_of NotUtf8 = codes "NotUtf8"
 name_of BadChar = codes "BadChar"
@@ -79,7 +82,8 @@ name_of BadPath = codes "BadPath"
 name_of DoublePath = codes "DoublePath"
 name_of TooManyFiles = codes "TooManyFiles"
 
--- 0 paths, 1 text, 2 grammar, 3 imports, 4 names, 5 references, 6 checks
+-- the phase that finds each fault: 0 paths, 1 text, 2 grammar, 3 imports, 4 names, 5 references,
+-- 6 checks
 abbrev pub phase_of : FaultKind → ℕ
 phase_of TooLarge = 1
 phase_of NotUtf8 = 1
@@ -119,11 +123,12 @@ phase_of TooManyFiles = 0
 
 -- ---- what is answered in place of files, a link, descriptors or a schema
 
--- want of memory is no fault of a schema
+-- the number of the fault, from 1 to 35; for want of memory, which is no fault of a schema, 0
 abbrev pub answer_number : SchemaFault → ℕ
 answer_number (answer.Schema fault) = number_of fault.kind
 answer_number answer.NoMemory = 0
 
-abbrev pub answer_name : SchemaFault → List ℕ
+-- the word for the fault; for want of memory `NoMemory`
+abbrev pub answer_name : SchemaFault → Text
 answer_name (answer.Schema fault) = name_of fault.kind
 answer_name answer.NoMemory = codes "NoMemory"

@@ -11,40 +11,75 @@ use thiserror::Error;
 /// The faults of schemas, in the order of their numbers, which begin at 1.
 #[derive(Clone, Copy, Debug, PartialEq, Eq)]
 pub enum FaultKind {
+    /// 1: a file of more than 1,048,576 bytes.
     TooLarge,
+    /// 2: a file that is not UTF-8.
     NotUtf8,
+    /// 3: a character that begins no token, white space or comment.
     BadChar,
+    /// 4: a block comment that is not closed.
     OpenComment,
+    /// 5: a string that is not closed.
     OpenString,
+    /// 6: a string with a refused escape, or whose value is not UTF-8.
     BadEscape,
+    /// 7: a word that begins with a digit and is no number.
     BadNumber,
+    /// 8: a statement that the grammar does not have.
     Syntax,
+    /// 9: more than 32 braces open at once.
     TooDeep,
+    /// 10: an import of a path that is not in the workspace.
     UnknownImport,
+    /// 11: an import of a path that the file imports before.
     DoubleImport,
+    /// 12: an import that leads back to its file.
     ImportCycle,
+    /// 13: a full name that an earlier declaration or a package has.
     DuplicateName,
+    /// 14: a reference that means nothing.
     Unresolved,
+    /// 15: a method's reference that means an enum.
     WrongKind,
+    /// 16: a reference that means a generated map entry.
     MapEntryRef,
+    /// 17: a number or a range outside its limits.
     NumberRange,
+    /// 18: a field number that an earlier field has.
     DuplicateNumber,
+    /// 19: a number inside a reserved or extension range.
     ReservedNumber,
+    /// 20: a name that is reserved, or reserved twice.
     ReservedName,
+    /// 21: a range that shares a number with an earlier one.
     RangeOverlap,
+    /// 22: an enum without values.
     EmptyEnum,
+    /// 23: an enum whose first value has to be 0 and is not.
     FirstNotZero,
+    /// 24: an enum of a proto2 file in a field of a proto3 file.
     ClosedEnum,
+    /// 25: a proto2 field without a label.
     Label,
+    /// 26: a map key of a type that no key has.
     BadMap,
+    /// 27: an option that the element does not have, or with a value of another kind.
     BadOption,
+    /// 28: a default that the field does not have.
     BadDefault,
+    /// 29: a oneof without fields.
     EmptyOneof,
+    /// 30: a JSON name that an earlier field has.
     JsonClash,
+    /// 31: a word of proto2 in a proto3 file.
     NotInProto3,
+    /// 32: a value number that an earlier value has, without leave.
     AliasNotAllowed,
+    /// 33: a path that is no workspace path.
     BadPath,
+    /// 34: a path that is given twice.
     DoublePath,
+    /// 35: more files than a workspace holds.
     TooManyFiles,
 }
 
@@ -185,7 +220,8 @@ impl FaultKind {
         }
     }
 
-    /// The phase that finds the fault: 0 paths, 1 text, 2 grammar, 3 imports, 4 names, 5 references, 6 checks.
+    /// The phase that finds the fault: 0 paths, 1 text, 2 grammar, 3 imports, 4 names,
+    /// 5 references, 6 checks.
     pub fn phase(self) -> u32
         ensures { result ≡ phase_of self }
     {
@@ -233,8 +269,11 @@ impl FaultKind {
 #[derive(Debug, Drop, Error)]
 #[error("{path}: byte {offset}: {kind}")]
 pub struct Fault {
+    /// The file, by its path in the workspace.
     pub path: String,
+    /// Where in the file, in bytes from 0.
     pub offset: u32,
+    /// What is wrong there.
     pub kind: FaultKind,
 }
 
@@ -254,11 +293,14 @@ impl Fault {
     }
 }
 
-/// Why no files, no link, no descriptors or no schema is answered: the least fault of the schemas, or want of memory.
+/// Why no files, no link, no descriptors or no schema is answered: the least fault of the schemas,
+/// or want of memory.
 #[derive(Debug, Drop, Error)]
 pub enum SchemaFault {
+    /// The schemas have faults: the least of them.
     #[error("{0}")]
     Schema(Fault),
+    /// A growth was refused; nothing is said of the schemas.
     #[error("no memory")]
     NoMemory,
 }
