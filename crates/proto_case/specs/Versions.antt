@@ -1,30 +1,36 @@
 -- The last part of a package's name where it is a version: `v1`, `v2alpha`, `v3beta4`.
-use Rattle.std.specs.Prelude.{ℕ, Bool, true, false, not, ◌&&◌, ◌||◌, ◌==◌, nat_eq, List, [], ◌∷◌, length, drop, codes}
+use Rattle.std.specs.Prelude.{Bool, true, false, not, ◌&&◌, ◌||◌, ◌==◌, nat_eq, [], ◌∷◌, length, drop, codes}
 use Rattle.std.specs.Char.{is_ascii_digit}
 use Rattle.std.specs.List.{list_all, prefix_len, starts_with, take_while}
+use Rattle.proto_faults.specs.Texts.{Text}
 
-abbrev pub is_empty : List ℕ → Bool
+-- nothing stands in the text
+abbrev pub is_empty : Text → Bool
 is_empty [] = true
 is_empty (b ∷ rest) = false
 
 -- a positive decimal without leading zero
-abbrev pub is_positive : List ℕ → Bool
+abbrev pub is_positive : Text → Bool
 is_positive [] = false
 is_positive (b ∷ rest) = is_ascii_digit b && not (b == 48) && list_all is_ascii_digit rest
 
--- a name, and nothing or such a decimal
-abbrev pub is_numbered : List ℕ → List ℕ → Bool
-is_numbered name s = starts_with nat_eq s name && (is_empty (drop (length name) s) || is_positive (drop (length name) s))
+-- the text begins with a name, and behind that has nothing or a positive decimal
+abbrev pub is_numbered : Text → Text → Bool
+is_numbered name s =
+    starts_with nat_eq s name
+    && (is_empty (drop (length name) s) || is_positive (drop (length name) s))
 
--- nothing, or `alpha` or `beta` and nothing or such a decimal
-abbrev pub is_stage : List ℕ → Bool
+-- nothing, or `alpha` or `beta` and behind that nothing or a positive decimal
+abbrev pub is_stage : Text → Bool
 is_stage s = is_empty s || is_numbered (codes "alpha") s || is_numbered (codes "beta") s
 
--- what stands behind the digits at the front
-abbrev pub behind_digits : List ℕ → List ℕ
+-- what stands behind the digits at the front of a text
+abbrev pub behind_digits : Text → Text
 behind_digits s = drop (prefix_len is_ascii_digit s) s
 
--- `v`, such a decimal, and a stage
-abbrev pub is_version : List ℕ → Bool
+-- `v`, a positive decimal, and a stage
+abbrev pub is_version : Text → Bool
 is_version [] = false
-is_version (b ∷ rest) = b == 118 && is_positive (take_while is_ascii_digit rest) && is_stage (behind_digits rest)
+is_version (b ∷ rest) =
+    b == 118 && is_positive (take_while is_ascii_digit rest)
+    && is_stage (behind_digits rest)

@@ -7,8 +7,8 @@ ghost use Rattle.proto_case.specs.Camel.{camel_from};
 use proto_faults::NoMemory;
 use std::alloc::Global;
 
-/// A word without each `_`, the character after one in upper case, as is the first where it is to be. Letters of ASCII
-/// alone have an upper case.
+/// A word without each `_`, the character after one in upper case, as is the first where `is_up`
+/// says so. Letters of ASCII alone have an upper case. Refused for want of memory alone.
 pub fn camel_from(alloc: Global, is_up: bool, word: &str) -> Result<String, NoMemory>
     ensures { IfOk result (λ name. string_bytes name ≡ camel_from is_up word.now) }
 {

@@ -33,8 +33,8 @@ fn has_lower_snake_bytes(bytes: &[u8]) -> bool
         .all(|b| matches!(*b, b'a'..=b'z' | b'0'..=b'9' | b'_'))
 }
 
-/// Whether a name has lower-case letters, digits and `_` alone, begins with a letter, does not end in `_`, and has no
-/// two `_` beside each other.
+/// Whether a name has lower-case letters, digits and `_` alone, begins with a letter, does not end
+/// in `_`, and has no two `_` beside each other. Letters are those of ASCII.
 pub fn is_lower_snake(name: &str) -> bool
     ensures { result ≡ is_lower_snake name.now }
 {
@@ -56,7 +56,8 @@ fn has_upper_snake_bytes(bytes: &[u8]) -> bool
         .all(|b| matches!(*b, b'A'..=b'Z' | b'0'..=b'9' | b'_'))
 }
 
-/// The same with upper-case letters.
+/// Whether a name has upper-case letters, digits and `_` alone, begins with a letter, does not end
+/// in `_`, and has no two `_` beside each other. Letters are those of ASCII.
 pub fn is_upper_snake(name: &str) -> bool
     ensures { result ≡ is_upper_snake name.now }
 {
@@ -68,13 +69,15 @@ pub fn is_upper_snake(name: &str) -> bool
     }
 }
 
+// Letters of ASCII and digits alone.
 fn are_alphanumeric(bytes: &[u8]) -> bool
     ensures { result ≡ list_all is_ascii_alphanumeric bytes.now }
 {
     bytes.iter().all(|b| b.is_ascii_alphanumeric())
 }
 
-/// Whether a name has letters and digits alone, and begins with an upper-case letter.
+/// Whether a name has letters and digits alone, and begins with an upper-case letter. Letters are
+/// those of ASCII.
 pub fn is_pascal(name: &str) -> bool
     ensures { result ≡ is_pascal name.now }
 {
@@ -84,6 +87,7 @@ pub fn is_pascal(name: &str) -> bool
     }
 }
 
+// Whether the first byte, if there is one, is a lower-case letter.
 fn begins_lower(bytes: &[u8]) -> bool
     ensures { result ≡ begins_lower bytes.now }
 {
@@ -106,7 +110,8 @@ fn begins_word(before: Option<char>, c: char, rest: &str) -> bool
     }
 }
 
-/// A name in upper case, with `_` before each word but the first: `HTTPCode` is `HTTP_CODE`.
+/// A name in upper case, with `_` before each word but the first: `HTTPCode` gives `HTTP_CODE`.
+/// Letters of ASCII alone have an upper case. Refused for want of memory alone.
 pub fn upper(alloc: Global, name: &str) -> Result<String, NoMemory>
     ensures { IfOk result (λ s. string_bytes s ≡ upper name.now) }
 {

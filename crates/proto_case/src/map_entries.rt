@@ -8,8 +8,9 @@ use crate::camel_case::camel_from;
 use proto_faults::NoMemory;
 use std::alloc::Global;
 
-/// The name of the message that stands for a map field's pairs: the field's word without each `_`, what follows one in
-/// upper case, as is the first, and `Entry` behind it.
+/// The name of the message that stands for a map field's pairs: the field's word without each `_`,
+/// what follows one in upper case, as is the first, and `Entry` behind it. Letters of ASCII alone
+/// have an upper case. Refused for want of memory alone.
 pub fn entry_name(alloc: Global, word: &str) -> Result<String, NoMemory>
     ensures name { IfOk result (λ name. string_bytes name ≡ entry_name word.now) }
 {
