@@ -2,6 +2,7 @@
 use Rattle.std.specs.Prelude.{◌≡◌, ℕ, ◌<◌, Bool, List, [], ◌∷◌, ◌++◌, length, get_or, map}
 use Rattle.std.specs.Global.{Vec}
 use Rattle.std.specs.List.{All}
+use Rattle.proto_faults.specs.Texts.{Text}
 use Rattle.proto_files.specs.GivenFiles.{FileOf}
 use Rattle.proto_case.specs.Camel.{entry_name}
 use Rattle.proto_meaning.specs.Faults.{fault, IsLeast, ReferenceFault}
@@ -22,23 +23,29 @@ use Rattle.proto_names.specs.declared.references.ReferenceFlaw.{ReferenceFlaw}
 use Rattle.proto_names.specs.declared.references.ReferenceFlaw.TheVariants.{Unresolved, WrongKind, MapEntry}
 use Rattle.proto_table.specs.declared.table.Table.{Table}
 
--- the fault's number
+-- the number of the fault that a reference has
 abbrev pub flaw_number : ReferenceFlaw → ℕ
 flaw_number Unresolved = 14
 flaw_number WrongKind = 15
 flaw_number MapEntry = 16
 
 -- the full names of a file's declarations, its package first
-abbrev pub declared_names : List FileOf → List ReadOf → ℕ → List (List (List ℕ))
-declared_names files reads file = map (λ p. name_of (λ i. text_of files reads (at file i)) entry_name (whole p)) (package_first (items_in (read_at reads file).tree))
+abbrev pub declared_names : List FileOf → List ReadOf → ℕ → List (List Text)
+declared_names files reads file =
+    map (λ p. name_of (λ i. text_of files reads (at file i)) entry_name (whole p))
+    (package_first (items_in (read_at reads file).tree))
 
 -- the table, these marks and these rows are those of the file
 abbrev pub IsFileLinked : Table → List Bool → List ℕ → List FileOf → List ReadOf → ℕ → Type 0
-IsFileLinked t seen rows files reads file = IsReadBy t seen rows (declared_names files reads file) file (names_of_files files reads)
+IsFileLinked t seen rows files reads file =
+    IsReadBy t seen rows (declared_names files reads file) file (names_of_files files reads)
 
--- the same of each file
+-- the table, and for each file its marks and its rows, are those of the files
 abbrev pub AreLinked : Table → List (Vec Bool) → List (Vec ℕ) → List FileOf → List ReadOf → Type 0
-AreLinked t seen rows files reads = (k : ℕ) → k < length files → IsFileLinked t (get_or (map (λ v. v.items) seen) k []) (get_or (map (λ v. v.items) rows) k []) files reads k
+AreLinked t seen rows files reads =
+    (k : ℕ) → k < length files
+    → IsFileLinked t (get_or (map (λ v. v.items) seen) k [])
+    (get_or (map (λ v. v.items) rows) k []) files reads k
 
 -- what a file refers to
 abbrev pub uses_of : List ReadOf → ℕ → List (Used ℕ)
@@ -46,10 +53,14 @@ uses_of reads file = (names_in (read_at reads file)).used
 
 -- these are what the references of the file mean
 abbrev pub AreFileMeant : Table → List FileOf → List ReadOf → ℕ → List Meant → Type 0
-AreFileMeant t files reads file ms = AreMeant t (names_of_files files reads) (map (used_named (text_of files reads) file) (uses_of reads file)) (map (λ u. u.first) (uses_of reads file)) ms
+AreFileMeant t files reads file ms =
+    AreMeant t (names_of_files files reads)
+    (map (used_named (text_of files reads) file) (uses_of reads file))
+    (map (λ u. u.first) (uses_of reads file)) ms
 
 -- a faulty reference of a file, behind others that are not
-pub record IsFirstFlawed (w : Workspace) (text : At → List ℕ) (file : ℕ) (uses : List (Used ℕ)) (bad : BadReference) : Type 0 where
+pub record IsFirstFlawed (w : Workspace) (text : At → Text) (file : ℕ) (uses : List (Used ℕ))
+    (bad : BadReference) : Type 0 where
   pub before : List (Used ℕ)
   pub faulty : Used ℕ
   pub behind : List (Used ℕ)
@@ -59,11 +70,16 @@ pub record IsFirstFlawed (w : Workspace) (text : At → List ℕ) (file : ℕ) (
   pub flawed : IsFlawed w (used_named text file faulty) bad.flaw
   pub faultless : All (λ u. IsFaultless w (used_named text file u)) before
 
+-- the error is want of memory, or the first faulty reference of the file
 abbrev pub IsFileError : List FileOf → List ReadOf → ℕ → ReferenceError → Type 0
-IsFileError files reads file (Bad bad) = IsFirstFlawed (names_of_files files reads) (text_of files reads) file (uses_of reads file) bad
+IsFileError files reads file (Bad bad) =
+    IsFirstFlawed (names_of_files files reads) (text_of files reads) file (uses_of reads file) bad
 IsFileError files reads file NoMemory = Unit {0}
 
--- the least that is faulty, by file, token and number
+-- the error is want of memory, or the least faulty reference of all files, by file, token and
+-- number of its fault
 abbrev pub IsLeastBad : List FileOf → List ReadOf → ReferenceError → Type 0
-IsLeastBad files reads (Bad bad) = IsLeast (ReferenceFault (text_of files reads) (link_skeleton files reads)) (fault (at bad.file bad.token) (flaw_number bad.flaw))
+IsLeastBad files reads (Bad bad) =
+    IsLeast (ReferenceFault (text_of files reads) (link_skeleton files reads))
+    (fault (at bad.file bad.token) (flaw_number bad.flaw))
 IsLeastBad files reads NoMemory = Unit {0}

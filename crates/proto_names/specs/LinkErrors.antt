@@ -18,5 +18,7 @@ IsLinkError files NoMemory = Unit {0}
 
 -- the error is want of memory, or the fault of this kind at the token
 abbrev pub IsAtToken : List FileOf → ℕ → ℕ → FaultKind → SchemaFault → Type 0
-IsAtToken files file token kind (Schema f) = (reads : List ReadOf) → AreRead files reads → StandsAt files reads (fault (at file token) (number_of kind)) (fault_at f)
+IsAtToken files file token kind (Schema f) =
+    (reads : List ReadOf) → AreRead files reads
+    → StandsAt files reads (fault (at file token) (number_of kind)) (fault_at f)
 IsAtToken files file token kind NoMemory = Unit {0}

@@ -1,8 +1,10 @@
--- When a link is that of files: it has their names, what each file sees, what each reference means, and the references that mean each name.
+-- When a link is that of files: it has their names, what each file sees, what each reference means,
+-- and the references that mean each name.
 use Rattle.std.specs.Prelude.{◌≡◌, ◌≢◌, ℕ, ◌+◌, ◌<◌, Bool, false, List, [], length, get_or, map, Option, Some, None, option_map}
 use Rattle.std.specs.Global.{Vec}
 use Rattle.std.specs.List.{All, AllPairs, Contains, filter}
 use Rattle.std.specs.Str.{bytes_eq}
+use Rattle.proto_faults.specs.Texts.{Text}
 use Rattle.proto_files.specs.GivenFiles.{FileOf, paths_of}
 use Rattle.proto_case.specs.Camel.{entry_name}
 use Rattle.proto_meaning.specs.Faults.{Fault, ImportFault, NameFault, place_of}
@@ -26,50 +28,74 @@ use Rattle.proto_names.specs.declared.references.Meant.{Meant}
 use Rattle.proto_table.specs.declared.table.Row.{Row}
 use Rattle.proto_table.specs.declared.table.Table.{Table}
 
--- Each symbol has its name in the link, with its kind and its file, as text that tells its words; each name has a file, and is that of a symbol in
--- each of its files; and a text is one name.
+-- each symbol has its name in the link, with its kind and its file, as text that tells its words;
+-- each name has a file, and is that of a symbol in each of its files; and a text is one name
 pub record HoldsNames (w : Workspace) (l : LinkOf) : Type 0 where
   pub plain : (s : Symbol) → Contains w.symbols s → ArePlain s.name
   pub declared : (row : ℕ) (n : NameOf) → name_at l row ≡ Some n → 0 < length n.files
-  pub there : (s : Symbol) → Contains w.symbols s → (row : ℕ) × (n : NameOf) × (name_at l row ≡ Some n) × (n.text ≡ joined s.name) × (n.kind ≡ s.kind) × Contains n.files s.file
-  pub only : (row file : ℕ) (n : NameOf) → name_at l row ≡ Some n → Contains n.files file → (s : Symbol) × Contains w.symbols s × (joined s.name ≡ n.text) × (s.kind ≡ n.kind) × (s.file ≡ file)
-  pub once : (i j : ℕ) (m n : NameOf) → name_at l i ≡ Some m → name_at l j ≡ Some n → m.text ≡ n.text → i ≡ j
+  pub there : (s : Symbol) → Contains w.symbols s
+      → (row : ℕ) × (n : NameOf) × (name_at l row ≡ Some n) × (n.text ≡ joined s.name)
+      × (n.kind ≡ s.kind) × Contains n.files s.file
+  pub only : (row file : ℕ) (n : NameOf) → name_at l row ≡ Some n → Contains n.files file
+      → (s : Symbol) × Contains w.symbols s × (joined s.name ≡ n.text)
+      × (s.kind ≡ n.kind) × (s.file ≡ file)
+  pub once : (i j : ℕ) (m n : NameOf)
+      → name_at l i ≡ Some m → name_at l j ≡ Some n → m.text ≡ n.text → i ≡ j
 
 -- a meaning is the name with this text
-abbrev pub has_text : List ℕ → Option (List (List ℕ)) → Bool
+abbrev pub has_text : Text → Option (List Text) → Bool
 has_text text None = false
 has_text text (Some m) = bytes_eq (joined m) text
 
+-- a reference by its file and its first token
 abbrev pub reference_at : Used At → RefId
 reference_at u = record { file = u.first.file; token = u.first.token }
 
 -- the references that mean the name with this text, in order
-abbrev pub references_of : (At → List ℕ) → Skeleton At → List ℕ → List RefId
-references_of text k name = map reference_at (filter (λ u. has_text name (meaning (workspace_of text entry_name k) (reference_of text entry_name u))) k.used)
+abbrev pub references_of : (At → Text) → Skeleton At → Text → List RefId
+references_of text k name =
+    map reference_at
+    (filter (λ u. has_text name (meaning (workspace_of text entry_name k)
+    (reference_of text entry_name u))) k.used)
 
-pub record IsLinkBy (text : At → List ℕ) (k : Skeleton At) (l : LinkOf) : Type 0 where
+-- the link is that of these declarations, references and imports, by the texts of their tokens: it
+-- has their names, each at its first place, what each file sees, and the references to each name
+pub record IsLinkBy (text : At → Text) (k : Skeleton At) (l : LinkOf) : Type 0 where
   pub names : HoldsNames (workspace_of text entry_name k) l
-  pub places : (d : Declared At) → Contains k.declared d → d.kind ≢ Package → (row : ℕ) (n : NameOf) → name_at l row ≡ Some n → n.text ≡ joined (name_of text entry_name d.path) → at (get_or n.files 0 0) n.token ≡ place_of d
-  pub seen : (file : ℕ) → file < k.files → MarksSeen (workspace_of text entry_name k) file (get_or l.seen file [])
+  pub places : (d : Declared At) → Contains k.declared d → d.kind ≢ Package
+      → (row : ℕ) (n : NameOf) → name_at l row ≡ Some n
+      → n.text ≡ joined (name_of text entry_name d.path)
+      → at (get_or n.files 0 0) n.token ≡ place_of d
+  pub seen : (file : ℕ) → file < k.files
+      → MarksSeen (workspace_of text entry_name k) file (get_or l.seen file [])
   pub files : length l.seen ≡ k.files
   pub between : AreFiles (workspace_of text entry_name k)
   pub paired : length l.references ≡ length l.names
-  pub references : (row : ℕ) (n : NameOf) → name_at l row ≡ Some n → get_or l.references row [] ≡ references_of text k n.text
+  pub references : (row : ℕ) (n : NameOf) → name_at l row ≡ Some n
+      → get_or l.references row [] ≡ references_of text k n.text
 
 -- a reference by its first token, and the text of the name that it means
 pub record TextMeant : Type 0 where
   pub token : ℕ
-  pub text : Option (List ℕ)
+  pub text : Option Text
 
+-- what the link has of a reference, with the text of the name for its number
 abbrev pub meant_by_link : LinkOf → Meant → TextMeant
 meant_by_link l m = record { token = m.token; text = text_at l m.row }
 
+-- what a reference of the file means by the rules of scopes, with the text of the name
 abbrev pub meant_by_use : List FileOf → List ReadOf → ℕ → Used ℕ → TextMeant
-meant_by_use files reads file u = record { token = u.first; text = option_map joined (meaning (names_of_files files reads) (used_named (text_of files reads) file u)) }
+meant_by_use files reads file u = record {
+  token = u.first;
+  text = option_map joined
+      (meaning (names_of_files files reads) (used_named (text_of files reads) file u));
+}
 
 -- what the link has of a file's references: what each means, in the order of their first tokens
-pub record IsMeantIn (files : List FileOf) (reads : List ReadOf) (l : LinkOf) (file : ℕ) : Type 0 where
-  pub texts : map (meant_by_link l) (get_or l.meant file []) ≡ map (meant_by_use files reads file) (uses_of reads file)
+pub record IsMeantIn (files : List FileOf) (reads : List ReadOf) (l : LinkOf) (file : ℕ)
+    : Type 0 where
+  pub texts : map (meant_by_link l) (get_or l.meant file [])
+      ≡ map (meant_by_use files reads file) (uses_of reads file)
   pub rising : AllPairs (λ m n. m.token < n.token) (get_or l.meant file [])
   pub within : All (λ m. m.row < length l.names) (get_or l.meant file [])
 
@@ -79,28 +105,42 @@ pub record IsLinkRead (files : List FileOf) (reads : List ReadOf) (l : LinkOf) :
   pub lists : length l.meant ≡ length files
   pub means : (file : ℕ) → file < length files → IsMeantIn files reads l file
 
+-- the link of files: of whatever is read of them, it is the link
 abbrev pub IsLinkOf : List FileOf → LinkOf → Type 0
 IsLinkOf files l = (reads : List ReadOf) → AreRead files reads → IsLinkRead files reads l
 
 -- ---- its parts
 
+-- no import of the files is faulty
 abbrev pub HasNoImportFault : List FileOf → Type 0
-HasNoImportFault files = (reads : List ReadOf) → AreRead files reads → (f : Fault) → ImportFault (paths_of files) (all_wanted (text_of files reads) 0 reads) f → ⊥
+HasNoImportFault files =
+    (reads : List ReadOf) → AreRead files reads
+    → (f : Fault) → ImportFault (paths_of files) (all_wanted (text_of files reads) 0 reads) f → ⊥
 
+-- no declaration of the files clashes with another by its name
 abbrev pub HasNoNameFault : List FileOf → Type 0
-HasNoNameFault files = (reads : List ReadOf) → AreRead files reads → (f : Fault) → NameFault (text_of files reads) (link_skeleton files reads).declared f → ⊥
+HasNoNameFault files =
+    (reads : List ReadOf) → AreRead files reads
+    → (f : Fault) → NameFault (text_of files reads) (link_skeleton files reads).declared f → ⊥
 
 -- the row of a declaration's name was declared where the declaration stands
-pub record IsDeclaredIn (text : At → List ℕ) (t : Table) (d : Declared At) : Type 0 where
+pub record IsDeclaredIn (text : At → Text) (t : Table) (d : Declared At) : Type 0 where
   pub row : ℕ
   pub within : row < length t.rows.items
   pub name : get_or (names_of t) row [] ≡ joined (name_of text entry_name d.path)
-  pub place : (r : Row) → at (get_or t.rows.items row r).symbol.file (get_or t.rows.items row r).symbol.token ≡ place_of d
+  pub place : (r : Row)
+      → at (get_or t.rows.items row r).symbol.file (get_or t.rows.items row r).symbol.token
+      ≡ place_of d
 
 -- the table has the names of the files, and these are the rows of each file's declarations
-pub record AreNamesOf (files : List FileOf) (reads : List ReadOf) (t : Table) (rows : List (Vec ℕ)) : Type 0 where
+pub record AreNamesOf (files : List FileOf) (reads : List ReadOf) (t : Table) (rows : List (Vec ℕ))
+    : Type 0 where
   pub index : IsIndexOf t (names_of_files files reads).symbols
   pub plain : (k : ℕ) → k < length files → All ArePlain (declared_names files reads k)
-  pub counts : (k : ℕ) → k < length files → length (declared_names files reads k) ≡ length (get_or (map (λ v. v.items) rows) k [])
-  pub named : (k j : ℕ) → k < length files → j < length (get_or (map (λ v. v.items) rows) k []) → front (names_of t) (get_or (get_or (map (λ v. v.items) rows) k []) j 0 + 1) ≡ joined (get_or (declared_names files reads k) j [])
-  pub tokens : (d : Declared At) → Contains (link_skeleton files reads).declared d → d.kind ≢ Package → IsDeclaredIn (text_of files reads) t d
+  pub counts : (k : ℕ) → k < length files
+      → length (declared_names files reads k) ≡ length (get_or (map (λ v. v.items) rows) k [])
+  pub named : (k j : ℕ) → k < length files → j < length (get_or (map (λ v. v.items) rows) k [])
+      → front (names_of t) (get_or (get_or (map (λ v. v.items) rows) k []) j 0 + 1)
+      ≡ joined (get_or (declared_names files reads k) j [])
+  pub tokens : (d : Declared At) → Contains (link_skeleton files reads).declared d
+      → d.kind ≢ Package → IsDeclaredIn (text_of files reads) t d

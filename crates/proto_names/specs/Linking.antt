@@ -1,8 +1,10 @@
--- The names of linked files: what is known of each, which files see it, and which references mean it; and what each reference means.
+-- The names of linked files: what is known of each, which files see it, and which references mean
+-- it; and what each reference means.
 use Rattle.std.specs.Prelude.{ℕ, suc, Bool, false, ◌&&◌, ◌==◌, if◌then◌else◌, List, [], ◌∷◌, ◌++◌, map, get_or, slice_get, slice_index_or, Option, Some, None, option_map, string_bytes}
 use Rattle.std.specs.List.{filter, find, list_any}
 use Rattle.std.specs.Option.{option_and_then}
 use Rattle.std.specs.Str.{bytes_eq}
+use Rattle.proto_faults.specs.Texts.{Text}
 use Rattle.proto_meaning.specs.declared.kind.Kind.{Kind}
 use Rattle.proto_meaning.specs.Linked.{is_package}
 use Rattle.proto_table.specs.Resolved.{files_of}
@@ -10,17 +12,25 @@ use Rattle.proto_names.specs.declared.link.RefId.{RefId}
 use Rattle.proto_names.specs.declared.references.Meant.{Meant}
 use Rattle.proto_table.specs.declared.table.Row.{Row}
 
--- what a link has of a name: its text, its kind, the files that declare it, and its first declaration's token
+-- what a link has of a name: its text, its kind, the files that declare it, and the token of its
+-- first declaration
 pub record NameOf : Type 0 where
-  pub text : List ℕ
+  pub text : Text
   pub kind : Kind
   pub files : List ℕ
   pub token : ℕ
 
+-- what a row of the table says of its name
 abbrev pub name_of_row : Row → NameOf
-name_of_row r = record { text = string_bytes r.name; kind = r.symbol.kind; files = files_of r; token = r.symbol.token }
+name_of_row r = record {
+  text = string_bytes r.name;
+  kind = r.symbol.kind;
+  files = files_of r;
+  token = r.symbol.token;
+}
 
--- the names; for each file, the marks of the files that it sees, and what its references mean; for each name, the references that mean it
+-- the names; for each file, the marks of the files that it sees, and what its references mean; for
+-- each name, the references that mean it
 pub record LinkOf : Type 0 where
   pub names : List NameOf
   pub seen : List (List Bool)
@@ -31,19 +41,23 @@ pub record LinkOf : Type 0 where
 abbrev pub name_at : LinkOf → ℕ → Option NameOf
 name_at l row = slice_get l.names row
 
-abbrev pub text_at : LinkOf → ℕ → Option (List ℕ)
+-- the text of the name with this number, if there is one
+abbrev pub text_at : LinkOf → ℕ → Option Text
 text_at l row = option_map (λ n. n.text) (name_at l row)
 
 -- the file that declares it (a package is of no file alone)
 abbrev pub own_file : NameOf → Option ℕ
 own_file n = if is_package n.kind then None else Some (get_or n.files 0 0)
 
+-- the token that it is declared at (of a package, none)
 abbrev pub own_token : NameOf → Option ℕ
 own_token n = if is_package n.kind then None else Some n.token
 
+-- the file that declares the name with this number; none of a package, and where there is no name
 abbrev pub file_at : LinkOf → ℕ → Option ℕ
 file_at l row = option_and_then own_file (name_at l row)
 
+-- the token, in that file, that the name with this number is declared at; none where no file is
 abbrev pub token_at : LinkOf → ℕ → Option ℕ
 token_at l row = option_and_then own_token (name_at l row)
 
@@ -51,7 +65,7 @@ token_at l row = option_and_then own_token (name_at l row)
 abbrev pub row_at : List Meant → ℕ → Option ℕ
 row_at ms token = option_map (λ m. m.row) (find (λ m. m.token == token) ms)
 
--- of a file's references
+-- the row of the name that the reference with this first token means, among those of a file
 abbrev pub meant_at : LinkOf → ℕ → ℕ → Option ℕ
 meant_at l file token = row_at (get_or l.meant file []) token
 
@@ -60,11 +74,11 @@ abbrev pub sees_one : List Bool → List ℕ → Bool
 sees_one seen files = list_any (λ f. slice_index_or seen f false) files
 
 -- a name has this text, and one of its files is marked
-abbrev pub shows_text : List Bool → List ℕ → List NameOf → Bool
+abbrev pub shows_text : List Bool → Text → List NameOf → Bool
 shows_text seen text names = list_any (λ n. bytes_eq n.text text && sees_one seen n.files) names
 
 -- from the file a name is visible that has this text
-abbrev pub is_visible : LinkOf → ℕ → List ℕ → Bool
+abbrev pub is_visible : LinkOf → ℕ → Text → Bool
 is_visible l file text = shows_text (get_or l.seen file []) text l.names
 
 -- a reference, and the number of the name that it means
@@ -72,6 +86,7 @@ pub record MeantBy : Type 0 where
   pub reference : RefId
   pub row : ℕ
 
+-- what a reference of this file means, with the file
 abbrev pub meant_by : ℕ → Meant → MeantBy
 meant_by file m = record { reference = record { file = file; token = m.token }; row = m.row }
 

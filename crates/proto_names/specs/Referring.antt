@@ -1,6 +1,7 @@
 -- The references of a file by the words of its tokens: what they mean, and which is faulty.
 use Rattle.std.specs.Prelude.{◌≡◌, ℕ, ◌+◌, ◌<◌, Bool, true, if◌then◌else◌, List, [], ◌∷◌, ◌++◌, length, get_or, slice_get, map, Option, Some, None, option_map, is_some}
 use Rattle.std.specs.List.{All, Contains}
+use Rattle.proto_faults.specs.Texts.{Text}
 use Rattle.proto_meaning.specs.declared.kind.Kind.{Kind}
 use Rattle.proto_meaning.specs.declared.kind.Kind.TheVariants.{Entry, Enum}
 use Rattle.proto_meaning.specs.Names.{Symbol, Reference, Workspace, meaning}
@@ -21,38 +22,54 @@ use Rattle.proto_names.specs.declared.references.ReferenceError.{ReferenceError}
 use Rattle.proto_names.specs.declared.references.ReferenceError.TheVariants.{Bad, NoMemory}
 
 -- a reference of a file by the words of its tokens, in its scope among these names
-abbrev pub reference_by : ℕ → List (List (List ℕ)) → (ℕ → List ℕ) → Use → Reference
-reference_by file names text u = record { file = file; scope = get_or names u.scope []; is_absolute = is_some u.reference.now.dot; is_method = u.is_method; words = map text (dotted u.reference.now.words) }
+abbrev pub reference_by : ℕ → List (List Text) → (ℕ → Text) → Use → Reference
+reference_by file names text u = record {
+  file = file;
+  scope = get_or names u.scope [];
+  is_absolute = is_some u.reference.now.dot;
+  is_method = u.is_method;
+  words = map text (dotted u.reference.now.words);
+}
 
+-- the token that a reference begins with: the dot, where there is one, else its first word
 abbrev pub first_token : Use → ℕ
 first_token u = first_of u.reference.now.dot u.reference.now.words
 
 -- the table and the marks are those of a file of the workspace, and the rows those of its names
-pub record IsReadBy (t : Table) (seen : List Bool) (rows : List ℕ) (names : List (List (List ℕ))) (file : ℕ) (w : Workspace) : Type 0 where
+pub record IsReadBy (t : Table) (seen : List Bool) (rows : List ℕ) (names : List (List Text))
+    (file : ℕ) (w : Workspace) : Type 0 where
   pub index : IsIndexOf t w.symbols
   pub marks : MarksSeen w file seen
   pub paired : length names ≡ length rows
   pub plain : All ArePlain names
-  pub named : (k : ℕ) → k < length rows → front (names_of t) (get_or rows k 0 + 1) ≡ joined (get_or names k [])
+  pub named : (k : ℕ) → k < length rows
+      → front (names_of t) (get_or rows k 0 + 1) ≡ joined (get_or names k [])
 
 -- it means nothing, a method's means an enum, or it means a generated entry
 abbrev pub IsFlawed : Workspace → Reference → ReferenceFlaw → Type 0
 IsFlawed w r Unresolved = meaning w r ≡ None
-IsFlawed w r WrongKind = (s : Symbol) × Contains w.symbols s × (meaning w r ≡ Some s.name) × (r.is_method ≡ true) × (s.kind ≡ Enum)
-IsFlawed w r MapEntry = (s : Symbol) × Contains w.symbols s × (meaning w r ≡ Some s.name) × (s.kind ≡ Entry)
+IsFlawed w r WrongKind =
+    (s : Symbol) × Contains w.symbols s × (meaning w r ≡ Some s.name)
+    × (r.is_method ≡ true) × (s.kind ≡ Enum)
+IsFlawed w r MapEntry =
+    (s : Symbol) × Contains w.symbols s × (meaning w r ≡ Some s.name) × (s.kind ≡ Entry)
 
+-- it means something, a method's no enum, and no generated entry
 abbrev pub IsFaultless : Workspace → Reference → Type 0
 IsFaultless w r = (flaw : ReferenceFlaw) → IsFlawed w r flaw → ⊥
 
 -- the rows are those of what the references mean, one by one, and no reference is faulty
-pub record AreMeant (t : Table) (w : Workspace) (references : List Reference) (tokens : List ℕ) (meant : List Meant) : Type 0 where
+pub record AreMeant (t : Table) (w : Workspace) (references : List Reference) (tokens : List ℕ)
+    (meant : List Meant) : Type 0 where
   pub places : map (λ m. m.token) meant ≡ tokens
   pub within : All (λ m. m.row < length t.rows.items) meant
-  pub names : map (λ m. Some (get_or (names_of t) m.row [])) meant ≡ map (λ r. option_map joined (meaning w r)) references
+  pub names : map (λ m. Some (get_or (names_of t) m.row [])) meant
+      ≡ map (λ r. option_map joined (meaning w r)) references
   pub faultless : All (IsFaultless w) references
 
 -- a faulty one, behind others that are not
-pub record IsFirstBad (w : Workspace) (reference : Use → Reference) (file : ℕ) (uses : List Use) (bad : BadReference) : Type 0 where
+pub record IsFirstBad (w : Workspace) (reference : Use → Reference) (file : ℕ) (uses : List Use)
+    (bad : BadReference) : Type 0 where
   pub before : List Use
   pub faulty : Use
   pub behind : List Use
@@ -62,6 +79,7 @@ pub record IsFirstBad (w : Workspace) (reference : Use → Reference) (file : �
   pub flawed : IsFlawed w (reference faulty) bad.flaw
   pub faultless : All (λ u. IsFaultless w (reference u)) before
 
+-- the error is want of memory, or the first faulty reference
 abbrev pub IsReferenceError : Workspace → (Use → Reference) → ℕ → List Use → ReferenceError → Type 0
 IsReferenceError w reference file uses (Bad bad) = IsFirstBad w reference file uses bad
 IsReferenceError w reference file uses NoMemory = Unit {0}
@@ -72,11 +90,12 @@ kind_flaw Entry is_method = Some MapEntry
 kind_flaw Enum is_method = if is_method then Some WrongKind else None
 kind_flaw _ is_method = None
 
+-- what is wrong with a reference that means the name of this row, or nothing
 abbrev pub found_flaw : Option Row → Bool → Option ReferenceFlaw
 found_flaw None is_method = Some Unresolved
 found_flaw (Some r) is_method = kind_flaw r.symbol.kind is_method
 
--- the same of one that means the name of this row
+-- the same by the number of the row
 abbrev pub row_flaw : Table → Option ℕ → Bool → Option ReferenceFlaw
 row_flaw t None is_method = Some Unresolved
 row_flaw t (Some k) is_method = found_flaw (slice_get t.rows.items k) is_method

@@ -18,7 +18,8 @@ use proto_listing::listing::Listing;
 use proto_table::table::Table;
 use std::alloc::Global;
 
-/// What the references of each file mean, in order; else the least that is faulty, by file, token and number.
+/// What the references of each file mean, in order; else the least that is faulty, by file, token
+/// and number of its fault, or want of memory.
 pub(crate) fn all_meanings(
     alloc: Global,
     files: &Files,
@@ -41,10 +42,12 @@ pub(crate) fn all_meanings(
         → All (λ v. All (λ m. m.row < length table.now.rows.items) v.items) ms.items) }
     ensures meant { IfOk result (λ ms. (reads : List ReadOf)
         → AreRead files.now reads → AreLinked table.now seen.now rows.now files.now reads
-        → (k : ℕ) → k < length files.now → AreFileMeant table.now files.now reads k (get_or (map (λ v. v.items) ms.items) k [])) }
+        → (k : ℕ) → k < length files.now → AreFileMeant table.now files.now reads k
+        (get_or (map (λ v. v.items) ms.items) k [])) }
     ensures clean { IfOk result (λ _. (reads : List ReadOf)
         → AreRead files.now reads → AreLinked table.now seen.now rows.now files.now reads
-        → (f : Fault) → ReferenceFault (text_of files.now reads) (link_skeleton files.now reads) f → ⊥) }
+        → (f : Fault)
+        → ReferenceFault (text_of files.now reads) (link_skeleton files.now reads) f → ⊥) }
     ensures fault { IfErr result (λ e. (reads : List ReadOf)
         → AreRead files.now reads → AreLinked table.now seen.now rows.now files.now reads
         → IsLeastBad files.now reads e) }
@@ -66,7 +69,8 @@ pub(crate) fn all_meanings(
     Ok(meant)
 }
 
-/// What the references of one file mean, in order; else the first that is faulty.
+/// What the references of one file mean, in order; else the first that is faulty, or want of
+/// memory.
 fn file_meanings(
     alloc: Global,
     files: &Files,

@@ -25,7 +25,7 @@ use proto_table::table::{Row, Table};
 use proto_tree::Reference;
 use std::marker::Model;
 
-/// A name of a link.
+/// A name of a link, by its number there.
 #[derive(Clone, Copy, PartialEq, Eq)]
 pub struct SymbolId {
     row: usize,
@@ -34,7 +34,9 @@ pub struct SymbolId {
 /// A reference: its file, and its first token (the dot, where it begins with one).
 #[derive(Clone, Copy)]
 pub struct RefId {
+    /// The number of its file, from 0.
     pub file: u32,
+    /// The index of its first token in that file, from 0.
     pub token: u32,
 }
 
@@ -60,7 +62,8 @@ pub struct Link {
     table: Table,
     /// For each file, the marks of the files that it sees.
     seen: Vec<Vec<bool>>,
-    /// For each file, its references by their first tokens, which rise, and the rows of the names that they mean.
+    /// For each file, its references by their first tokens, which rise, and the rows of the names
+    /// that they mean.
     meant: Vec<Vec<Meant>>,
     /// For each name, the references that mean it.
     references: Vec<Vec<RefId>>,
@@ -74,9 +77,16 @@ impl Model for Link {
 
     ghost Value = { LinkOf };
 
-    ghost view = { λ l. record { names = map name_of_row l.table.rows.items; seen = map (λ v. v.items) l.seen.items; meant = map (λ v. v.items) l.meant.items; references = map (λ v. v.items) l.references.items } };
+    ghost view = { λ l. record {
+      names = map name_of_row l.table.rows.items;
+      seen = map (λ v. v.items) l.seen.items;
+      meant = map (λ v. v.items) l.meant.items;
+      references = map (λ v. v.items) l.references.items;
+    } };
 
-    ghost invariant = { λ l. IsTable l.table × (length l.references.items ≡ length l.table.rows.items) × All (λ v. AllPairs (λ m n. m.token < n.token) v.items) l.meant.items };
+    ghost invariant = { λ l. IsTable l.table
+        × (length l.references.items ≡ length l.table.rows.items)
+        × All (λ v. AllPairs (λ m n. m.token < n.token) v.items) l.meant.items };
 }
 
 /// The row with this index, but for a package's.
@@ -128,11 +138,9 @@ impl Link {
         requires paired { length references.items ≡ length table.rows.items }
         ensures { result ≡ record {
           names = map name_of_row table.rows.items;
-          seen = map
-              (λ v. v.items) seen.items;
+          seen = map (λ v. v.items) seen.items;
           meant = map (λ v. v.items) meant.items;
-          references = map
-              (λ v. v.items) references.items;
+          references = map (λ v. v.items) references.items;
         } }
     {
         Link {
@@ -170,7 +178,8 @@ impl Link {
         Some(row.symbol.kind)
     }
 
-    /// The file that declares it; none where this link has no such name, and for a package, which many may declare.
+    /// The number of the file that declares it; none where this link has no such name, and for a
+    /// package, which many may declare.
     pub fn file_of(&self, id: SymbolId) -> Option<u32>
         ensures exact { result ≡ file_at self.now id.row }
         ensures declared { All (λ n. 0 < length n.files) self.now.names }
@@ -179,7 +188,7 @@ impl Link {
         Some(row.symbol.file)
     }
 
-    /// The token that it is declared at; none where `file_of` answers none.
+    /// The index of the token that it is declared at; none where `file_of` answers none.
     pub fn token_of(&self, id: SymbolId) -> Option<u32>
         ensures { result ≡ token_at self.now id.row }
     {
@@ -198,7 +207,8 @@ impl Link {
         }
     }
 
-    /// What the reference means that begins at this token of the file; none where none begins there. Takes no memory.
+    /// What the reference means that begins at this token of the file; none where none begins
+    /// there. Takes no memory.
     pub fn meant(&self, file: u32, token: u32) -> Option<SymbolId>
         ensures { option_map (λ id. id.row) result ≡ meant_at self.now file token }
     {
@@ -207,8 +217,8 @@ impl Link {
         Some(SymbolId { row })
     }
 
-    /// What the references of the file mean, in the order of their first tokens; empty where there is no such file.
-    /// Takes no memory.
+    /// What the references of the file mean, in the order of their first tokens; empty where there
+    /// is no such file. Takes no memory.
     pub fn meant_in(&self, file: u32) -> &[Meant]
         ensures exact { result.now ≡ get_or self.now.meant file [] }
         ensures rising { AllPairs (λ m n. m.token < n.token) result.now }
@@ -219,7 +229,8 @@ impl Link {
         }
     }
 
-    /// Whether the file sees a name with this text. Takes no memory.
+    /// Whether the file sees a name with this text; false where there is no such file. Takes no
+    /// memory.
     pub fn visible(&self, file: u32, name: &str) -> bool
         ensures { result ≡ is_visible self.now file name.now }
     {
@@ -229,8 +240,9 @@ impl Link {
         }
     }
 
-    /// What a reference of a file means in a scope; none where it means nothing that is visible. The scope is the full
-    /// name of what stands around it, empty for none; it need not be declared. Takes no memory.
+    /// What a reference of a file means in a scope; none where it means nothing that is visible.
+    /// The scope is the full name of what stands around it, empty for none; it need not be
+    /// declared. Takes no memory.
     pub fn resolve(
         &self,
         files: &Files,
@@ -247,10 +259,13 @@ impl Link {
         ensures within { IfSome result (λ id. id.row < length self.now.names) }
         ensures meant { (reads : List ReadOf) → AreRead files.now reads
             → (path : List (List ℕ)) → ArePlain path → scope.now ≡ joined path
-            → option_and_then (λ id. text_at self.now id.row) result ≡ option_map joined (meaning (names_of_files files.now reads) (reference_in files.now reads file path reference.now)) }
+            → option_and_then (λ id. text_at self.now id.row) result
+            ≡ option_map joined (meaning (names_of_files files.now reads)
+            (reference_in files.now reads file path reference.now)) }
         ensures none { (reads : List ReadOf) → AreRead files.now reads
             → (path : List (List ℕ)) → ArePlain path → scope.now ≡ joined path
-            → (result ≡ None) ↔ (meaning (names_of_files files.now reads) (reference_in files.now reads file path reference.now) ≡ None) }
+            → (result ≡ None) ↔ (meaning (names_of_files files.now reads)
+            (reference_in files.now reads file path reference.now) ≡ None) }
     {
         let seen = self.seen.get(file as usize)?;
         let words = Words::new(files, file as usize);

@@ -7,7 +7,7 @@ use proto_faults::{FaultKind, SchemaFault};
 use proto_files::Files;
 use std::alloc::Global;
 
-/// A fault at a token.
+/// The fault of this kind at a token of a file, by their numbers from 0; else want of memory.
 pub(crate) fn fault_at_token(
     alloc: Global,
     files: &Files,

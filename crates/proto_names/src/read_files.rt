@@ -45,7 +45,9 @@ pub(crate) fn all_spelled(
     ensures len { IfOk result (λ ss. length ss.items ≡ length files.now) }
     ensures spelled { IfOk result (λ ss. All (λ v. AreSpelled v.items) ss.items) }
     ensures each { IfOk result (λ ss. (reads : List ReadOf) → AreRead files.now reads
-        → Each (λ k v. named_in k v.items ≡ map (named_as k (λ i. text_of files.now reads (at k i))) (package_first (items_in (read_at reads k).tree))) ss.items) }
+        → Each (λ k v. named_in k v.items
+        ≡ map (named_as k (λ i. text_of files.now reads (at k i)))
+        (package_first (items_in (read_at reads k).tree))) ss.items) }
     ensures names { IfOk result (λ ss. (reads : List ReadOf) → AreRead files.now reads → all_named 0
         (map (λ v. v.items) ss.items) ≡ tree_named
         (text_of files.now reads) 0 (map names_in reads)) }

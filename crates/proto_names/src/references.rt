@@ -40,7 +40,9 @@ pub(crate) struct BadReference {
 /// Why the references of a file have no meanings: the first that is faulty, or want of memory.
 #[derive(Drop)]
 pub(crate) enum ReferenceError {
+    /// This reference is faulty.
     Bad(BadReference),
+    /// Memory ran out.
     NoMemory,
 }
 
@@ -71,8 +73,8 @@ pub struct Meant {
     pub(crate) row: usize,
 }
 
-/// What the references of a file mean, in order; else the first that is faulty. The scopes are indices of the file's
-/// declarations, and `rows` has the row of each.
+/// What the references of a file mean, in order; else the first that is faulty, or want of memory.
+/// The scopes are indices of the file's declarations, and `rows` has the row of each.
 pub(crate) fn meanings(
     alloc: Global,
     table: &Table,
@@ -89,7 +91,8 @@ pub(crate) fn meanings(
         (λ u. ArePlain (map (word_at words.now) (dotted u.reference.now.words))) uses.now }
     ensures meant { IfOk result (λ ms. (w : Workspace)
         (names : List (List (List ℕ))) → IsReadBy table.now seen.now rows.now names file w
-        → AreMeant table.now w (map (reference_by file names (word_at words.now)) uses.now) (map first_token uses.now) ms.items) }
+        → AreMeant table.now w (map (reference_by file names (word_at words.now)) uses.now)
+        (map first_token uses.now) ms.items) }
     ensures fault { IfErr result (λ e. (w : Workspace)
         (names : List (List (List ℕ))) → IsReadBy table.now seen.now rows.now names file w
         → IsReferenceError w (reference_by file names (word_at words.now)) file uses.now e) }

@@ -1,6 +1,6 @@
 //! What one reference means in a scope, by its tokens. Takes no memory.
 
-ghost use Rattle.std.specs.Prelude.{◌≡◌, ◌≢◌, ◌<◌, ℕ, List, [], length, get_or, map, option_map, is_some, IfSome, IfNone};
+ghost use Rattle.std.specs.Prelude.{◌≡◌, ◌≢◌, ◌<◌, ℕ, [], length, get_or, map, option_map, is_some, IfSome, IfNone};
 ghost use Rattle.proto_text.specs.Texts.{word_at};
 ghost use Rattle.proto_tree.specs.References.{dotted};
 ghost use Rattle.proto_meaning.specs.Joined.{joined, ArePlain};
@@ -14,7 +14,8 @@ use proto_files::Words;
 use proto_table::table::Table;
 use proto_tree::{Behind, Reference};
 
-/// The row of what a reference means in a scope, where these files are seen. The scope need not be a name.
+/// The row of what a reference means in a scope, where these files are seen. The scope need not be
+/// a name.
 pub(crate) fn row_in_scope(
     table: &Table,
     seen: &[bool],
@@ -27,8 +28,10 @@ pub(crate) fn row_in_scope(
     ensures within { IfSome result (λ k. k < length table.now.rows.items) }
     ensures meant { (w : Workspace) (r : NameReference) → IsIndexOf table.now w.symbols
         → MarksSeen w r.file seen.now → ArePlain r.scope → scope.now ≡ joined r.scope
-        → r.words ≡ map (word_at words.now) (dotted reference.now.words) → r.is_absolute ≡ is_some reference.now.dot
-        → option_map (λ k. get_or (names_of table.now) k []) result ≡ option_map joined (meaning w r) }
+        → r.words ≡ map (word_at words.now) (dotted reference.now.words)
+        → r.is_absolute ≡ is_some reference.now.dot
+        → option_map (λ k. get_or (names_of table.now) k []) result
+        ≡ option_map joined (meaning w r) }
 {
     let first = words.get(reference.words.first);
     let rest = reference.words.rest.as_slice();

@@ -7,7 +7,8 @@ ghost use Rattle.proto_table.specs.Tables.{IsTable};
 
 use proto_table::table::{Table, cut};
 
-/// The number of the longest front of a scope, as text, that is a name of the table; 0 where none is.
+/// The number of the longest front of a scope, as text, that is a name of the table; 0 where none
+/// is. The number of a row is one more than its index.
 #[tactic(auto, using(crate::proofs::Scopes::scope_begun))]
 pub(crate) fn scope_number(table: &Table, scope: &str) -> usize
     requires { IsTable table.now }

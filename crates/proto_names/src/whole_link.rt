@@ -4,15 +4,13 @@ ghost use Rattle.std.specs.Prelude.{◌≡◌, ℕ, ◌<◌, List, [], length, g
 ghost use Rattle.std.specs.List.{All};
 ghost use Rattle.proto_files.specs.Faults.{HasNoFault};
 ghost use Rattle.proto_faults.specs.FaultTable.{number_of as number_of_kind};
-ghost use Rattle.proto_files.specs.GivenFiles.{paths_of};
 ghost use Rattle.proto_meaning.specs.Faults.{Fault as FaultAtToken, ReferenceFault};
 ghost use Rattle.proto_names.specs.FileReferences.{AreFileMeant, flaw_number};
 ghost use Rattle.proto_imports.specs.Importing.{all_imports, number_of};
 ghost use Rattle.proto_names.specs.LinkErrors.{IsLinkError};
 ghost use Rattle.proto_names.specs.LinkOfFiles.{AreNamesOf, HasNoImportFault, HasNoNameFault, IsLinkOf};
 ghost use Rattle.proto_imports.specs.Links.{AreListings, LinkFaults, link_imports, link_skeleton, names_of_files, text_of};
-ghost use Rattle.proto_files.specs.FilesRead.{Each};
-ghost use Rattle.proto_files.specs.FilesRead.{AreRead, ReadOf};
+ghost use Rattle.proto_files.specs.FilesRead.{AreRead, Each, ReadOf};
 ghost use Rattle.proto_meaning.specs.Marks.{MarksSeen};
 ghost use Rattle.proto_table.specs.Tables.{IsTable};
 ghost use Rattle.proto_listing.specs.declared.listing.Listing.{Listing};
@@ -32,6 +30,7 @@ use proto_table::filling::{NameError, declare_all};
 use proto_table::table::Table;
 use std::alloc::Global;
 
+/// The kind of the fault that an import has.
 fn import_kind(flaw: ImportFlaw) -> FaultKind
     ensures { number_of_kind result ≡ number_of flaw }
 {
@@ -52,7 +51,8 @@ fn linked_imports(alloc: Global, files: &Files) -> Result<Vec<Vec<FileImport>>, 
     ensures clean { IfOk result (λ _. HasNoImportFault files.now) }
     ensures fault { IfErr result (IsLinkError files.now) }
 {
-    // The contracts of these say that each file is read, and that the files are those of a workspace.
+    // The contracts of these say that each file is read, and that the files are those of a
+    // workspace.
     are_read(files);
     files.len();
     let written = all_written(alloc, files)?;
@@ -67,7 +67,8 @@ fn linked_imports(alloc: Global, files: &Files) -> Result<Vec<Vec<FileImport>>, 
     }
 }
 
-/// The table of the names of the files, and for each file the rows of its declarations; else the least clash of names.
+/// The table of the names of the files, and for each file the rows of its declarations; else the
+/// least clash of names.
 fn linked_names(
     alloc: Global,
     files: &Files,
@@ -87,7 +88,8 @@ fn linked_names(
     ensures clean { IfOk result (λ _. HasNoNameFault files.now) }
     ensures fault { IfErr result (IsLinkError files.now) }
 {
-    // The contracts of these say that each file is read, and that the files are those of a workspace.
+    // The contracts of these say that each file is read, and that the files are those of a
+    // workspace.
     are_read(files);
     let _count = files.len();
     let spelled = all_spelled(alloc, files, listings)?;
@@ -101,6 +103,7 @@ fn linked_names(
     }
 }
 
+/// The kind of the fault that a reference has.
 fn reference_kind(flaw: ReferenceFlaw) -> FaultKind
     ensures { number_of_kind result ≡ flaw_number flaw }
 {
@@ -145,7 +148,8 @@ fn linked_references(
         (link_skeleton files.now reads) f → ⊥) }
     ensures fault { IfErr result (IsLinkError files.now) }
 {
-    // The contracts of these say that each file is read, and that the files are those of a workspace.
+    // The contracts of these say that each file is read, and that the files are those of a
+    // workspace.
     are_read(files);
     files.len();
     match all_meanings(alloc, files, table, seen, rows, listings) {
@@ -159,8 +163,8 @@ fn linked_references(
 }
 
 impl Link {
-    /// The link of the files, where their imports, names and references have no fault; else the least fault by phase,
-    /// path, offset and number.
+    /// The link of the files, where their imports, names and references have no fault; else the
+    /// least fault by phase, path, offset and number, or want of memory.
     pub fn new(alloc: Global, files: &Files) -> Result<Link, SchemaFault>
         ensures link { IfOk result (IsLinkOf files.now) }
         ensures clean { IfOk result (λ _. HasNoFault (LinkFaults files.now)) }
