@@ -12,11 +12,14 @@ abbrev pub Stops : (ℕ → Bool) → List ℕ → Type 0
 Stops p [] = Unit {0}
 Stops p (b ∷ bytes) = p b ≡ false
 
+-- the byte is `\`
 abbrev pub is_backslash : ℕ → Bool
 is_backslash b = b == 92
 
+-- a digit 0 to 7
 abbrev pub is_octal : ℕ → Bool
 is_octal b = nat_le 48 b && nat_le b 55
 
+-- a digit 0 to 9, or a letter a to f or A to F
 abbrev pub is_hex : ℕ → Bool
 is_hex b = is_digit b || (nat_le 97 b && nat_le b 102) || (nat_le 65 b && nat_le b 70)

@@ -1,4 +1,5 @@
--- The pieces of a text in groups: trivia, token, trivia, .., token, trivia, as the language specification describes a file.
+-- The pieces of a text in groups: trivia, token, trivia, .., token, trivia, as the language
+-- specification describes a file.
 use Rattle.std.specs.Prelude.{◌≡◌, ℕ, true, List, [], ◌∷◌, ◌++◌}
 use Rattle.proto_text.specs.declared.class.Class.TheVariants.{Space}
 use Rattle.proto_text.specs.declared.kind.PieceKind.{PieceKind}
@@ -9,7 +10,8 @@ use Rattle.proto_text.specs.Bytes.{Stops}
 use Rattle.proto_text.specs.Classes.{is_identifier}
 use Rattle.proto_text.specs.Pieces.{Piece, IsOne, IsLineComment, IsBlockComment, IsLexeme, IsPieces, is_in_line, text_of}
 
--- one white-space byte, a block comment through its first `*/`, or a line comment up to a line feed or the end of the text
+-- one white-space byte, a block comment through its first `*/`, or a line comment up to a line feed
+-- or the end of the text
 abbrev pub IsTrivium : PieceKind → List ℕ → List ℕ → Type 0
 IsTrivium Blank bytes rest = IsOne Space bytes
 IsTrivium BlockComment bytes rest = IsBlockComment bytes
@@ -27,6 +29,7 @@ pub record Group : Type 0 where
   pub bytes : List ℕ
   pub behind : List Piece
 
+-- the text of groups: each token, and the trivia behind it
 abbrev pub groups_text : List Group → List ℕ
 groups_text [] = []
 groups_text (g ∷ gs) = g.bytes ++ (text_of g.behind ++ groups_text gs)
@@ -43,14 +46,19 @@ abbrev pub BeginsIdentifier : List ℕ → Type 0
 BeginsIdentifier [] = ⊥
 BeginsIdentifier (b ∷ bytes) = is_identifier b ≡ true
 
--- Between a word or number and a token that begins with an identifier character the trivia is not empty.
+-- Between a word or number and a token that begins with an identifier character the trivia is not
+-- empty.
 abbrev pub IsApart : Group → List Group → Type 0
 IsApart g [] = Unit {0}
-IsApart g (h ∷ hs) = TakesIdentifiers g.kind → BeginsIdentifier h.bytes → g.behind ≡ [] → ⊥
+IsApart g (h ∷ hs) =
+    TakesIdentifiers g.kind → BeginsIdentifier h.bytes → g.behind ≡ [] → ⊥
 
+-- Each token is of the lexical set of its kind, and trivia stands behind it where that is needed.
 abbrev pub AreGroups : List Group → Type 0
 AreGroups [] = Unit {0}
-AreGroups (g ∷ gs) = IsLexeme (Solid g.kind) g.bytes × AreTrivia g.behind (groups_text gs) × IsApart g gs × AreGroups gs
+AreGroups (g ∷ gs) =
+    IsLexeme (Solid g.kind) g.bytes × AreTrivia g.behind (groups_text gs)
+    × IsApart g gs × AreGroups gs
 
 -- the text is this trivia, and then these groups
 pub record IsGrouped (text : List ℕ) (first : List Piece) (groups : List Group) : Type 0 where
@@ -58,17 +66,27 @@ pub record IsGrouped (text : List ℕ) (first : List Piece) (groups : List Group
   pub tokens : AreGroups groups
   pub whole : text ≡ text_of first ++ groups_text groups
 
+-- the pieces of groups: each token, and the trivia behind it
 abbrev pub pieces_of : List Group → List Piece
 pieces_of [] = []
-pieces_of (g ∷ gs) = record { kind = Solid g.kind; bytes = g.bytes } ∷ (g.behind ++ pieces_of gs)
+pieces_of (g ∷ gs) =
+    record { kind = Solid g.kind; bytes = g.bytes } ∷ (g.behind ++ pieces_of gs)
 
--- A text in groups is a text in pieces, and the other way round.
+-- A text in groups is a text in pieces.
 abbrev pub GroupsArePieces : Type 0
-GroupsArePieces = (text : List ℕ) (first : List Piece) (groups : List Group) → IsGrouped text first groups → IsPieces text (first ++ pieces_of groups)
+GroupsArePieces =
+    (text : List ℕ) (first : List Piece) (groups : List Group) → IsGrouped text first groups
+    → IsPieces text (first ++ pieces_of groups)
 
+-- A text in pieces is a text in groups of the same pieces.
 abbrev pub PiecesAreGroups : Type 0
-PiecesAreGroups = (text : List ℕ) (ps : List Piece) → IsPieces text ps → (first : List Piece) × (groups : List Group) × IsGrouped text first groups × (ps ≡ first ++ pieces_of groups)
+PiecesAreGroups =
+    (text : List ℕ) (ps : List Piece) → IsPieces text ps
+    → (first : List Piece) × (groups : List Group) × IsGrouped text first groups
+    × (ps ≡ first ++ pieces_of groups)
 
 -- A text is grouped in one way at most.
 abbrev pub OneGrouping : Type 0
-OneGrouping = (text : List ℕ) (a b : List Piece) (gs hs : List Group) → IsGrouped text a gs → IsGrouped text b hs → (a ≡ b) × (gs ≡ hs)
+OneGrouping =
+    (text : List ℕ) (a b : List Piece) (gs hs : List Group) → IsGrouped text a gs
+    → IsGrouped text b hs → (a ≡ b) × (gs ≡ hs)

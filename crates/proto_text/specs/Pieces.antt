@@ -1,4 +1,5 @@
--- The pieces of a text: white space, comments and tokens, after the lexical elements of the language specification. That numbers are whole is a choice of this profile.
+-- The pieces of a text: white space, comments and tokens, after the lexical elements of the
+-- language specification. That numbers are whole is a choice of this profile.
 use Rattle.std.specs.Prelude.{◌≡◌, ℕ, Bool, true, false, not, List, [], ◌∷◌, ◌++◌, ◌==◌, ◌&&◌, ◌||◌, ◌⊎◌, if◌then◌else◌}
 use Rattle.std.specs.List.{list_all}
 use Rattle.proto_text.specs.declared.class.Class.{Class}
@@ -21,6 +22,7 @@ abbrev pub IsRun : Class → List ℕ → Type 0
 IsRun class [] = ⊥
 IsRun class (b ∷ bytes) = (class_of b ≡ class) × Each is_identifier bytes
 
+-- `x` or `X`, and one or more hexadecimal digits
 abbrev pub is_hex_tail : List ℕ → Bool
 is_hex_tail [] = false
 is_hex_tail (x ∷ []) = false
@@ -29,7 +31,9 @@ is_hex_tail (x ∷ d ∷ ds) = (x == 120 || x == 88) && list_all is_hex (d ∷ d
 -- `0`, a digit 1 to 9 and digits, `0` and octal digits, or `0x` or `0X` and hexadecimal digits
 abbrev pub is_number : List ℕ → Bool
 is_number [] = false
-is_number (b ∷ bytes) = if b == 48 then (list_all is_octal bytes || is_hex_tail bytes) else list_all is_digit (b ∷ bytes)
+is_number (b ∷ bytes) =
+    if b == 48 then (list_all is_octal bytes || is_hex_tail bytes)
+    else list_all is_digit (b ∷ bytes)
 
 -- a byte other than a line feed
 abbrev pub is_in_line : ℕ → Bool
@@ -43,11 +47,14 @@ opens_comment b = b == 47 || b == 42
 abbrev pub HasNoClose : List ℕ → Type 0
 HasNoClose bytes = (front back : List ℕ) → bytes ≡ front ++ 42 ∷ 47 ∷ back → ⊥
 
+-- `//`, and bytes that are no line feed
 abbrev pub IsLineComment : List ℕ → Type 0
 IsLineComment bytes = (body : List ℕ) × (bytes ≡ 47 ∷ 47 ∷ body) × Each is_in_line body
 
+-- `/*`, bytes in which no `*/` stands, and `*/`
 abbrev pub IsBlockComment : List ℕ → Type 0
-IsBlockComment bytes = (body : List ℕ) × (bytes ≡ 47 ∷ 42 ∷ (body ++ 42 ∷ 47 ∷ [])) × HasNoClose body
+IsBlockComment bytes =
+    (body : List ℕ) × (bytes ≡ 47 ∷ 42 ∷ (body ++ 42 ∷ 47 ∷ [])) × HasNoClose body
 
 -- the bytes are a piece of the kind
 abbrev pub IsLexeme : PieceKind → List ℕ → Type 0
@@ -70,10 +77,12 @@ EndsBefore (Solid Number) rest = Stops is_identifier rest
 EndsBefore (Solid Text) rest = Unit {0}
 EndsBefore (Solid Punctuation) rest = Unit {0}
 
+-- a piece of a text: its kind, and its bytes
 pub record Piece : Type 0 where
   pub kind : PieceKind
   pub bytes : List ℕ
 
+-- the text of pieces: their bytes, one piece after the other
 abbrev pub text_of : List Piece → List ℕ
 text_of [] = []
 text_of (p ∷ ps) = p.bytes ++ text_of ps
@@ -81,7 +90,8 @@ text_of (p ∷ ps) = p.bytes ++ text_of ps
 -- the pieces stand one after the other, and rest behind them
 abbrev pub ArePieces : List Piece → List ℕ → Type 0
 ArePieces [] rest = Unit {0}
-ArePieces (p ∷ ps) rest = IsLexeme p.kind p.bytes × EndsBefore p.kind (text_of ps ++ rest) × ArePieces ps rest
+ArePieces (p ∷ ps) rest =
+    IsLexeme p.kind p.bytes × EndsBefore p.kind (text_of ps ++ rest) × ArePieces ps rest
 
 -- the text is these pieces, and then rest
 abbrev pub IsFront : List ℕ → List Piece → List ℕ → Type 0
@@ -93,8 +103,16 @@ IsPieces text ps = IsFront text ps []
 
 -- no whole and allowed piece begins, and why
 abbrev pub IsFault : LexFault → List ℕ → Type 0
-IsFault BadChar rest = (c : ℕ) × (more : List ℕ) × (rest ≡ c ∷ more) × ((class_of c ≡ Other) ⊎ ((class_of c ≡ Slash) × Stops opens_comment more))
+IsFault BadChar rest =
+    (c : ℕ) × (more : List ℕ) × (rest ≡ c ∷ more)
+    × ((class_of c ≡ Other) ⊎ ((class_of c ≡ Slash) × Stops opens_comment more))
 IsFault OpenComment rest = (more : List ℕ) × (rest ≡ 47 ∷ 42 ∷ more) × HasNoClose more
-IsFault OpenString rest = (c : ℕ) × (more : List ℕ) × (rest ≡ c ∷ more) × (class_of c ≡ Quote) × ((body back : List ℕ) → more ≡ body ++ c ∷ back → is_body false c body ≡ true → ⊥)
-IsFault BadEscape rest = (text more : List ℕ) × (c : ℕ) × (body : List ℕ) × (rest ≡ text ++ more) × IsQuoted text c body × (IsAllowed body → ⊥)
-IsFault BadNumber rest = (run more : List ℕ) × (rest ≡ run ++ more) × IsRun Digit run × Stops is_identifier more × (is_number run ≡ false)
+IsFault OpenString rest =
+    (c : ℕ) × (more : List ℕ) × (rest ≡ c ∷ more) × (class_of c ≡ Quote)
+    × ((body back : List ℕ) → more ≡ body ++ c ∷ back → is_body false c body ≡ true → ⊥)
+IsFault BadEscape rest =
+    (text more : List ℕ) × (c : ℕ) × (body : List ℕ) × (rest ≡ text ++ more)
+    × IsQuoted text c body × (IsAllowed body → ⊥)
+IsFault BadNumber rest =
+    (run more : List ℕ) × (rest ≡ run ++ more) × IsRun Digit run
+    × Stops is_identifier more × (is_number run ≡ false)

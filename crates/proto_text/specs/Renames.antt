@@ -1,11 +1,13 @@
 -- Pieces that differ in words alone, and edits at pieces.
 use Rattle.std.specs.Prelude.{◌≡◌, ℕ, ◌+◌, List, [], ◌∷◌, ◌++◌, ◌⊎◌, length, map, Option, Some, None}
+use Rattle.proto_faults.specs.Texts.{Text}
 use Rattle.proto_text.specs.Edits.{Edit, Puts}
 use Rattle.proto_text.specs.declared.class.Class.TheVariants.{Letter}
 use Rattle.proto_text.specs.declared.kind.PieceKind.TheVariants.{Solid}
 use Rattle.proto_text.specs.declared.kind.TokenKind.TheVariants.{Word}
 use Rattle.proto_text.specs.Pieces.{Piece, IsRun, IsPieces, text_of}
 
+-- a piece that is a word token
 abbrev pub IsWord : Piece → Type 0
 IsWord p = (p.kind ≡ Solid Word) × IsRun Letter p.bytes
 
@@ -16,24 +18,30 @@ SameButWords [] (q ∷ qs) = ⊥
 SameButWords (p ∷ ps) [] = ⊥
 SameButWords (p ∷ ps) (q ∷ qs) = ((p ≡ q) ⊎ (IsWord p × IsWord q)) × SameButWords ps qs
 
--- words may be put in the place of words
+-- Pieces with other words in the place of words are pieces.
 abbrev pub WordsMayChange : Type 0
-WordsMayChange = (text : List ℕ) (ps qs : List Piece) → IsPieces text ps → SameButWords ps qs → IsPieces (text_of qs) qs
+WordsMayChange =
+    (text : List ℕ) (ps qs : List Piece) → IsPieces text ps → SameButWords ps qs
+    → IsPieces (text_of qs) qs
 
 -- a piece, and the bytes that come in its place, if others do
-abbrev pub after : Piece × Option (List ℕ) → Piece
+abbrev pub after : Piece × Option Text → Piece
 after (p, None) = p
 after (p, Some bytes) = record p { bytes = bytes }
 
-abbrev pub edit_if : ℕ → Piece × Option (List ℕ) → List Edit
+-- the edit of a piece at an offset, if other bytes come in its place
+abbrev pub edit_if : ℕ → Piece × Option Text → List Edit
 edit_if at (p, None) = []
 edit_if at (p, Some bytes) = record { at = at; old = p.bytes; new = bytes } ∷ []
 
 -- the edits of pieces that begin at an offset
-abbrev pub edits_from : ℕ → List (Piece × Option (List ℕ)) → List Edit
+abbrev pub edits_from : ℕ → List (Piece × Option Text) → List Edit
 edits_from at [] = []
 edits_from at (c ∷ cs) = edit_if at c ++ edits_from (at + length c.0.bytes) cs
 
 -- To edit a text at its pieces is to put other pieces in their place.
 abbrev pub EditsChangePieces : Type 0
-EditsChangePieces = (changes : List (Piece × Option (List ℕ))) → Puts 0 (text_of (map (λ c. c.0) changes)) (edits_from 0 changes) (text_of (map after changes))
+EditsChangePieces =
+    (changes : List (Piece × Option (List ℕ)))
+    → Puts 0 (text_of (map (λ c. c.0) changes)) (edits_from 0 changes)
+    (text_of (map after changes))

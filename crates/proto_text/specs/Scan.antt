@@ -15,16 +15,20 @@ use Rattle.proto_text.specs.Pieces.{is_number, is_in_line}
 -- how many bytes there are through the first `*/`; star says that a `*` stands before them
 unfoldable pub close_len : Bool → List ℕ → Option ℕ
 close_len star [] = None
-close_len star (b ∷ bytes) = if star && b == 47 then Some 1 else option_map suc (close_len (b == 42) bytes)
+close_len star (b ∷ bytes) =
+    if star && b == 47 then Some 1
+    else option_map suc (close_len (b == 42) bytes)
 
+-- what begins some bytes: a piece of a kind, so many bytes long, or a fault
 abbrev pub Found : Type 0
 Found = Result (PieceKind × ℕ) LexFault
 
+-- the block comment that ends n bytes behind its `/*`, if it ends
 abbrev pub block_found : Option ℕ → Found
 block_found None = Err OpenComment
 block_found (Some n) = Ok (BlockComment, 2 + n)
 
--- behind a slash
+-- the comment that the bytes behind a slash begin
 unfoldable pub comment_at : List ℕ → Found
 comment_at [] = Err BadChar
 comment_at (b ∷ bytes) =
@@ -32,17 +36,20 @@ comment_at (b ∷ bytes) =
     else (if b == 42 then block_found (close_len false bytes)
     else Err BadChar)
 
+-- the first n bytes as a number, if they are one
 unfoldable pub number_at : ℕ → List ℕ → Found
 number_at n bytes = if is_number (take n bytes) then Ok (Solid Number, n) else Err BadNumber
 
+-- the string that ends n bytes behind its first quote, if it ends
 abbrev pub string_found : Option ℕ → Found
 string_found None = Err OpenString
 string_found (Some n) = Ok (Solid Text, 1 + n)
 
--- behind a quote; what the string stands for is not looked at
+-- the string of the bytes behind a quote; what it stands for is not looked at
 unfoldable pub string_at : ℕ → List ℕ → Found
 string_at quote bytes = string_found (end_len false quote bytes)
 
+-- the piece that a byte of the class begins, with the bytes behind it
 abbrev pub piece_of : Class → ℕ → List ℕ → Found
 piece_of Space b bytes = Ok (Blank, 1)
 piece_of Letter b bytes = Ok (Solid Word, 1 + prefix_len is_identifier bytes)

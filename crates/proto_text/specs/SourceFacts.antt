@@ -1,13 +1,14 @@
 -- What makes a text: its size and its encoding, choices of this profile.
-use Rattle.std.specs.Prelude.{◌≡◌, ℕ, ◌<◌, ◌≤◌, ◌-◌, List, length, take, drop, Result, Ok, Err}
+use Rattle.std.specs.Prelude.{◌≡◌, ◌<◌, ◌≤◌, ◌-◌, length, take, drop, Result, Ok, Err}
 use Rattle.std.specs.Str.{IsUtf8, IsCharBoundary}
+use Rattle.proto_faults.specs.Texts.{Text}
 use Rattle.proto_text.specs.declared.source.Source.{Source}
 use Rattle.proto_text.specs.declared.source.Span.{Span}
 use Rattle.proto_text.specs.declared.fault.TextFault.{TextFault}
 use Rattle.proto_text.specs.declared.fault.TextFault.TheVariants.{TooLarge, NotUtf8, At, NoMemory}
 
 -- the bytes are a text, or too many, or else not UTF-8
-abbrev pub NewSource : List ℕ → Result Source TextFault → Type 0
+abbrev pub NewSource : Text → Result Source TextFault → Type 0
 NewSource bytes (Ok source) = (source ≡ bytes) × (length bytes ≤ 1048576) × IsUtf8 bytes
 NewSource bytes (Err TooLarge) = 1048576 < length bytes
 NewSource bytes (Err NotUtf8) = (length bytes ≤ 1048576) × (IsUtf8 bytes → ⊥)
@@ -15,11 +16,11 @@ NewSource bytes (Err (At offset fault)) = ⊥
 NewSource bytes (Err NoMemory) = ⊥
 
 -- the span lies in the text, and cuts no character
-pub record IsSpan (text : List ℕ) (span : Span) : Type 0 where
+pub record IsSpan (text : Text) (span : Span) : Type 0 where
   pub ordered : span.start ≤ span.end
   pub starts : IsCharBoundary text span.start
   pub ends : IsCharBoundary text span.end
 
 -- the bytes at a span
-abbrev pub text_at : List ℕ → Span → List ℕ
+abbrev pub text_at : Text → Span → Text
 text_at text span = take (span.end - span.start) (drop span.start text)

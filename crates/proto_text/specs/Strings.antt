@@ -1,7 +1,9 @@
--- Strings: where they end and what they stand for, after the string literals of the language specification. `\X`, `\u` and `\U` are left out, a choice of this profile.
+-- Strings: where they end and what they stand for, after the string literals of the language
+-- specification. `\X`, `\u` and `\U` are left out, a choice of this profile.
 use Rattle.std.specs.Prelude.{◌≡◌, ℕ, ◌+◌, ◌-◌, ◌*◌, ◌<◌, ◌≤◌, suc, min, Bool, true, false, not, List, [], ◌∷◌, ◌++◌, ◌==◌, ◌&&◌, ◌||◌, ◌⊎◌, nat_le, nat_lt, length, take, if◌then◌else◌, Option, Some, None, option_map}
 use Rattle.std.specs.List.{prefix_len}
 use Rattle.std.specs.Str.{IsUtf8}
+use Rattle.proto_faults.specs.Texts.{Text}
 use Rattle.proto_text.specs.declared.class.Class.TheVariants.{Quote}
 use Rattle.proto_text.specs.declared.ending.Step.{Step}
 use Rattle.proto_text.specs.declared.ending.Step.TheVariants.{Breaks, Ends, GoesOn}
@@ -12,8 +14,8 @@ use Rattle.proto_text.specs.Bytes.{Each, Stops, is_octal, is_hex}
 
 -- ---- where a string ends
 
--- What a byte of a string does: a line feed or U+0000 breaks it, a quote that no backslash stands before ends it;
--- else it goes on, and a backslash stands before the next byte or not
+-- What a byte of a string does: a line feed or U+0000 breaks it, a quote that no backslash escapes
+-- ends it; else it goes on, and the next byte is escaped or not.
 abbrev pub step_of : Bool → ℕ → ℕ → Step
 step_of escaped quote b =
     if b == 10 || b == 0 then Breaks
@@ -21,22 +23,27 @@ step_of escaped quote b =
     else (if b == quote then Ends
     else GoesOn (b == 92)))
 
+-- a byte that neither breaks nor ends the string is of its body, if the bytes behind it are
 abbrev pub body_after : Step → (Bool → Bool) → Bool
 body_after Breaks more = false
 body_after Ends more = false
 body_after (GoesOn next) more = more next
 
--- the bytes may stand between the quotes
-abbrev pub is_body : Bool → ℕ → List ℕ → Bool
+-- the bytes may stand between the quotes; escaped says that a backslash escapes the first
+abbrev pub is_body : Bool → ℕ → Text → Bool
 is_body escaped quote [] = not escaped
-is_body escaped quote (b ∷ bytes) = body_after (step_of escaped quote b) (λ next. is_body next quote bytes)
+is_body escaped quote (b ∷ bytes) =
+    body_after (step_of escaped quote b) (λ next. is_body next quote bytes)
 
 -- a quote, a body and the quote
-abbrev pub IsQuoted : List ℕ → ℕ → List ℕ → Type 0
-IsQuoted bytes quote body = (class_of quote ≡ Quote) × (bytes ≡ quote ∷ (body ++ quote ∷ [])) × (is_body false quote body ≡ true)
+abbrev pub IsQuoted : Text → ℕ → Text → Type 0
+IsQuoted bytes quote body =
+    (class_of quote ≡ Quote) × (bytes ≡ quote ∷ (body ++ quote ∷ []))
+    × (is_body false quote body ≡ true)
 
 -- ---- what it stands for
 
+-- what the byte behind a backslash begins: octal digits, hexadecimal ones, or a single character
 unfoldable pub escape_of : ℕ → Escape
 escape_of b =
     if is_octal b then Octal
@@ -51,86 +58,105 @@ escape_of b =
     else (if b == 34 || b == 39 || b == 63 || b == 92 then Single b
     else Unknown)))))))))
 
+-- the value of a digit: a to f and A to F are 10 to 15
 abbrev pub digit_value : ℕ → ℕ
 digit_value b = if is_digit b then b - 48 else (if nat_le 97 b then b - 87 else b - 55)
 
--- the number of the digits, behind those of front
-abbrev pub number_in : ℕ → ℕ → List ℕ → ℕ
+-- the number of the digits to a base, behind digits whose number is front
+abbrev pub number_in : ℕ → ℕ → Text → ℕ
 number_in base front [] = front
 number_in base front (d ∷ ds) = number_in base (front * base + digit_value d) ds
 
 -- a byte that is no backslash
-abbrev pub IsPlain : List ℕ → ℕ → Type 0
+abbrev pub IsPlain : Text → ℕ → Type 0
 IsPlain bytes value = (bytes ≡ value ∷ []) × ((value == 92) ≡ false)
 
-abbrev pub IsSingle : List ℕ → ℕ → Type 0
+-- a backslash and one character, which stand for one byte
+abbrev pub IsSingle : Text → ℕ → Type 0
 IsSingle bytes value = (b : ℕ) × (bytes ≡ 92 ∷ b ∷ []) × (escape_of b ≡ Single value)
 
 -- one to limit digits, as many as there are
-pub record IsDigits (is : ℕ → Bool) (limit : ℕ) (digits rest : List ℕ) : Type 0 where
+pub record IsDigits (is : ℕ → Bool) (limit : ℕ) (digits rest : Text) : Type 0 where
   pub each : Each is digits
   pub some : 0 < length digits
   pub short : length digits ≤ limit
   pub longest : length digits < limit → Stops is rest
 
-abbrev pub IsOctal : List ℕ → ℕ → List ℕ → Type 0
-IsOctal bytes value rest = (digits : List ℕ) × (bytes ≡ 92 ∷ digits) × IsDigits is_octal 3 digits rest × (value ≡ number_in 8 0 digits) × (nat_lt value 256 ≡ true)
+-- a backslash and one to three octal digits, whose number is below 256
+abbrev pub IsOctal : Text → ℕ → Text → Type 0
+IsOctal bytes value rest =
+    (digits : List ℕ) × (bytes ≡ 92 ∷ digits) × IsDigits is_octal 3 digits rest
+    × (value ≡ number_in 8 0 digits) × (nat_lt value 256 ≡ true)
 
-abbrev pub IsHexadecimal : List ℕ → ℕ → List ℕ → Type 0
-IsHexadecimal bytes value rest = (b : ℕ) × (digits : List ℕ) × (bytes ≡ 92 ∷ b ∷ digits) × (escape_of b ≡ Hexadecimal) × IsDigits is_hex 2 digits rest × (value ≡ number_in 16 0 digits) × (nat_lt value 256 ≡ true)
+-- a backslash, `x` and one or two hexadecimal digits
+abbrev pub IsHexadecimal : Text → ℕ → Text → Type 0
+IsHexadecimal bytes value rest =
+    (b : ℕ) × (digits : List ℕ) × (bytes ≡ 92 ∷ b ∷ digits) × (escape_of b ≡ Hexadecimal)
+    × IsDigits is_hex 2 digits rest × (value ≡ number_in 16 0 digits) × (nat_lt value 256 ≡ true)
 
 -- bytes before rest that stand for one byte
-abbrev pub IsUnit : List ℕ → ℕ → List ℕ → Type 0
-IsUnit bytes value rest = IsPlain bytes value ⊎ (IsSingle bytes value ⊎ (IsOctal bytes value rest ⊎ IsHexadecimal bytes value rest))
+abbrev pub IsUnit : Text → ℕ → Text → Type 0
+IsUnit bytes value rest =
+    IsPlain bytes value
+    ⊎ (IsSingle bytes value ⊎ (IsOctal bytes value rest ⊎ IsHexadecimal bytes value rest))
 
 -- the text between the quotes stands for these bytes
-abbrev pub Means : List ℕ → List ℕ → Type 0
+abbrev pub Means : Text → Text → Type 0
 Means text [] = text ≡ []
-Means text (value ∷ values) = (bytes rest : List ℕ) × (text ≡ bytes ++ rest) × IsUnit bytes value rest × Means rest values
+Means text (value ∷ values) =
+    (bytes rest : List ℕ) × (text ≡ bytes ++ rest) × IsUnit bytes value rest × Means rest values
 
 -- each escape is allowed, and what the text stands for is UTF-8
-abbrev pub IsAllowed : List ℕ → Type 0
+abbrev pub IsAllowed : Text → Type 0
 IsAllowed body = (values : List ℕ) × Means body values × IsUtf8 values
 
-abbrev pub IsString : List ℕ → Type 0
+-- the text of a string token: two like quotes, and between them allowed escapes and a UTF-8 value
+abbrev pub IsString : Text → Type 0
 IsString bytes = (quote : ℕ) × (body : List ℕ) × IsQuoted bytes quote body × IsAllowed body
 
 -- ---- the same from left to right
 
+-- a byte that ends the string is the last one; one that goes on is one more than those behind it
 abbrev pub end_after : Step → (Bool → Option ℕ) → Option ℕ
 end_after Breaks more = None
 end_after Ends more = Some 1
 end_after (GoesOn next) more = option_map suc (more next)
 
 -- how many bytes there are through the quote that ends a string
-unfoldable pub end_len : Bool → ℕ → List ℕ → Option ℕ
+unfoldable pub end_len : Bool → ℕ → Text → Option ℕ
 end_len escaped quote [] = None
-end_len escaped quote (b ∷ bytes) = end_after (step_of escaped quote b) (λ next. end_len next quote bytes)
+end_len escaped quote (b ∷ bytes) =
+    end_after (step_of escaped quote b) (λ next. end_len next quote bytes)
 
-unfoldable pub octal_at : List ℕ → Option (ℕ × ℕ)
+-- the byte of the first octal digits, at most three, if it is below 256, and how many bytes they
+-- are with the backslash before them
+unfoldable pub octal_at : Text → Option (ℕ × ℕ)
 octal_at bytes =
     let n = min 3 (prefix_len is_octal bytes) in
     let value = number_in 8 0 (take n bytes) in
     if nat_lt 0 n && nat_lt value 256 then Some (value, 1 + n) else None
 
-unfoldable pub hex_at : List ℕ → Option (ℕ × ℕ)
+-- the byte of the first hexadecimal digits, at most two, and how many bytes they are with the `\x`
+-- before them
+unfoldable pub hex_at : Text → Option (ℕ × ℕ)
 hex_at bytes =
     let n = min 2 (prefix_len is_hex bytes) in
     let value = number_in 16 0 (take n bytes) in
     if nat_lt 0 n && nat_lt value 256 then Some (value, 2 + n) else None
 
-abbrev pub escape_after : Escape → ℕ → List ℕ → Option (ℕ × ℕ)
+-- the byte of an escape that b begins behind its backslash, and how many bytes it takes with that
+abbrev pub escape_after : Escape → ℕ → Text → Option (ℕ × ℕ)
 escape_after Octal b bytes = octal_at (b ∷ bytes)
 escape_after Hexadecimal b bytes = hex_at bytes
 escape_after (Single value) b bytes = Some (value, 2)
 escape_after Unknown b bytes = None
 
--- behind a backslash
-unfoldable pub escape_at : List ℕ → Option (ℕ × ℕ)
+-- the byte of the escape whose backslash these bytes stand behind, and how many bytes it takes
+unfoldable pub escape_at : Text → Option (ℕ × ℕ)
 escape_at [] = None
 escape_at (b ∷ bytes) = escape_after (escape_of b) b bytes
 
 -- the byte that the first bytes stand for, and how many these are
-unfoldable pub unit_at : List ℕ → Option (ℕ × ℕ)
+unfoldable pub unit_at : Text → Option (ℕ × ℕ)
 unit_at [] = None
 unit_at (b ∷ bytes) = if b == 92 then escape_at bytes else Some (b, 1)

@@ -1,15 +1,17 @@
 -- The test of a word, as a function.
-use Rattle.std.specs.Prelude.{ℕ, Bool, true, false, ◌&&◌, List, [], ◌∷◌}
+use Rattle.std.specs.Prelude.{Bool, true, false, ◌&&◌, [], ◌∷◌}
 use Rattle.std.specs.List.{list_all}
+use Rattle.proto_faults.specs.Texts.{Text}
 use Rattle.proto_text.specs.declared.class.Class.{Class}
 use Rattle.proto_text.specs.declared.class.Class.TheVariants.{Letter}
 use Rattle.proto_text.specs.Classes.{class_of, is_identifier}
 
+-- a byte of this class may begin a word: a letter
 abbrev pub begins_word : Class → Bool
 begins_word Letter = true
 begins_word _ = false
 
 -- a letter or `_`, and identifier characters
-abbrev pub is_run : List ℕ → Bool
+abbrev pub is_run : Text → Bool
 is_run [] = false
 is_run (b ∷ bytes) = begins_word (class_of b) && list_all is_identifier bytes

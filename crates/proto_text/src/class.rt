@@ -3,17 +3,26 @@
 ghost use Rattle.std.specs.Prelude.{◌≡◌};
 ghost use Rattle.proto_text.specs.Classes.{class_of, is_identifier};
 
+/// What a byte may begin.
 #[derive(Clone, Copy)]
 pub enum Class {
+    /// One byte of white space.
     Space,
+    /// A word: an ASCII letter or `_`.
     Letter,
+    /// A number: a decimal digit.
     Digit,
+    /// A string: `"` or `'`.
     Quote,
+    /// One byte of punctuation, which is a token.
     Mark,
+    /// A comment: `/`.
     Slash,
+    /// Nothing.
     Other,
 }
 
+/// The class of a byte.
 #[tactic(auto, unfolding(crate::specs::Classes::class_of))]
 pub fn class_of_byte(byte: u8) -> Class
     ensures { result ≡ class_of byte }
@@ -36,6 +45,7 @@ pub fn class_of_byte(byte: u8) -> Class
     }
 }
 
+/// Whether a byte is an ASCII letter, `_` or a decimal digit.
 pub fn is_identifier_byte(byte: u8) -> bool
     ensures { result ≡ is_identifier byte }
 {

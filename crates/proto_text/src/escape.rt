@@ -12,9 +12,13 @@ use std::alloc::Global;
 /// What a character behind a backslash begins.
 #[derive(Clone, Copy)]
 pub enum Escape {
+    /// One to three octal digits, of which it is the first.
     Octal,
+    /// One or two hexadecimal digits behind it.
     Hexadecimal,
+    /// Nothing more: the two characters stand for this byte.
     Single(u8),
+    /// No allowed escape.
     Unknown,
 }
 
@@ -148,7 +152,8 @@ fn unit_of(bytes: &[u8]) -> Option<(u8, usize)>
     }
 }
 
-/// The byte that the first bytes stand for, and how many these are.
+/// The byte that the first bytes stand for, and how many these are. None where there is no byte, or
+/// an escape that is not allowed.
 pub fn unit(bytes: &[u8]) -> Option<(u8, usize)>
     ensures value { result ≡ unit_at bytes.now }
     ensures some { IfSome result (λ found. 0 < found.1) }
@@ -157,7 +162,8 @@ pub fn unit(bytes: &[u8]) -> Option<(u8, usize)>
     unit_of(bytes)
 }
 
-/// The bytes that the text between the quotes stands for, if each escape is allowed.
+/// The bytes that the text between the quotes stands for, if each escape is allowed. Refused for
+/// want of memory alone.
 pub fn decoded(alloc: Global, body: &[u8]) -> Result<Option<Vec<u8>>, NoMemory>
     ensures { IfOk result (λ found. MatchOption found
         ((all : List ℕ) → Means body.now all → ⊥)
@@ -192,7 +198,8 @@ fn has_backslash(bytes: &[u8]) -> bool
     bytes.iter().any(|b| *b == b'\\')
 }
 
-/// Whether each escape is allowed, and what the text stands for is UTF-8. A text without escapes takes no memory.
+/// Whether each escape is allowed, and what the text stands for is UTF-8. Refused for want of
+/// memory alone; a text without escapes takes none.
 pub fn is_allowed(alloc: Global, body: &[u8]) -> Result<bool, NoMemory>
     ensures { IfOk result (λ allowed. IsTrue allowed ↔ IsAllowed body.now) }
 {

@@ -10,14 +10,19 @@ use thiserror::Error;
 /// Why no whole and allowed piece begins at a place.
 #[derive(Clone, Copy, Debug, PartialEq, Eq, Error)]
 pub enum LexFault {
+    /// A character begins no token, white space or comment.
     #[error("a character that begins no token, white space or comment")]
     BadChar,
+    /// A block comment is not closed.
     #[error("a block comment that is not closed")]
     OpenComment,
+    /// A string is not closed in its line.
     #[error("a string that is not closed")]
     OpenString,
+    /// A string has an escape that is not allowed, or its value is not UTF-8.
     #[error("a string with a refused escape, or whose value is not UTF-8")]
     BadEscape,
+    /// A digit and the identifier characters behind it are no number.
     #[error("a word that begins with a digit and is no number")]
     BadNumber,
 }
@@ -53,19 +58,28 @@ impl LexFault {
 /// Why bytes are no text, or why a text has no tokens.
 #[derive(Debug, Drop, Error)]
 pub enum TextFault {
+    /// The bytes are more than `MAX_LEN`.
     #[error("more than 1,048,576 bytes")]
     TooLarge,
+    /// The bytes are not UTF-8.
     #[error("not UTF-8")]
     NotUtf8,
     /// The bytes before the offset are whole white space, comments and tokens.
     #[error("{fault}, at byte {offset}")]
-    At { offset: u32, fault: LexFault },
+    At {
+        /// Where the fault stands, in bytes from 0.
+        offset: u32,
+        /// What is wrong there.
+        fault: LexFault,
+    },
+    /// There was no memory.
     #[error("no memory")]
     NoMemory,
 }
 
 impl TextFault {
-    /// The place of the fault, in bytes from 0. A fault of the whole text, and want of memory, stand at 0.
+    /// The place of the fault, in bytes from 0. A fault of the whole text, and want of memory,
+    /// stand at 0.
     pub fn offset(&self) -> u32
         ensures { result ≡ text_offset self.now }
     {

@@ -8,7 +8,8 @@ ghost use Rattle.proto_text.specs.Texts.{CountStays, OneWordIsOneEdit, OtherWord
 ghost use Rattle.proto_text.specs.Tokens.{NoFaultWithTokens, OneTokenList, TokensReadPieces};
 ghost use Rattle.proto_text.specs.Values.{OneValue, StringsHaveValues, ValueIsValueOf};
 
-/// Pieces, and groups of a token and the trivia behind it, say the same; a text is grouped in one way at most.
+/// Pieces, and groups of a token and the trivia behind it, say the same; a text is grouped in one
+/// way at most.
 pub fn groups_are_pieces()
     ensures pieces { GroupsArePieces }
     ensures groups { PiecesAreGroups }

@@ -16,7 +16,9 @@ use std::alloc::Global;
 /// A token: its kind, and where its text stands.
 #[derive(Clone, Copy, Debug, PartialEq, Eq)]
 pub struct Token {
+    /// What kind of token it is.
     pub kind: TokenKind,
+    /// Where its text stands.
     pub span: Span,
 }
 
@@ -70,7 +72,8 @@ fn tokens_of(alloc: Global, source: &Source) -> Result<Vec<Token>, TextFault>
 }
 
 /// The tokens of the text, in order, each with the span of its text.
-/// A text that is not whole white space, comments and tokens is refused, at the first offset at which none begins that is whole and allowed.
+/// A text that is not whole white space, comments and tokens is refused, at the first offset at
+/// which none begins that is whole and allowed; else it is refused for want of memory alone.
 pub fn lex(alloc: Global, source: &Source) -> Result<Vec<Token>, TextFault>
     // The text has pieces, and these are their tokens.
     ensures tokens { IfOk result (λ tokens. AreTokens source.now tokens.items) }
@@ -78,7 +81,9 @@ pub fn lex(alloc: Global, source: &Source) -> Result<Vec<Token>, TextFault>
     ensures spans { IfOk result (λ tokens. All (λ t. IsSpan source.now t.span) tokens.items) }
     // Of whatever pieces the text has, these are the tokens.
     ensures only { (ps : List Piece) → IsPieces source.now ps
-        → MatchResult result (λ tokens. tokens.items ≡ tokens_from 0 ps) (λ e. e ≡ TextFault.NoMemory) }
+        → MatchResult result
+        (λ tokens. tokens.items ≡ tokens_from 0 ps)
+        (λ e. e ≡ TextFault.NoMemory) }
     // Whole pieces stand before the fault, and none begins at it.
     ensures fault { IfErr result (λ e. IsLexError source.now e) }
     // There is no other fault.

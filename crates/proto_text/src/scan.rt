@@ -16,7 +16,7 @@ use crate::ending::string_close;
 use crate::escape::is_allowed;
 use crate::fault::LexFault;
 use crate::kind::{PieceKind, TokenKind};
-use std::alloc::{AllocError, Global};
+use std::alloc::Global;
 
 fn identifier_len(bytes: &[u8]) -> usize
     ensures value { result ≡ prefix_len is_identifier bytes.now }
@@ -163,16 +163,10 @@ fn raw_piece(bytes: &[u8]) -> Result<(PieceKind, usize), LexFault>
 /// Why no piece was read.
 #[derive(Drop)]
 pub enum Stop {
+    /// None that is whole and allowed begins there.
     Fault(LexFault),
+    /// There was no memory.
     NoMemory,
-}
-
-impl From<AllocError> for Stop {
-    ghost from_gives = { λ _ e. e ≡ NoMemory };
-
-    fn from(_e: AllocError) -> Stop {
-        Stop::NoMemory
-    }
 }
 
 impl From<proto_faults::NoMemory> for Stop {
@@ -192,7 +186,8 @@ fn is_text(kind: PieceKind) -> bool
     }
 }
 
-/// The piece at the front of the bytes: its kind, and how many bytes it takes.
+/// The piece at the front of the bytes: its kind, and how many bytes it takes. Refused where none
+/// that is whole and allowed begins them, or for want of memory.
 pub fn piece(alloc: Global, bytes: &[u8]) -> Result<(PieceKind, usize), Stop>
     requires some { 0 < length bytes.now }
     requires short { length bytes.now < 2 ^ 32 }

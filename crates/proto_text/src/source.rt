@@ -1,6 +1,6 @@
 //! A text, and places in it.
 
-ghost use Rattle.std.specs.Prelude.{◌≡◌, ◌≤◌, ℕ, List, length};
+ghost use Rattle.std.specs.Prelude.{◌≡◌, ◌≤◌, length};
 ghost use Rattle.std.specs.Str.{IsUtf8};
 ghost use Rattle.proto_text.specs.Lines.{line_behind, column_behind, line_at, column_at};
 
@@ -13,7 +13,9 @@ pub const MAX_LEN: usize = 1048576;
 /// The bytes from `start` on and before `end`, counted from 0.
 #[derive(Clone, Copy, Debug, PartialEq, Eq)]
 pub struct Span {
+    /// The offset of its first byte.
     pub start: u32,
+    /// The offset behind its last byte.
     pub end: u32,
 }
 
@@ -56,7 +58,8 @@ fn last_line_col(front: &[u8]) -> (u32, u32)
 impl Source {
     ghost use Rattle.proto_text.specs.SourceFacts.{NewSource, IsSpan, text_at};
 
-    /// The text of the bytes. It is refused as too large past `MAX_LEN` bytes, else where they are not UTF-8. Takes no memory.
+    /// The text of the bytes. It is refused as too large past `MAX_LEN` bytes, else where they are
+    /// not UTF-8. Takes no memory.
     pub fn new(bytes: Vec<u8>) -> Result<Source, TextFault>
         ensures new { NewSource bytes.items result }
     {

@@ -1,6 +1,6 @@
 //! Edits of a text.
 
-ghost use Rattle.std.specs.Prelude.{◌≡◌, ◌↔◌, IsTrue, ◌≤◌, ◌+◌, ◌-◌, List, ℕ, length, IfOk, IfErr, MatchOption};
+ghost use Rattle.std.specs.Prelude.{◌≡◌, ◌↔◌, IsTrue, ◌≤◌, ◌+◌, ◌-◌, List, ℕ, length, IfOk, IfErr, MatchOption, MatchResult};
 ghost use Rattle.std.specs.String.{string_bytes};
 ghost use Rattle.proto_text.specs.declared.splice.SpliceFault.TheVariants.{NoMemory};
 ghost use Rattle.proto_text.specs.declared.splice.SpliceFault.TheVariants as SpliceFault;
@@ -15,20 +15,27 @@ use thiserror::Error;
 /// What stands at an offset of a text, in bytes from 0, and what comes in its place.
 #[derive(Drop)]
 pub struct Splice {
+    /// The offset of the old text, in bytes from 0.
     pub at: u32,
+    /// What stands there.
     pub old: String,
+    /// What comes in its place.
     pub new: String,
 }
 
 /// Why splices are refused, or cannot be applied.
 #[derive(Debug, Drop, Error)]
 pub enum SpliceFault {
+    /// An old text is not at its place.
     #[error("an old text is not at its place")]
     Stale,
+    /// The new text has more than 1,048,576 bytes.
     #[error("the new text has more than 1,048,576 bytes")]
     TooLarge,
+    /// A splice begins before the end of the one before, or ends past 1,048,576 bytes.
     #[error("the splices are out of order, or one ends past 1,048,576 bytes")]
     Disorder,
+    /// There was no memory.
     #[error("no memory")]
     NoMemory,
 }
@@ -63,14 +70,6 @@ impl From<AllocError> for SpliceFault {
     ghost from_gives = { λ _ e. e ≡ NoMemory };
 
     fn from(_e: AllocError) -> SpliceFault {
-        SpliceFault::NoMemory
-    }
-}
-
-impl From<proto_faults::NoMemory> for SpliceFault {
-    ghost from_gives = { λ _ e. e ≡ NoMemory };
-
-    fn from(_e: proto_faults::NoMemory) -> SpliceFault {
         SpliceFault::NoMemory
     }
 }
@@ -196,13 +195,9 @@ fn are_short(splices: &[Splice]) -> bool
 }
 
 impl Splices {
-    ghost use Rattle.std.specs.Prelude.{◌≡◌, MatchResult};
-    ghost use Rattle.proto_text.specs.declared.splice.SpliceFault.TheVariants as SpliceFault;
-    ghost use Rattle.proto_text.specs.Edits.{AreShort};
-    ghost use Rattle.proto_text.specs.Splicing.{edits};
-
-    /// The splices, where each begins no earlier than the one before ends and none ends past 1,048,576 bytes,
-    /// in the text or in the new text.
+    /// The splices, where each begins no earlier than the one before ends and none ends past
+    /// 1,048,576 bytes, in the text or in the new text; else they are refused as out of order.
+    /// Takes no memory.
     pub fn new(splices: Vec<Splice>) -> Result<Splices, SpliceFault>
         ensures { MatchResult result
             (λ made. made ≡ edits splices.items)
@@ -225,6 +220,7 @@ impl Splices {
 }
 
 /// The splices that lead back: with old and new text changed over, at their places in the new text.
+/// Takes no memory.
 pub fn invert(splices: Splices) -> Splices
     ensures { result ≡ inverse_from 0 0 splices }
 {
@@ -235,7 +231,8 @@ pub fn invert(splices: Splices) -> Splices
 }
 
 /// The text with each old text replaced by the new one.
-/// It is refused as stale where an old text is not at its place, else as too large where the new text would pass 1,048,576 bytes.
+/// It is refused as stale where an old text is not at its place, else as too large where the new
+/// text would pass 1,048,576 bytes; and for want of memory.
 pub fn apply_splices(alloc: Global, text: &[u8], splices: &Splices) -> Result<Vec<u8>, SpliceFault>
     ensures { IsApplied text.now splices.now result }
 {

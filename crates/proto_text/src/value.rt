@@ -1,6 +1,6 @@
 //! The value of a string token.
 
-ghost use Rattle.std.specs.Prelude.{◌≡◌, ◌↔◌, ◌<◌, ◌++◌, ◌∷◌, [], ℕ, List, length, IfOk, IfSome, IsTrue, MatchOption, Some};
+ghost use Rattle.std.specs.Prelude.{◌≡◌, ◌↔◌, ◌<◌, ◌++◌, ◌∷◌, [], ℕ, length, IfOk, IfSome, IsTrue, MatchOption, Some};
 ghost use Rattle.std.specs.String.{string_bytes};
 ghost use Rattle.proto_text.specs.Strings.{IsString, Means};
 ghost use Rattle.proto_text.specs.Values.{StandsFor, says, value_of};
@@ -71,7 +71,7 @@ pub fn stands_for(text: &str, value: &[u8]) -> bool
     is_value(text.as_bytes(), value)
 }
 
-/// The value of a string token, after its escapes.
+/// The value of a string token, after its escapes. Refused for want of memory alone.
 pub fn string_value(alloc: Global, text: &str) -> Result<String, NoMemory>
     requires { IsString text.now }
     ensures means { IfOk result (λ value. StandsFor text.now (string_bytes value)) }
