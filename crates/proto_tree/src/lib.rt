@@ -5,7 +5,6 @@ mod blocks;
 mod class;
 mod classing;
 mod context;
-mod enum_ranges;
 mod files;
 mod items;
 pub mod laws;

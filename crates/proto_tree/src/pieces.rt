@@ -6,7 +6,6 @@ ghost use Rattle.proto_tree.specs.Walk.{any_piece_in};
 
 use crate::class::{Class, Lexeme, Want};
 use crate::context::Context;
-use crate::enum_ranges;
 use crate::methods::method;
 use crate::options::option_statement;
 use crate::piece::{Header, Heading, Piece, Statement};
@@ -65,7 +64,8 @@ fn enum_piece(alloc: Global, rest: &[Lexeme]) -> Result<(Piece, &[Lexeme]), Stop
         return option_statement(alloc, rest);
     }
     if starts(rest, Want::One(Class::Reserved)) {
-        return enum_ranges::reserved(alloc, rest);
+        let (reserved, rest) = reserved(alloc, rest)?;
+        return Ok((Piece::Statement(Statement::EnumReserved(reserved)), rest));
     }
     value(alloc, rest)
 }
@@ -108,7 +108,8 @@ fn piece(alloc: Global, rest: &[Lexeme]) -> Result<(Piece, &[Lexeme]), Stop>
         return map_field(alloc, rest);
     }
     if starts(rest, Want::One(Class::Reserved)) {
-        return reserved(alloc, rest);
+        let (reserved, rest) = reserved(alloc, rest)?;
+        return Ok((Piece::Statement(Statement::Reserved(reserved)), rest));
     }
     if starts(rest, Want::One(Class::Extensions)) {
         return extensions(alloc, rest);
