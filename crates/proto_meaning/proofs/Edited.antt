@@ -176,13 +176,6 @@ module _ {X : Type 0} (text text_after : X → List ℕ) (entry : List ℕ → L
       given_entry : {j : X} → Given w ≡ EntryOf j → ⊥
       given_entry q = cc
 
-  empty_or : (a : List (Source X)) → (a ≡ []) ⊎ (a ≢ [])
-  empty_or [] = inl refl
-  empty_or (x ∷ a) = inr (λ q. not_empty q)
-    where
-      not_empty : x ∷ a ≡ [] → ⊥
-      not_empty q = cc
-
   -- a name after the edit
   pub path_after : (n : ℕ) (path : List (Source X)) → length path ≡ n → (path ≢ [] → (s : Declared X) × Contains k.declared s × (s.path ≡ path)) → name_of text_after entry path ≡ ren e (name_of text entry path)
   path_after zero [] l h = sym (turn_below-nil e.parent (turned e))

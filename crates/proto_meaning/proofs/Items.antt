@@ -64,11 +64,6 @@ prefix_whole t (v ∷ ts) path =
       r.3,
     )
 
-items_order : (is : Items) (lo hi : ℕ) → ItemsSpan lo hi is → lo ≤ hi
-items_order no_items lo hi s = s
-items_order (packaged ts rest) lo hi s = omega (arith, s.1, rises_order ts lo s.0 s.2)
-items_order (item m rest) lo hi s = omega (arith, s.1, s.2)
-
 pub items_in_span : (is : Items) (path : List (Source ℕ)) (lo hi d : ℕ) → ItemsSpan lo hi is → (p : Placed) → Contains (items_placed path is) p → token_of p.last ≡ Some d → (lo ≤ d) × (d < hi)
 items_in_span no_items path lo hi d s p c h = none_left p c
 items_in_span (packaged ts rest) path lo hi d s p c h = elim (Contains-append_cases (prefixes [] ts) (items_placed path rest) p c) [

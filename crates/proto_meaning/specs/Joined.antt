@@ -1,16 +1,20 @@
 -- A full name as text.
-use Rattle.std.specs.Prelude.{◌≡◌, ◌≢◌, ℕ, false, ◌==◌, List, [], ◌∷◌, ◌++◌}
+use Rattle.std.specs.Prelude.{◌≡◌, ◌≢◌, false, ◌==◌, [], ◌∷◌, ◌++◌}
 use Rattle.std.specs.List.{list_any}
+use Rattle.proto_faults.specs.Texts.{Text}
+use Rattle.proto_meaning.specs.Names.{Word, Name}
 
-abbrev pub joined : List (List ℕ) → List ℕ
+-- the text of a name: its words, with a dot between two of them
+abbrev pub joined : Name → Text
 joined [] = []
 joined (w ∷ []) = w
 joined (w ∷ v ∷ rest) = w ++ 46 ∷ joined (v ∷ rest)
 
--- no point, and something
-abbrev pub IsPlain : List ℕ → Type 0
+-- a word that is not empty and has no dot
+abbrev pub IsPlain : Word → Type 0
 IsPlain word = (list_any (λ b. b == 46) word ≡ false) × (word ≢ [])
 
-abbrev pub ArePlain : List (List ℕ) → Type 0
+-- each word of a name is plain
+abbrev pub ArePlain : Name → Type 0
 ArePlain [] = Unit {0}
 ArePlain (w ∷ rest) = IsPlain w × ArePlain rest

@@ -2,6 +2,6 @@
 use Rattle.std.specs.Prelude.{◌≡◌, ℕ, Bool, false, List, get_or}
 use Rattle.proto_meaning.specs.Names.{Workspace, sees}
 
--- the marks of what a file sees
+-- a file is marked just if this file sees it
 abbrev pub MarksSeen : Workspace → ℕ → List Bool → Type 0
 MarksSeen w file seen = (g : ℕ) → get_or seen g false ≡ sees w file g

@@ -1,11 +1,15 @@
--- What a tree declares, by the indices of its tokens: each symbol of the language beside or below the others.
+-- What a tree declares, by the indices of its tokens: each symbol of the language beside or below
+-- the others.
 use Rattle.std.specs.Prelude.{◌≡◌, ℕ, ◌+◌, ◌<◌, ◌≤◌, List, [], ◌∷◌, ◌++◌, map, Option, Some, None}
 use Rattle.std.specs.List.{All}
 use Rattle.proto_meaning.specs.Names.{Kind, Package, Message, Entry, Enum, Service, Field, EntryField, Oneof, Value, Method}
 use Rattle.proto_meaning.specs.Skeleton.{Source, Token, EntryOf, Given}
+use Rattle.proto_faults.specs.Texts.{Text}
 
+-- the declarations of a tree, by the tokens of their names
 mutual
-  -- A declaration, by the token of its name. A oneof is given with its fields, an enum with its values, a service with its methods.
+  -- one declaration: a oneof has its fields, a message its members, an enum its values and a
+  -- service its methods
   pub data Member : Type 0 where
     field : (token : ℕ) → Member
     map_field : (token : ℕ) → Member
@@ -14,11 +18,12 @@ mutual
     enum : (token : ℕ) → List ℕ → Member
     service : (token : ℕ) → List ℕ → Member
 
+  -- the declarations right in a message, or in a file, in order
   pub data Members : Type 0 where
     no_members : Members
     member : Member → Members → Members
 
--- A file's declarations, and its package by the tokens of its words.
+-- a file's declarations, and its package by the tokens of its words
 pub data Items : Type 0 where
   no_items : Items
   packaged : List ℕ → Items → Items
@@ -30,29 +35,44 @@ pub record Placed : Type 0 where
   pub last : Source ℕ
   pub kind : Kind
 
+-- the declaration of this kind with this word right below the path
 abbrev pub place : List (Source ℕ) → Source ℕ → Kind → Placed
 place above last kind = record { above = above; last = last; kind = kind }
 
--- `key` and `value`
-abbrev pub key_word : List ℕ
+-- `key`, the name of the first field of a map field's entry
+abbrev pub key_word : Text
 key_word = 107 ∷ 101 ∷ 121 ∷ []
 
-abbrev pub value_word : List ℕ
+-- `value`, the name of its second field
+abbrev pub value_word : Text
 value_word = 118 ∷ 97 ∷ 108 ∷ 117 ∷ 101 ∷ []
 
 -- one symbol, and others beside it: the values of an enum, the fields of a oneof
 abbrev pub beside : List (Source ℕ) → ℕ → Kind → Kind → List ℕ → List Placed
-beside path t outer inner ts = place path (Token t) outer ∷ map (λ i. place path (Token i) inner) ts
+beside path t outer inner ts =
+    place path (Token t) outer ∷ map (λ i. place path (Token i) inner) ts
 
+-- what is declared below a path
 abbrev mutual
+  -- by one declaration: itself, all that is in it, and of a map field its entry with `key` and
+  -- `value`
   pub placed : List (Source ℕ) → Member → List Placed
   placed path (field t) = place path (Token t) Field ∷ []
-  placed path (map_field t) = place path (Token t) Field ∷ place path (EntryOf t) Entry ∷ place (path ++ EntryOf t ∷ []) (Given key_word) EntryField ∷ place (path ++ EntryOf t ∷ []) (Given value_word) EntryField ∷ []
+  placed path (map_field t) =
+      place path (Token t) Field
+      ∷ place path (EntryOf t) Entry
+      ∷ place (path ++ EntryOf t ∷ []) (Given key_word) EntryField
+      ∷ place (path ++ EntryOf t ∷ []) (Given value_word) EntryField
+      ∷ []
   placed path (oneof t fs) = beside path t Oneof Field fs
-  placed path (message t ms) = place path (Token t) Message ∷ all_placed (path ++ Token t ∷ []) ms
+  placed path (message t ms) =
+      place path (Token t) Message ∷ all_placed (path ++ Token t ∷ []) ms
   placed path (enum t vs) = beside path t Enum Value vs
-  placed path (service t ms) = place path (Token t) Service ∷ map (λ i. place (path ++ Token t ∷ []) (Token i) Method) ms
+  placed path (service t ms) =
+      place path (Token t) Service
+      ∷ map (λ i. place (path ++ Token t ∷ []) (Token i) Method) ms
 
+  -- by declarations, in order
   pub all_placed : List (Source ℕ) → Members → List Placed
   all_placed path no_members = []
   all_placed path (member m ms) = placed path m ++ all_placed path ms
@@ -68,6 +88,7 @@ package_of no_items = []
 package_of (packaged ts rest) = ts
 package_of (item m rest) = package_of rest
 
+-- what items declare: the package and its prefixes outermost, and all else below the path
 abbrev pub items_placed : List (Source ℕ) → Items → List Placed
 items_placed path no_items = []
 items_placed path (packaged ts rest) = prefixes [] ts ++ items_placed path rest
@@ -79,6 +100,7 @@ file_placed items = items_placed (map (λ t. Token t) (package_of items)) items
 
 -- the tokens of a tree that was read from the tokens lo to hi
 abbrev mutual
+  -- a declaration's own token comes before those of what is in it, and all are from lo on below hi
   pub Spans : ℕ → ℕ → Member → Type 0
   Spans lo hi (field t) = (lo ≤ t) × (t < hi)
   Spans lo hi (map_field t) = (lo ≤ t) × (t < hi)
@@ -87,21 +109,26 @@ abbrev mutual
   Spans lo hi (enum t vs) = (lo ≤ t) × (t < hi) × All (λ v. (t < v) × (v < hi)) vs
   Spans lo hi (service t ms) = (lo ≤ t) × (t < hi) × All (λ i. (t < i) × (i < hi)) ms
 
+  -- of declarations in order, each ends before the next begins
   pub AllSpan : ℕ → ℕ → Members → Type 0
   AllSpan lo hi no_members = lo ≤ hi
-  AllSpan lo hi (member m ms) = (mid : ℕ) × (mid ≤ hi) × (lo ≤ mid) × Spans lo mid m × AllSpan mid hi ms
+  AllSpan lo hi (member m ms) =
+      (mid : ℕ) × (mid ≤ hi) × (lo ≤ mid) × Spans lo mid m × AllSpan mid hi ms
 
--- in rising order
+-- the tokens are in rising order, from lo on below hi
 abbrev pub Rises : ℕ → ℕ → List ℕ → Type 0
 Rises lo hi [] = lo ≤ hi
 Rises lo hi (t ∷ ts) = (lo ≤ t) × (t < hi) × Rises (t + 1) hi ts
 
--- the same of a file, which has one package at most
+-- the same of a file's declarations, which have one package at most
 abbrev pub ItemsSpan : ℕ → ℕ → Items → Type 0
 ItemsSpan lo hi no_items = lo ≤ hi
-ItemsSpan lo hi (packaged ts rest) = (mid : ℕ) × (mid ≤ hi) × Rises lo mid ts × ItemsSpan mid hi rest × (package_of rest ≡ [])
-ItemsSpan lo hi (item m rest) = (mid : ℕ) × (mid ≤ hi) × (lo ≤ mid) × Spans lo mid m × ItemsSpan mid hi rest
+ItemsSpan lo hi (packaged ts rest) =
+    (mid : ℕ) × (mid ≤ hi) × Rises lo mid ts × ItemsSpan mid hi rest × (package_of rest ≡ [])
+ItemsSpan lo hi (item m rest) =
+    (mid : ℕ) × (mid ≤ hi) × (lo ≤ mid) × Spans lo mid m × ItemsSpan mid hi rest
 
+-- the token that a word comes from; none of a given word
 abbrev pub token_of : Source ℕ → Option ℕ
 token_of (Token t) = Some t
 token_of (EntryOf t) = Some t

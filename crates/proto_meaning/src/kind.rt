@@ -9,17 +9,23 @@ ghost use Rattle.proto_meaning.specs.Names.{is_type, is_outer};
 pub enum Kind {
     /// A package, or a prefix of one.
     Package,
+    /// A message that is written.
     Message,
     /// The message that stands for a map field's pairs; it counts as a message.
     Entry,
+    /// An enum, without its values.
     Enum,
+    /// A service, without its methods.
     Service,
+    /// A field of a message or of a oneof, also a map field.
     Field,
     /// `key` or `value` of a map field's entry.
     EntryField,
+    /// A oneof, without its fields: these are its siblings.
     Oneof,
     /// An enum's value, which is a sibling of its enum.
     Value,
+    /// A method of a service.
     Method,
 }
 
@@ -34,7 +40,8 @@ impl Kind {
         }
     }
 
-    /// Whether a reference may mean a symbol of this kind: a message, also a generated one, or an enum.
+    /// Whether a reference may mean a symbol of this kind: a message, also a generated one, or an
+    /// enum.
     pub fn is_type(self) -> bool
         ensures { result ≡ is_type self }
     {
@@ -44,7 +51,8 @@ impl Kind {
         }
     }
 
-    /// Whether the first word of a longer reference may stand for a symbol of this kind.
+    /// Whether the first word of a longer reference may stand for a symbol of this kind: a package, a
+    /// message, also a generated one, an enum or a service.
     pub fn is_outer(self) -> bool
         ensures { result ≡ is_outer self }
     {

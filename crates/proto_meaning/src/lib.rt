@@ -1,4 +1,5 @@
-//! What names are: what a workspace declares, which files a file sees, what a reference means, and what an edit does to all this.
+//! What names are: what a workspace declares, which files a file sees, what a reference means, and
+//! what an edit does to all this.
 #![tactic(auto)]
 
 pub mod edits;

@@ -2,7 +2,7 @@
 
 ghost use Rattle.std.specs.Prelude.{◌≡◌, false, slice_index_or};
 
-/// Whether a file is marked; false for a place past the marks.
+/// Whether the file with this number, from 0, is marked; false for a number past the marks.
 pub fn is_marked(marks: &[bool], file: u32) -> bool
     ensures { result ≡ slice_index_or marks.now file false }
 {
