@@ -4,8 +4,7 @@ use Rattle.std.specs.List.{list_any, Contains, filter}
 use Rattle.std.specs.Str.{bytes_eq}
 use Rattle.proto_meaning.specs.Names.{Kind, Symbol, Import, Reference, Workspace, Word, Name, same_name, fits, sees, hit, front_at, hits_at, meaning}
 
--- a rename: right below the parent the old word becomes the new one; with a map field goes the word
--- of its entry, before and after
+-- right below the parent the old word becomes the new one, and with a map field's its entry's word
 pub record Renaming : Type 0 where
   pub parent : Name
   pub old : Word
@@ -95,9 +94,7 @@ renamed e w = record {
 abbrev pub Collides : Renaming → Workspace → Type 0
 Collides e w =
     (s t : Symbol) × Contains w.symbols s × Contains w.symbols t
-    × (in_domain e s.name ≡ true)
-    × (in_domain e t.name ≡ false)
-    × (ren e s.name ≡ t.name)
+    × (in_domain e s.name ≡ true) × (in_domain e t.name ≡ false) × (ren e s.name ≡ t.name)
 
 -- from file f a symbol is visible whose new name is this and whose kind passes the test
 abbrev pub shows_mapped : Renaming → Workspace → ℕ → (Kind → Bool) → Name → Bool
@@ -127,12 +124,8 @@ IsClear e m = (front back : Name) → front ++ back ≡ m → is_entry e front �
 
 -- the same workspace with these imports instead of its own
 abbrev pub with_imports : Workspace → List Import → Workspace
-with_imports w imports = record {
-  files = w.files;
-  symbols = w.symbols;
-  imports = imports;
-  references = w.references;
-}
+with_imports w imports =
+    record { files = w.files; symbols = w.symbols; imports = imports; references = w.references }
 
 -- an import, not a public one, of the second file by the first
 abbrev pub import_of : ℕ → ℕ → Import
@@ -153,8 +146,7 @@ IsOvertaken w v r =
 abbrev pub IsNeeded : Workspace → Workspace → Reference → Type 0
 IsNeeded w v r =
     (s : Symbol) × Contains w.symbols s
-    × (meaning w r ≡ Some s.name)
-    × (sees v r.file s.file ≡ false)
+    × (meaning w r ≡ Some s.name) × (sees v r.file s.file ≡ false)
 
 -- without the field, its entry, and what is in that; the references are those of what is left
 abbrev pub deleted : Renaming → Workspace → List Reference → Workspace
@@ -177,8 +169,7 @@ captured_from e w r (Some k) =
     any_above
     (λ j. shows_mapped e w r.file (fits r.words)
     (ren e (take j r.scope) ++ take 1 (rewritten e (take k r.scope) r.words)))
-    k
-    (length r.scope)
+    k (length r.scope)
 
 -- `IsCaptured` as a test
 abbrev pub is_captured : Renaming → Workspace → Reference → Bool

@@ -23,8 +23,7 @@ fault place number = record { place = place; number = number }
 abbrev pub IsBefore : Fault → Fault → Type 0
 IsBefore a b =
     (a.place.file < b.place.file)
-    ⊎ ((a.place.file ≡ b.place.file)
-    × ((a.place.token < b.place.token)
+    ⊎ ((a.place.file ≡ b.place.file) × ((a.place.token < b.place.token)
     ⊎ ((a.place.token ≡ b.place.token) × (a.number < b.number))))
 
 -- f is one of a set of faults, and none of them comes before it
@@ -35,9 +34,7 @@ pub record IsLeast (Says : Fault → Type 0) (f : Fault) : Type 0 where
 -- y is in the list, and an element before it stands to it in this relation
 abbrev pub AfterEarlier : {A : Type 0} → (A → A → Type 0) → List A → A → Type 0
 AfterEarlier {A} R xs y =
-    (i j : ℕ) × (d : A) × (i < j) × (j < length xs)
-    × (get_or xs j d ≡ y)
-    × R (get_or xs i d) y
+    (i j : ℕ) × (d : A) × (i < j) × (j < length xs) × (get_or xs j d ≡ y) × R (get_or xs i d) y
 
 -- an import as it is written: the token of its path, and the path
 pub record Asked : Type 0 where
@@ -53,9 +50,7 @@ file_of paths path = position (bytes_eq path) paths
 abbrev pub import_at : List Path → Asked → Option Import
 import_at paths a =
     option_map
-    (λ to.
-    let i : Import = record { from = a.place.file; to = to; is_public = a.is_public }
-    in i)
+    (λ to. let i : Import = record { from = a.place.file; to = to; is_public = a.is_public } in i)
     (file_of paths a.path)
 
 -- the imports that name a file
@@ -73,8 +68,7 @@ pub data ImportFault (paths : List Path) (asked : List Asked) : Fault → Type 0
       → ImportFault paths asked (fault a.place 11)
   -- an import whose file is the importing file or reaches it by imports
   cycle : (a : Asked) (to : ℕ) → Contains asked a → file_of paths a.path ≡ Some to
-      → Leads (imports_of paths asked) to a.place.file
-      → ImportFault paths asked (fault a.place 12)
+      → Leads (imports_of paths asked) to a.place.file → ImportFault paths asked (fault a.place 12)
 
 -- the last token among the sources of a name, or this one where there is none
 abbrev pub place_from : {X : Type 0} → X → List (Source X) → X

@@ -21,7 +21,6 @@ pub record IsForest (names : List Text) (aboves : List ℕ) (look : ℕ → Text
       → (k < length names) × (get_or names k [] ≡ under (front names p) word) × IsPlain word
   pub complete : (p : ℕ) (word : Text) (k : ℕ) → p ≤ length names → IsPlain word
       → k < length names → get_or names k [] ≡ under (front names p) word → look p word ≡ Some k
-  pub grown : (k : ℕ) → k < length names
-      → (get_or aboves k 0 ≤ k)
+  pub grown : (k : ℕ) → k < length names → (get_or aboves k 0 ≤ k)
       × ((word : Text) × IsPlain word
       × (get_or names k [] ≡ under (front names (get_or aboves k 0)) word))

@@ -23,8 +23,7 @@ pub record FileNames : Type 0 where
   pub items : Items
   pub used : List (Used ℕ)
 
--- its tokens are numbered in order, and each reference stands in a declaration of the file, or in
--- none
+-- its tokens are numbered in order, and the scope of each reference is a declaration of it, or none
 pub record IsGrown (f : FileNames) : Type 0 where
   pub low : ℕ
   pub high : ℕ

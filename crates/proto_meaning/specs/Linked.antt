@@ -36,11 +36,9 @@ holds Value k = false
 holds Method k = false
 
 -- each symbol of more than one word stands right in a symbol of its file that may hold its kind
--- (so the trees give names)
 abbrev pub IsNested : List Symbol → Type 0
 IsNested symbols =
-    (t : Symbol) → Contains symbols t → (a : Name) (p : Word) → t.name ≡ a ++ p ∷ []
-    → 0 < length a
+    (t : Symbol) → Contains symbols t → (a : Name) (p : Word) → t.name ≡ a ++ p ∷ [] → 0 < length a
     → (u : Symbol) × Contains symbols u × (u.name ≡ a) × (u.file ≡ t.file)
     × (holds u.kind t.kind ≡ true)
 
@@ -71,8 +69,7 @@ EntryFits w e (Some p) =
 -- if there is one, fits
 pub record IsRenaming (e : Renaming) (w : Workspace) : Type 0 where
   pub target_is : (s : Symbol) × Contains w.symbols s × (s.name ≡ target e)
-      × (s.kind ≢ Package)
-      × (s.kind ≢ Entry)
+      × (s.kind ≢ Package) × (s.kind ≢ Entry)
   pub entry_is : EntryFits w e e.entry
 
 -- the rename gives no symbol a name that another has, and captures no reference

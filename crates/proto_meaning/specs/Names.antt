@@ -90,8 +90,7 @@ pub data Sees (imports : List Import) : ℕ → ℕ → Type 0 where
 abbrev pub reaches : List Import → ℕ → ℕ → ℕ → Bool
 reaches imports zero f g = f == g
 reaches imports (suc n) f g =
-    (f == g)
-    || list_any (λ i. (i.from == f) && i.is_public && reaches imports n i.to g) imports
+    (f == g) || list_any (λ i. (i.from == f) && i.is_public && reaches imports n i.to g) imports
 
 -- f sees g, as a test: a chain that passes no file twice has no more imports than there are files
 abbrev pub sees : Workspace → ℕ → ℕ → Bool
@@ -112,8 +111,7 @@ abbrev pub greatest : (ℕ → Bool) → ℕ → Option ℕ
 greatest t zero = if t 0 then Some 0 else None
 greatest t (suc k) = if t (suc k) then Some (suc k) else greatest t k
 
--- the reference hits at its scope's first k words: right below them a visible symbol that fits has
--- its first word
+-- right below its scope's first k words a visible symbol that fits has the reference's first word
 abbrev pub hits_at : Workspace → Reference → ℕ → Bool
 hits_at w r k = shows w r.file (fits r.words) (take k r.scope ++ take 1 r.words)
 

@@ -95,8 +95,7 @@ pub record IsAim {X : Type 0} (k : Skeleton X) (token : X) (above : List (Source
 abbrev pub IsAimEntry : {X : Type 0} → Skeleton X → X → List (Source X) → Bool → Type 0
 IsAimEntry {X} k token above true =
     (s : Declared X) × Contains k.declared s
-    × (s.path ≡ above ++ EntryOf token ∷ [])
-    × (s.kind ≡ Entry)
+    × (s.path ≡ above ++ EntryOf token ∷ []) × (s.kind ≡ Entry)
 IsAimEntry {X} k token above false =
     (s : Declared X) → Contains k.declared s → s.path ≢ above ++ EntryOf token ∷ []
 
@@ -121,8 +120,7 @@ pub record IsRespelled {X : Type 0} (text text_after : X → Text) (entry : Word
   pub other_entries : (s : Declared X) → Contains k.declared s
       → (a : List (Source X)) (i : X) → (s.path ≡ a ++ EntryOf i ∷ [])
       → (i ≡ token) ⊎ ((i ≢ token) × (text_after i ≡ text i))
-  pub words : (u : Used X) → Contains k.used u
-      → map text_after u.tokens
+  pub words : (u : Used X) → Contains k.used u → map text_after u.tokens
       ≡ rewritten e
       (front_at (reference_of text entry u)
       (hit (workspace_of text entry k) (reference_of text entry u)))

@@ -8,8 +8,7 @@ use Rattle.proto_faults.specs.Texts.{Text}
 
 -- the declarations of a tree, by the tokens of their names
 mutual
-  -- one declaration: a oneof has its fields, a message its members, an enum its values and a
-  -- service its methods
+  -- a oneof has its fields, a message its members, an enum its values and a service its methods
   pub data Member : Type 0 where
     field : (token : ℕ) → Member
     map_field : (token : ℕ) → Member
@@ -54,8 +53,7 @@ beside path t outer inner ts =
 
 -- what is declared below a path
 abbrev mutual
-  -- by one declaration: itself, all that is in it, and of a map field its entry with `key` and
-  -- `value`
+  -- by one declaration: itself, all that is in it, and of a map field its entry with two fields
   pub placed : List (Source ℕ) → Member → List Placed
   placed path (field t) = place path (Token t) Field ∷ []
   placed path (map_field t) =

@@ -28,8 +28,8 @@ pub fn renames()
 {}
 
 /// An added import keeps every meaning that it doesn't overtake, and that of every reference of
-/// another file (`means`); an overtaken reference loses its meaning (`overtaken`). Where it overtakes
-/// none, the workspace stays linked (`linked`).
+/// another file (`means`); an overtaken reference loses its meaning (`overtaken`). Where it
+/// overtakes none, the workspace stays linked (`linked`).
 pub fn adds_import()
     ensures means { (w : Workspace) (imports : List Import) (file path : ℕ)
         → IsAddition w imports file path → (r : Reference) →
@@ -44,7 +44,7 @@ pub fn adds_import()
         ≡ file → IsOvertaken w (with_imports w imports) r → ⊥) → IsLinked (with_imports w imports) }
 {}
 
-/// A dropped import keeps every meaning whose file is still seen (`means`), and no other (`needed`).
+/// A dropped import keeps every meaning whose file is still seen (`means`), no other (`needed`).
 /// Where all are still seen, the workspace stays linked (`linked`).
 pub fn drops_import()
     ensures means { (w : Workspace) (imports : List Import) → IsLinked w →
@@ -78,7 +78,7 @@ pub fn adds_no_cycle()
         → (Leads imports path file → ⊥) → IsAcyclic (imports ++ import_of file path ∷ []) }
 {}
 
-/// The tests of capture and of collision say what the relations say (`captured`, `collision`), and a
+/// The tests of capture and of collision say what the relations say (`captured`, `collision`). A
 /// rename that collides would leave two symbols with one name (`fault`).
 pub fn decisions()
     ensures captured { (e : Renaming) (w : Workspace)

@@ -51,8 +51,8 @@ impl Kind {
         }
     }
 
-    /// Whether the first word of a longer reference may stand for a symbol of this kind: a package, a
-    /// message, also a generated one, an enum or a service.
+    /// Whether the first word of a longer reference may stand for a symbol of this kind: a package,
+    /// a message, also a generated one, an enum or a service.
     pub fn is_outer(self) -> bool
         ensures { result ≡ is_outer self }
     {

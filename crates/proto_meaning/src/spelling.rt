@@ -8,8 +8,8 @@ ghost use Rattle.proto_meaning.specs.Edits.{renamed, with_imports};
 ghost use Rattle.proto_meaning.specs.Linked.{IsLinked, IsFree};
 ghost use Rattle.proto_meaning.specs.Skeleton.{Source, Declared, Used, Means, Skeleton, workspace_of, IsWoven, IsAim, IsAimEntry, renaming_of, IsRespelled, shifted};
 
-/// What the edited words spell is the renamed workspace (`spelled`). A rename that is free leaves it
-/// linked (`linked`), and each reference means just the declaration that it meant (`means`).
+/// What the edited words spell is the renamed workspace (`spelled`). A free rename leaves it linked
+/// (`linked`), and each reference means just the declaration that it meant (`means`).
 pub fn edits_words<X>()
     ensures spelled { (text text_after : X → Text) (entry : Text → Text) (k : Skeleton X)
         (token : X) (above : List (Source X)) (aim : Declared X) (is_map : Bool) (to : Text)
