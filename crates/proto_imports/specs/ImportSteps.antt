@@ -4,6 +4,7 @@ use Rattle.std.specs.Prelude.{◌≡◌, ◌↔◌, ℕ, Bool, List, [], Option,
 use Rattle.std.specs.List.{Contains}
 use Rattle.std.specs.declared.alloc.Global.{Global}
 use Rattle.indexmap.specs.IndexMap.{IndexMap, get_by_text}
+use Rattle.proto_faults.specs.Texts.{Path}
 use Rattle.proto_meaning.specs.Names.{Import}
 use Rattle.proto_meaning.specs.Cycles.{Leads}
 use Rattle.proto_meaning.specs.Faults.{Fault, fault, IsLeast, AfterEarlier, Asked, file_of, imports_of}
@@ -17,7 +18,7 @@ IsFirst Says None = (f : Fault) → Says f → ⊥
 IsFirst Says (Some f) = IsLeast Says f
 
 -- an import whose path no file has, or an earlier import of its file
-pub data PathFault (paths : List (List ℕ)) (asked : List Asked) : Fault → Type 0 where
+pub data PathFault (paths : List Path) (asked : List Asked) : Fault → Type 0 where
   unknown : (a : Asked) → Contains asked a → file_of paths a.path ≡ None
       → PathFault paths asked (fault a.place 10)
   double : (a : Asked)
@@ -25,21 +26,21 @@ pub data PathFault (paths : List (List ℕ)) (asked : List Asked) : Fault → Ty
       → PathFault paths asked (fault a.place 11)
 
 -- an import on a cycle
-pub data CycleFault (paths : List (List ℕ)) (asked : List Asked) : Fault → Type 0 where
+pub data CycleFault (paths : List Path) (asked : List Asked) : Fault → Type 0 where
   cycle : (a : Asked) (to : ℕ) → Contains asked a → file_of paths a.path ≡ Some to
       → Leads (imports_of paths asked) to a.place.file → CycleFault paths asked (fault a.place 12)
 
 -- the map gives the file with a path
-abbrev pub IsFileIndex : {S : Type 0} → IndexMap (String Global) ℕ S → List (List ℕ) → Type 0
-IsFileIndex index paths = (path : List ℕ) → get_by_text index path ≡ file_of paths path
+abbrev pub IsFileIndex : {S : Type 0} → IndexMap (String Global) ℕ S → List Path → Type 0
+IsFileIndex index paths = (path : Path) → get_by_text index path ≡ file_of paths path
 
 -- the import names a marked file
-abbrev pub NamesMarked : List (List ℕ) → List Bool → WrittenImport → Type 0
+abbrev pub NamesMarked : List Path → List Bool → WrittenImport → Type 0
 NamesMarked paths marked w =
     (to : ℕ) × (file_of paths (string_bytes w.path) ≡ Some to) × IsMarked marked to
 
 -- an import of this file that names a marked file, as an import on a cycle
-abbrev pub MarkedFault : List (List ℕ) → List Bool → ℕ → List WrittenImport → Fault → Type 0
+abbrev pub MarkedFault : List Path → List Bool → ℕ → List WrittenImport → Fault → Type 0
 MarkedFault paths marked file ws f =
     (w : WrittenImport) × Contains ws w × NamesMarked paths marked w
     × (f ≡ fault (at file w.token) 12)

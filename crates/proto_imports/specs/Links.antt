@@ -5,6 +5,7 @@ use Rattle.proto_text.specs.Values.{value_of}
 use Rattle.proto_text.specs.Texts.{words, offset_at}
 use Rattle.proto_files.specs.Faults.{FaultAt}
 use Rattle.proto_faults.specs.FaultTable.{number_of}
+use Rattle.proto_faults.specs.Texts.{Text}
 use Rattle.proto_files.specs.FilesRead.{Each, ReadOf, read_at, AreRead}
 use Rattle.proto_files.specs.GivenFiles.{FileOf, file_at, paths_of}
 use Rattle.proto_case.specs.Camel.{entry_name}
@@ -17,18 +18,18 @@ use Rattle.proto_meaning.specs.Names.{Import, Workspace}
 use Rattle.proto_meaning.specs.Skeleton.{Skeleton, workspace_of}
 
 -- the texts of all tokens
-abbrev pub text_of : List FileOf → List ReadOf → At → List ℕ
+abbrev pub text_of : List FileOf → List ReadOf → At → Text
 text_of files reads a = words (file_at files a.file).bytes (read_at reads a.file).tokens a.token
 
 -- ---- imports
 
 -- the value of a string, and nothing for another text
-abbrev pub value_or_none : Option (List ℕ) → List ℕ
+abbrev pub value_or_none : Option Text → Text
 value_or_none None = []
 value_or_none (Some v) = v
 
 -- an import that a tree asks for: where it stands, and the path that its string spells
-abbrev pub asked_as : (At → List ℕ) → ℕ → Wanted → Asked
+abbrev pub asked_as : (At → Text) → ℕ → Wanted → Asked
 asked_as text file w = record {
   place = at file w.path;
   path = value_or_none (value_of (text (at file w.path)));
@@ -36,7 +37,7 @@ asked_as text file w = record {
 }
 
 -- the imports of all files from this number on, file after file
-abbrev pub all_wanted : (At → List ℕ) → ℕ → List ReadOf → List Asked
+abbrev pub all_wanted : (At → Text) → ℕ → List ReadOf → List Asked
 all_wanted text file [] = []
 all_wanted text file (r ∷ rs) =
     map (asked_as text file) (imports_in r.tree) ++ all_wanted text (suc file) rs
@@ -61,7 +62,8 @@ names_of_files files reads =
 -- ---- faults
 
 -- a fault at a token, as a fault of the file at an offset
-pub record StandsAt (files : List FileOf) (reads : List ReadOf) (f : Fault) (x : FaultAt) : Type 0 where
+pub record StandsAt (files : List FileOf) (reads : List ReadOf) (f : Fault) (x : FaultAt)
+    : Type 0 where
   pub path : x.path ≡ (file_at files f.place.file).path
   pub offset : x.offset ≡ offset_at (read_at reads f.place.file).tokens f.place.token
   pub number : number_of x.kind ≡ f.number

@@ -8,7 +8,8 @@ use indexmap::IndexMap;
 use proto_faults::NoMemory;
 use std::alloc::Global;
 
-/// The places of the texts, counted from 0; of texts that are the same the first. Only want of memory is refused.
+/// The places of the texts, counted from 0; of texts that are the same the first. Refused for want
+/// of memory alone.
 pub fn first_places(alloc: Global, texts: &[&str]) -> Result<IndexMap<String, u32>, NoMemory>
     requires { length texts.now ≤ 2 ^ 32 }
     ensures { IfOk result (λ index. IsFileIndex index (map (λ t. t.now) texts.now)) }

@@ -16,15 +16,20 @@ use std::alloc::{AllocError, Global};
 /// An import as a file has it: the token of its path, its path, and whether it is public.
 #[derive(Drop)]
 pub struct WrittenImport {
+    /// The token of its path, by its index among those of the file.
     pub token: u32,
+    /// The value of that string.
     pub path: String,
+    /// Whether it is a public import.
     pub is_public: bool,
 }
 
-/// An import of a file of the workspace, by its number.
+/// An import of a file of the workspace, by its number, from 0.
 #[derive(Clone, Copy)]
 pub struct FileImport {
+    /// The number of the file that it names.
     pub to: u32,
+    /// Whether it is a public import.
     pub is_public: bool,
 }
 
@@ -40,6 +45,7 @@ pub enum ImportFlaw {
 }
 
 impl ImportFlaw {
+    /// The number of the fault.
     fn number(self) -> u32
         ensures { result ≡ number_of self }
     {
@@ -54,12 +60,16 @@ impl ImportFlaw {
 /// A faulty import: its file, the token of its path, and what is wrong.
 #[derive(Clone, Copy)]
 pub struct BadImport {
+    /// The number of the file that it stands in, from 0.
     pub file: u32,
+    /// The token of its path, by its index among those of the file.
     pub token: u32,
+    /// What is wrong with it.
     pub flaw: ImportFlaw,
 }
 
 impl BadImport {
+    /// Whether it comes before another, by file, token and number.
     fn is_before(&self, other: &BadImport) -> bool
         ensures { IsTrue result ↔ IsBefore (fault_of self.now) (fault_of other.now) }
     {
@@ -76,7 +86,9 @@ impl BadImport {
 /// Why imports are not resolved: the least fault, or want of memory.
 #[derive(Drop)]
 pub enum ImportError {
+    /// Imports are faulty: the least fault.
     Bad(BadImport),
+    /// A growth was refused; nothing is said of the imports.
     NoMemory,
 }
 
@@ -100,9 +112,9 @@ impl From<NoMemory> for ImportError {
     }
 }
 
-/// The imports of each file, by the numbers of the files that they name, in the order in which they are written.
-/// The files are numbered by their paths. Where an import is faulty, the least fault is answered, by file, token and
-/// number.
+/// The imports of each file, by the numbers of the files that they name, in the order in which they
+/// are written. The files are numbered by their paths, from 0. Where an import is faulty, the least
+/// fault is answered, by file, token and number.
 pub fn resolve_imports(
     alloc: Global,
     paths: &[&str],

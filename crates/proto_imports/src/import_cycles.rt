@@ -117,8 +117,9 @@ fn put_in(lists: &mut Vec<Vec<u32>>, place: u32, file: u32) -> Result<(), NoMemo
     Ok(())
 }
 
-/// A rank for each file: above those of the files that it imports, where there is no cycle. Takes time linear in the
-/// number of imports. (`falls` tells whether the ranks are such, so no more is said of them.)
+/// A rank for each file: above those of the files that it imports, where there is no cycle. Takes
+/// time linear in the number of imports. (`falls` tells whether the ranks are such, so no more is
+/// said of them.)
 fn ranks(alloc: Global, next: &[Vec<u32>], importers: &[Vec<u32>]) -> Result<Vec<usize>, NoMemory>
     requires paired { length importers.now ≡ length next.now }
     requires count { length next.now ≤ 2 ^ 32 }

@@ -1,4 +1,5 @@
-//! The files that the paths of imports name, and the first import of a file that has no such path or has it again.
+//! The files that the paths of imports name, and the first import of a file that has no such path
+//! or has it again.
 
 ghost use Rattle.std.specs.Prelude.{◌≡◌, ℕ, ◌≤◌, ◌^◌, List, length, map, option_map, IfOk};
 ghost use Rattle.std.specs.List.{All};

@@ -14,15 +14,16 @@ use proto_faults::NoMemory;
 use std::alloc::Global;
 use std::mem;
 
-/// For each file, marks of the files that it sees: itself, those that it imports, and what is reached from these by
-/// public imports.
+/// For each file, marks of the files that it sees: itself, those that it imports, and what is
+/// reached from these by public imports. Refused for want of memory alone.
 pub fn all_seen(alloc: Global, imports: &[Vec<FileImport>]) -> Result<Vec<Vec<bool>>, NoMemory>
     requires count { length imports.now ≤ 2 ^ 32 }
     requires within { All (λ v. All (λ i. i.to < length imports.now) v.items) imports.now }
     ensures len { IfOk result (λ seen. length seen.items ≡ length imports.now) }
     ensures exact { IfOk result (λ seen. (w : Workspace)
         → w.files ≡ length imports.now → w.imports ≡ all_imports 0 (map (λ v. v.items) imports.now)
-        → (file : ℕ) → file < length imports.now → MarksSeen w file (get_or (map (λ v. v.items) seen.items) file [])) }
+        → (file : ℕ) → file < length imports.now
+        → MarksSeen w file (get_or (map (λ v. v.items) seen.items) file [])) }
 {
     let mut public = all_public(alloc, imports)?;
     let mut seen = Vec::new(alloc);
@@ -58,8 +59,8 @@ fn public_targets(alloc: Global, imports: &[FileImport]) -> Result<Vec<u32>, NoM
     Ok(files)
 }
 
-/// The marks of the files that one file sees: a walk along the public imports of the others, and all of its own. The
-/// lists of public imports are as before.
+/// The marks of the files that one file sees: a walk along the public imports of the others, and
+/// all of its own. The lists of public imports are as before.
 fn seen_from(
     alloc: Global,
     public: &mut Vec<Vec<u32>>,

@@ -7,7 +7,8 @@ ghost use Rattle.proto_imports.specs.Walks.{Walks, IsMarked, Visits};
 use proto_faults::NoMemory;
 use std::alloc::{AllocError, Global};
 
-/// Marks the files that are reached from this one by steps along the lists.
+/// Marks the files that are reached from this one by steps along the lists, itself among them.
+/// Refused for want of memory alone.
 pub fn reached(alloc: Global, next: &[Vec<u32>], start: u32) -> Result<Vec<bool>, NoMemory>
     requires start { start < length next.now }
     requires files { All (λ v. All (λ g. g < length next.now) v.items) next.now }

@@ -13,7 +13,8 @@ use proto_listing::wanted::Wanted;
 use proto_text::string_value;
 use std::alloc::Global;
 
-/// The imports of a file, each with its path.
+/// The imports of a file, each with the token and the value of its path. Refused for want of memory
+/// alone.
 pub fn written(
     alloc: Global,
     words: &Words,
