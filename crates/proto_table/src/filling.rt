@@ -22,7 +22,10 @@ use std::mem::replace;
 /// Why names are not declared: the first clash, or want of memory.
 #[derive(Drop)]
 pub enum NameError {
+    /// A full name is taken: the clash that comes first by file and token, by the number of its
+    /// file, from 0, and the index of its token among those of the file.
     Clash { file: u32, token: u32 },
+    /// A growth was refused; nothing is said of the names.
     NoMemory,
 }
 
@@ -50,9 +53,9 @@ impl<T: Drop> From<AllocFailed<T>> for NameError {
     }
 }
 
-/// The names of all files in a table, and for each file the row of each of its declarations. Packages are declared
-/// before all else, since no other symbol may have the name of one. Where a name is taken, the clash that comes first
-/// by file and token is answered.
+/// The names of all files in a table, and for each file the row of each of its declarations.
+/// Packages are declared before all else, since no other symbol may have the name of one. Where a
+/// name is taken, the clash that comes first by file and token is answered.
 pub fn declare_all(
     alloc: Global,
     files: &[Vec<Spelled>],
@@ -88,7 +91,8 @@ fn empty_table(alloc: Global) -> Result<Table, proto_faults::NoMemory>
     })
 }
 
-/// Declares the packages of each file in an empty table; answers it and their rows. They do not clash.
+/// Declares the packages of each file in an empty table; answers it and their rows. They do not
+/// clash.
 fn declare_packages(
     alloc: Global,
     table: Table,
@@ -171,8 +175,8 @@ fn package_count(spelled: &[Spelled]) -> usize
     count
 }
 
-/// Declares a file's entries up to `end` behind those that have rows; answers the table and the rows with theirs. Where it
-/// stops, both are dropped: none of what was declared is kept.
+/// Declares a file's entries up to `end` behind those that have rows; answers the table and the
+/// rows with theirs. Where it stops, both are dropped: none of what was declared is kept.
 fn fill(
     alloc: Global,
     table: Table,

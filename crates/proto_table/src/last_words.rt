@@ -33,7 +33,8 @@ fn last_word(alloc: Global, words: &Words, entry: &Listed) -> Result<String, NoM
     }
 }
 
-/// The declarations of a file with their last words.
+/// The declarations of a file, in their order, with their last words. Refused for want of memory
+/// alone.
 pub fn spelled(alloc: Global, words: &Words, declared: &[Listed]) -> Result<Vec<Spelled>, NoMemory>
     requires ordered { (k : ℕ) (d : Listed) → k
         < length declared.now → needs (get_or declared.now k d).above ≤ k }

@@ -3,12 +3,16 @@
 use proto_listing::listing::Above;
 use proto_meaning::Kind;
 
-/// A declaration of a file: what it stands right below, by its index among those of the file, and its last word.
+/// A declaration of a file: what it stands right below, by its index among those of the file, and
+/// its last word.
 #[derive(Drop)]
 pub struct Spelled {
+    /// What it stands right below.
     pub above: Above,
+    /// The last word of its full name.
     pub word: String,
+    /// What it declares.
     pub kind: Kind,
-    /// The token that it stands at.
+    /// The token that it stands at, by its index among those of the file.
     pub token: u32,
 }

@@ -22,14 +22,18 @@ use std::alloc::Global;
 /// What declares a name: its kind, its file and the token that it stands at.
 #[derive(Clone, Copy)]
 pub struct Symbol {
+    /// What it declares.
     pub kind: Kind,
+    /// The number of its file, from 0.
     pub file: u32,
+    /// The index of its token among those of the file.
     pub token: u32,
 }
 
 /// A name, and what is known of it.
 #[derive(Drop)]
 pub struct Row {
+    /// The full name, its words joined by `.`.
     pub name: String,
     /// Its first declaration.
     pub symbol: Symbol,
@@ -60,6 +64,7 @@ impl Row {
     }
 }
 
+/// Whether one of these files is seen.
 fn sees_any(seen: &[bool], files: &[u32]) -> bool
     ensures { result ≡ list_any (λ f. slice_index_or seen.now f false) files.now }
 {
@@ -71,9 +76,11 @@ fn sees_any(seen: &[bool], files: &[u32]) -> bool
     false
 }
 
-/// All names, each with a number: 0 stands for the empty one, and the row with index `k` has the number `k + 1`.
+/// All names, each with a number: 0 stands for the empty one, and the row with index `k` has the
+/// number `k + 1`.
 #[derive(Drop)]
 pub struct Table {
+    /// The names but the empty one, each behind the one that it stands below.
     pub rows: Vec<Row>,
     /// For each number, the indices of the rows right below it by their last words.
     pub below: Vec<IndexMap<String, usize>>,
@@ -92,7 +99,7 @@ impl Table {
         }
     }
 
-    /// The row of this word right below the name with this number.
+    /// The index of the row of this word right below the name with this number, if there is one.
     pub fn find(&self, above: usize, word: &str) -> Option<usize>
         ensures { result ≡ look self.now above word.now }
     {
@@ -102,7 +109,7 @@ impl Table {
         }
     }
 
-    /// The row with this name.
+    /// The index of the row with this name; none where no row has it.
     pub fn named(&self, text: &str) -> Option<usize>
         requires { IsTable self.now }
         ensures sound { IfSome result (λ k. (k < length self.now.rows.items)
@@ -119,7 +126,9 @@ impl Table {
         self.find(number, rest)
     }
 
-    /// The row for a reference's first word: outward from the scope, the first below which the word passes.
+    /// The index of the row for a reference's first word: outward from the scope, which is the
+    /// number of a name, the first below which the word passes. Where `is_last` is set, no word
+    /// follows it; `seen` has a mark for each file that is seen.
     pub fn search(&self, scope: usize, word: &str, is_last: bool, seen: &[bool]) -> Option<usize>
         requires table { IsTable self.now }
         requires within { scope ≤ length self.now.rows.items }
@@ -164,7 +173,8 @@ impl Table {
         }
     }
 
-    /// The row of what a relative reference means: in a scope, by its number, and where these files are seen.
+    /// The index of the row of what a relative reference means: in a scope, by its number, and
+    /// where these files are seen; none where it means nothing.
     pub fn relative(&self, scope: usize, first: &str, rest: &[&str], seen: &[bool]) -> Option<usize>
         requires table { IsTable self.now }
         requires within { scope ≤ length self.now.rows.items }
@@ -172,13 +182,15 @@ impl Table {
         requires rest { ArePlain (map (λ w. w.now) rest.now) }
         ensures { (w : Workspace) (r : Reference) → IsAsked self.now seen.now scope w r
             → r.words ≡ first.now ∷ map (λ w. w.now) rest.now → r.is_absolute ≡ false
-            → option_map (λ k. get_or (names_of self.now) k []) result ≡ option_map joined (meaning w r) }
+            → option_map (λ k. get_or (names_of self.now) k []) result
+            ≡ option_map joined (meaning w r) }
     {
         let start = self.search(scope, first, rest.is_empty(), seen)?;
         self.visible_type(start, rest, seen)
     }
 
-    /// The row of what an absolute reference means where these files are seen.
+    /// The index of the row of what an absolute reference means where these files are seen; none
+    /// where it means nothing.
     pub fn absolute(&self, first: &str, rest: &[&str], seen: &[bool]) -> Option<usize>
         requires table { IsTable self.now }
         requires first { IsPlain first.now }
@@ -186,7 +198,8 @@ impl Table {
         ensures { (w : Workspace) (r : Reference) → IsIndexOf self.now w.symbols
             → MarksSeen w r.file seen.now → r.words ≡ first.now
             ∷ map (λ w. w.now) rest.now → r.is_absolute ≡ true
-            → option_map (λ k. get_or (names_of self.now) k []) result ≡ option_map joined (meaning w r) }
+            → option_map (λ k. get_or (names_of self.now) k []) result
+            ≡ option_map joined (meaning w r) }
     {
         let start = self.find(0, first)?;
         self.visible_type(start, rest, seen)
@@ -227,8 +240,9 @@ impl Table {
         Some(row)
     }
 
-    /// Declares a symbol by the number of the name above it; answers its row. Only packages share a name: none for another symbol.
-    /// Where it declares nothing, the table stays as it was.
+    /// Declares a symbol by the number of the name above it; answers the index of its row. Packages
+    /// alone share a name: none for another symbol whose name is taken. Refused for want of memory
+    /// alone. Where it declares nothing, the table stays as it was.
     pub fn declare(
         &mut self,
         alloc: Global,
@@ -266,7 +280,8 @@ impl Table {
         }
     }
 
-    /// A new row below the name with this number; answers its index. Where memory is wanting, the table stays as it was.
+    /// A new row below the name with this number; answers its index. Refused for want of memory
+    /// alone; then the table stays as it was.
     pub fn add(
         &mut self,
         alloc: Global,
@@ -365,7 +380,7 @@ fn push_empty(alloc: Global, below: &mut Vec<IndexMap<String, usize>>)
     below.push(IndexMap::new(alloc)).unwrap();
 }
 
-/// A text before and after its first point.
+/// A text before and after its first `.`; none where it has no `.`.
 pub fn cut(text: &str) -> Option<(&str, &str)>
     ensures cases { MatchOption result (list_any (λ b. b == 46) text.now ≡ false)
         (λ x. (text.now ≡ x.0.now ++ 46 ∷ x.1.now) × (list_any (λ b. b == 46) x.0.now ≡ false)) }
