@@ -19,10 +19,14 @@ use Rattle.proto_scenes.specs.declared.enum_table.EnumRow.{EnumRow}
 
 -- ---- the enums of a tree
 
--- an enum as a block
+-- an enum as a block: its header, and the trees of what stands in its braces
 abbrev pub enum_block : Braced EnumItem → BlockOf
-enum_block e = record { header = header.Enum (record { keyword = e.keyword; name = e.name }); within = trees enum_item_tree e.members.items }
+enum_block e = record {
+  header = header.Enum (record { keyword = e.keyword; name = e.name });
+  within = trees enum_item_tree e.members.items;
+}
 
+-- a block with such a header is an enum
 abbrev pub is_enum : Header → Bool
 is_enum (header.Enum h) = true
 is_enum (header.Message h) = false
@@ -30,29 +34,42 @@ is_enum (header.Oneof h) = false
 is_enum (header.Service h) = false
 is_enum (header.Method s) = false
 
--- the blocks that are enums, in order
+-- the blocks of a tree that are enums, in messages and outside them, in order
 abbrev pub enums_in : Tree → List BlockOf
 enums_in tree = filter (λ b. is_enum b.header) (blocks_in tree)
 
--- the enum among these blocks whose name is the token
+-- the first enum among these blocks whose name is at the token, if there is one
 abbrev pub enum_among : List Lexeme → Bool → List BlockOf → ℕ → Option EnumOf
-enum_among lexemes proto3 blocks token = option_map (λ b. enum_within lexemes proto3 b.within) (find (λ b. is_enum_at token b.header) blocks)
+enum_among lexemes proto3 blocks token =
+    option_map (λ b. enum_within lexemes proto3 b.within)
+    (find (λ b. is_enum_at token b.header) blocks)
 
 -- ---- tables
 
+-- the enum that a row of a table tells of
 abbrev pub enum_of_row : EnumRow → EnumOf
-enum_of_row r = record { is_proto3 = r.is_proto3; starts_past_zero = r.starts_past_zero; values = map (λ v. v.now) r.values.items }
+enum_of_row r = record {
+  is_proto3 = r.is_proto3;
+  starts_past_zero = r.starts_past_zero;
+  values = map (λ v. v.now) r.values.items;
+}
 
+-- the enum that the rows of one file have for a token, if they have one
 abbrev pub row_at : {S : Type 0} → IndexMap ℕ EnumRow S → ℕ → Option EnumOf
 row_at rows token = option_map enum_of_row (get nat_eq rows token)
 
--- the rows are those of the enums among these blocks
-abbrev pub AreEnumsOf : {S : Type 0} → List Lexeme → Bool → List BlockOf → IndexMap ℕ EnumRow S → Type 0
-AreEnumsOf lexemes proto3 blocks rows = (token : ℕ) → row_at rows token ≡ enum_among lexemes proto3 blocks token
+-- the rows have for each token the enum among these blocks whose name is at it, and nothing else
+abbrev pub AreEnumsOf
+    : {S : Type 0} → List Lexeme → Bool → List BlockOf → IndexMap ℕ EnumRow S → Type 0
+AreEnumsOf lexemes proto3 blocks rows =
+    (token : ℕ) → row_at rows token ≡ enum_among lexemes proto3 blocks token
 
+-- the enum that a table of all files has for a token of a file, if it has one
 abbrev pub enum_in : {S : Type 0} → List (IndexMap ℕ EnumRow S) → At → Option EnumOf
 enum_in table a = option_and_then (λ rows. row_at rows a.token) (slice_get table a.file)
 
--- a table of the enums of all files
+-- the table has for each token of each file the enum whose name is at it, and nothing else
 abbrev pub IsEnumTable : {S : Type 0} → List FileOf → List (IndexMap ℕ EnumRow S) → Type 0
-IsEnumTable files table = (reads : List ReadOf) → AreRead files reads → (a : At) → enum_in table a ≡ enum_at files reads a
+IsEnumTable files table =
+    (reads : List ReadOf) → AreRead files reads
+    → (a : At) → enum_in table a ≡ enum_at files reads a

@@ -6,11 +6,13 @@ use Rattle.proto_parts.specs.Numbers.{past}
 use Rattle.proto_parts.specs.Scenes.{Scene}
 use Rattle.proto_scenes.specs.SceneOf.{scene_of}
 
--- the file as it is read, its numbers up to a cap past every limit
+-- the scene is that of the file with this number, from 0, its numbers up to a cap past every limit
 abbrev pub IsSceneOf : List FileOf → ℕ → Scene → Type 0
-IsSceneOf files file scene = (reads : List ReadOf) → AreRead files reads → scene ≡ scene_of (Some past) files reads file
+IsSceneOf files file scene =
+    (reads : List ReadOf) → AreRead files reads
+    → scene ≡ scene_of (Some past) files reads file
 
--- the same of each file
+-- there are as many scenes as files, and each is that of its file
 pub record AreScenes (files : List FileOf) (scenes : List Scene) : Type 0 where
   pub len : length scenes ≡ length files
   pub each : Each (λ k s. IsSceneOf files k s) scenes

@@ -17,15 +17,18 @@ use proto_parts::{EnumAt, is_proto3, number_of, values};
 use proto_tree::{Enum, EnumItem, File, Value};
 use std::alloc::Global;
 
-/// What is read of an enum: whether its file is proto3, whether it has a first value that is not 0, and the names of
-/// its values.
+/// What is read of an enum.
 #[derive(Drop)]
 pub struct EnumRow<'a> {
+    /// Whether its file is proto3.
     pub is_proto3: bool,
+    /// Whether it has a first value, and that is not 0.
     pub starts_past_zero: bool,
+    /// The names of its values, in order.
     pub values: Vec<&'a str>,
 }
 
+/// Whether the number of a value is not 0.
 fn is_past_zero(words: &Words, value: &Value) -> bool
     ensures { result ≡ starts_past_zero (word_at words.now) (value.now ∷ []) }
 {
@@ -33,6 +36,7 @@ fn is_past_zero(words: &Words, value: &Value) -> bool
     number_of(number) != 0
 }
 
+/// Whether there is a first value, and its number is not 0.
 fn starts_past_zero(words: &Words, values: &[&Value]) -> bool
     ensures { result ≡ starts_past_zero (word_at words.now) (map (λ v. v.now) values.now) }
 {
@@ -42,6 +46,7 @@ fn starts_past_zero(words: &Words, values: &[&Value]) -> bool
     }
 }
 
+/// The names of these values.
 fn names<'a>(alloc: Global, words: &Words<'a>, values: &[&Value]) -> Result<Vec<&'a str>, NoMemory>
     ensures { IfOk result (λ names. map (λ n. n.now) names.items
         ≡ map (λ v. word_at words.now v.name) (map (λ v. v.now) values.now)) }
@@ -53,6 +58,7 @@ fn names<'a>(alloc: Global, words: &Words<'a>, values: &[&Value]) -> Result<Vec<
     Ok(names)
 }
 
+/// What is read of an enum with these items.
 fn row<'a>(
     alloc: Global,
     words: &Words<'a>,
@@ -110,8 +116,8 @@ fn file_enums<'a>(
     Ok(rows)
 }
 
-/// The enums of all files: for each file, in the order of their paths, what is read of each of its enums, by the token
-/// of its name.
+/// The enums of all files: for each file, in the order of their paths, what is read of each of its
+/// enums, by the token of its name. Refused for want of memory alone.
 pub fn enum_table<'a>(
     alloc: Global,
     files: &'a Files,

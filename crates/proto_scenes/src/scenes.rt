@@ -29,6 +29,7 @@ fn enum_named<'a>(
     enum_at(table, file, token)
 }
 
+/// What a reference means: its token, the full name, and the enum that has it.
 fn meant<'a>(link: &'a Link, table: &'a [IndexMap<u32, EnumRow<'a>>], meant: Meant) -> MeantAt<'a>
     ensures token { result.token ≡ meant.token }
     ensures meant { meant_of result ≡ meant_in_table link.now (enum_in table.now) meant }
@@ -80,8 +81,8 @@ fn scene<'a>(
     Ok(Scene::new(words, is_proto3, means))
 }
 
-/// Each file as checks and descriptors read it, in the order of their paths. The link is that of the files, and the
-/// table is of their enums.
+/// Each file as checks and descriptors read it, in the order of their paths. The link is that of
+/// the files, and the table is of their enums. Refused for want of memory alone.
 pub fn scenes<'a>(
     alloc: Global,
     files: &'a Files,
