@@ -17,7 +17,8 @@ use proto_names::{Link, are_read};
 use std::alloc::Global;
 use std::marker::Model;
 
-/// Schemas that compile: at most 4,096 files in the order of their paths, with their link and their descriptors.
+/// Schemas that compile: at most 4,096 files in the order of their paths, with their link and their
+/// descriptors.
 #[derive(Drop)]
 pub struct Schema {
     files: Files,
@@ -39,12 +40,13 @@ impl Model for Schema {
 
     ghost view = { λ s. s.files };
 
-    ghost invariant = { λ s. HasNoFault (FileFaults s.files) × (IsLinkOf s.files s.link × AreDescribed s.files (files_desc s.descriptors)) };
+    ghost invariant = { λ s. HasNoFault (FileFaults s.files)
+        × (IsLinkOf s.files s.link × AreDescribed s.files (files_desc s.descriptors)) };
 }
 
 impl Schema {
-    /// The files given, in the order of their paths, where they compile; else their least fault by phase, path, offset
-    /// and number.
+    /// The files given, as paths and bytes, in the order of their paths, where they compile; else
+    /// their least fault by phase, path, offset and number, or want of memory.
     pub fn open(alloc: Global, files: Vec<(String, Vec<u8>)>) -> Result<Schema, SchemaFault>
         ensures files { IfOk result (λ s. IsSortedOf (files_of files.items) s) }
         ensures clean { IfOk result (λ _. HasNoFault (WorkspaceFaults (files_of files.items))) }
