@@ -33,7 +33,7 @@ use Rattle.proto_rename_laws.specs.Captures.{HasScope}
 use Rattle.proto_rename_laws.specs.Cases.{Captures}
 use Rattle.proto_rename_laws.specs.Targets.{Target, may_rename, name_map}
 use Rattle.proto_rename_laws.proofs.NoLinkFault.{files_are_linked, files_are_woven}
-use Rattle.proto_rename_laws.proofs.PlainNames.{name_in}
+use Rattle.proto_names.proofs.PlainNames.{name_in}
 use Rattle.proto_table.specs.Naming.{used_named}
 use Rattle.proto_captures.specs.Capturing.{captures_use, captures_words}
 use Rattle.proto_captures.specs.FirstCaptured.{AreNewNames, IsFirstIn, IsRenameOf, captures_by, first_of, or_nothing}

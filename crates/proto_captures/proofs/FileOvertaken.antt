@@ -27,7 +27,7 @@ use Rattle.proto_names.specs.Linking.{LinkOf, text_at}
 use Rattle.proto_names.specs.declared.references.Meant.{Meant}
 use Rattle.proto_rename_laws.specs.Captures.{HasScope}
 use Rattle.proto_rename_laws.proofs.NoLinkFault.{files_are_linked, files_are_woven}
-use Rattle.proto_rename_laws.proofs.PlainNames.{name_in}
+use Rattle.proto_names.proofs.PlainNames.{name_in}
 use Rattle.proto_table.specs.Naming.{used_named}
 use Rattle.proto_captures.specs.FirstCaptured.{first_of, or_nothing}
 use Rattle.proto_captures.specs.Overtaking.{IsFirstOvertaken, Overtakes, SeesMarked, TellsPackages, overtakes_by, overtakes_use, overtakes_words}

@@ -1,4 +1,4 @@
--- The tokens of a tree stand in order, so what it declares is spread over them, and each reference stands in a declaration.
+-- The tokens of a tree stand in order, so what it declares is spread over them, and each reference stands in a declaration (for the crates above).
 use Rattle.std.proofs.Common.{◌≡◌, ◌≢◌, ℕ, suc, get_or, ◌+◌, ◌<◌, ◌≤◌, true, false, List, [], ◌∷◌, ◌++◌, length, refl, sym, ◌∙◌, ap, subst, inl, inr, ◌⊎◌, arith, map, length-append}
 use Rattle.std.specs.List.{Contains, All}
 use Rattle.std.proofs.lemmas.Bool.{true≢false}

@@ -1,5 +1,5 @@
 mod Behind
-mod FromTree
+pub mod FromTree
 pub mod Growing
 pub mod InTokens
 mod Listed

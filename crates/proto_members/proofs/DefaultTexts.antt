@@ -35,7 +35,7 @@ use Rattle.proto_parts.specs.Parts.{BlockOf, FieldOf, blocks_in}
 use Rattle.proto_parts.specs.Scenes.{Scene, text}
 use Rattle.proto_scenes.specs.SceneOf.{meaning_of}
 use Rattle.proto_rename_laws.specs.Defaults.{default_words, fields_of_block, fields_of_file, meaning_from, means_value, renamed_default, type_meaning}
-use Rattle.proto_rename_laws.proofs.PlainNames.{names_are_plain}
+use Rattle.proto_names.proofs.PlainNames.{names_are_plain}
 use Rattle.proto_members.specs.Blocks.{holders_in, may_hold}
 use Rattle.proto_members.specs.Defaults.{defaults_in, defaults_of, is_text, spelled, type_means}
 use Rattle.proto_members.specs.Members.{IsReadAs}

@@ -35,6 +35,7 @@ use Rattle.proto_text.proofs.Lists.{contains_map}
 use Rattle.proto_meaning.proofs.Edited.{map_agree, map_map}
 use Rattle.proto_files.proofs.ReadOnce.{one_reading}
 use Rattle.proto_listing.proofs.ReadTrees.{uses_plain}
+use Rattle.proto_names.proofs.PlainNames.{name_in}
 
 -- ---- what is read of a file
 
@@ -42,12 +43,6 @@ abbrev pub IsReadOf : List FileOf → ℕ → ReadOf → Type 0
 IsReadOf files file r = Reads (file_at files file).bytes r.tokens r.tree
 
 -- ---- the references of a file
-
-pub name_in : (text : At → List ℕ) (n : ℕ) (path : List (Source ℕ)) → name_of text entry_name (map (shifted_source (at n)) path) ≡ name_of (λ i. text (at n i)) entry_name path
-name_in text n [] = refl
-name_in text n (TokenOf t ∷ rest) = ap (λ (ws : List (List ℕ)). text (at n t) ∷ ws) (name_in text n rest)
-name_in text n (EntryOf t ∷ rest) = ap (λ (ws : List (List ℕ)). entry_name (text (at n t)) ∷ ws) (name_in text n rest)
-name_in text n (Given w ∷ rest) = ap (λ (ws : List (List ℕ)). w ∷ ws) (name_in text n rest)
 
 module _ (text : At → List ℕ) (file : ℕ) (ds : List Placed) where
   abbrev own : ℕ → List ℕ

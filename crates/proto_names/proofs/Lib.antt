@@ -15,7 +15,7 @@ mod Linking
 mod MeantBy
 pub mod MeantNames
 mod NameErrors
-mod PlainNames
+pub mod PlainNames
 mod Referring
 mod Scopes
 mod TableNames

@@ -1,4 +1,4 @@
--- The full names that files declare are of plain words.
+-- The full names that files declare are of plain words (for the crates above).
 use Rattle.std.proofs.Common.{◌≡◌, ℕ, zero, suc, ◌+◌, ◌<◌, List, [], ◌∷◌, ◌++◌, length, map, Some, refl, sym, ◌∙◌, ap, subst, inl, inr, arith, length-append}
 use Rattle.std.specs.List.{Contains}
 use Rattle.std.proofs.lemmas.List.Elements.{Contains-append_cases}
@@ -13,15 +13,24 @@ use Rattle.proto_listing.specs.Listing.{whole, last_token}
 use Rattle.proto_meaning.specs.declared.kind.Kind.{Kind}
 use Rattle.proto_meaning.specs.declared.kind.Kind.TheVariants.{Field, Value, Method}
 use Rattle.proto_meaning.specs.Names.{Symbol}
-use Rattle.proto_meaning.specs.Skeleton.{Source, Token, EntryOf, Given, Declared, name_of, spell, symbol_of, shifted_declared}
+use Rattle.proto_meaning.specs.Skeleton.{shifted_source, Source, Token, EntryOf, Given, Declared, name_of, spell, symbol_of, shifted_declared}
 use Rattle.proto_meaning.specs.Tree.{Member, field, map_field, oneof, message, enum, service, Members, no_members, member, Items, no_items, packaged, item, package_of, Placed, place, placed, all_placed, prefixes, items_placed, file_placed}
 use Rattle.proto_text.proofs.Lists.{contains_cases, from_map}
 use Rattle.proto_meaning.proofs.Edited.{map_append}
-use Rattle.proto_names.proofs.FileMeanings.{name_in}
 use Rattle.proto_listing.proofs.Growing.{token_last, entry_last}
 use Rattle.proto_meaning.proofs.Items.{file_stands}
 use Rattle.proto_listing.proofs.ReadTrees.{placed_plain}
 use Rattle.proto_table.proofs.SpelledNames.{entry_plain}
+
+-- the name that tokens of one file spell, among those of all files
+pub name_in : (text : At → List ℕ) (n : ℕ) (path : List (Source ℕ))
+    → name_of text entry_name (map (shifted_source (at n)) path)
+    ≡ name_of (λ i. text (at n i)) entry_name path
+name_in text n [] = refl
+name_in text n (Token t ∷ rest) = ap (λ (ws : List (List ℕ)). text (at n t) ∷ ws) (name_in text n rest)
+name_in text n (EntryOf t ∷ rest) =
+    ap (λ (ws : List (List ℕ)). entry_name (text (at n t)) ∷ ws) (name_in text n rest)
+name_in text n (Given w ∷ rest) = ap (λ (ws : List (List ℕ)). w ∷ ws) (name_in text n rest)
 
 -- ---- given words are plain
 

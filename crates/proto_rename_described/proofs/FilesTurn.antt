@@ -50,7 +50,7 @@ use Rattle.proto_checks_laws.specs.Renamed.{DifferInNames, asked_tokens, block_t
 use Rattle.proto_described.specs.Described.{absolute, default_number, default_text, field_type_name, file_described, is_map, type_name_of}
 use Rattle.proto_scenes.specs.SceneOf.{meaning_of, meant_as, scene_of}
 use Rattle.proto_desc.specs.Checked.{described_from}
-use Rattle.proto_rename_laws.proofs.PlainNames.{name_in, names_are_plain}
+use Rattle.proto_names.proofs.PlainNames.{name_in, names_are_plain}
 use Rattle.proto_rename_laws.specs.Defaults.{meaning_from, means_value}
 use Rattle.proto_rename_laws.specs.Roles.{HasDefaultRoles}
 use Rattle.proto_rename_laws.specs.Rewording.{AreReworded}

@@ -24,7 +24,7 @@ use Rattle.proto_table.specs.Naming.{used_named}
 use Rattle.proto_names.specs.FileReferences.{uses_of}
 use Rattle.proto_parts.specs.Scenes.{MeantOf, meant_by}
 use Rattle.proto_scenes.specs.SceneOf.{meaning_of, meant_as, scene_of}
-use Rattle.proto_rename_laws.proofs.PlainNames.{name_in, names_are_plain}
+use Rattle.proto_names.proofs.PlainNames.{name_in, names_are_plain}
 use Rattle.proto_rename_laws.specs.Scenes.{IsRename}
 use Rattle.proto_rename_roles.proofs.TokenRoles.{placed_declared}
 use Rattle.proto_rename_laws.proofs.Scenes.{find_agree, find_there, meaning_after, used_here, uses_stay}

@@ -12,8 +12,6 @@ pub mod OldTexts
 pub mod OneTarget
 pub mod Places
 pub mod PlacesSuit
-pub mod PlainNames
 pub mod Rewording
 pub mod Scenes
-mod Scopes
 pub mod TargetThere

@@ -8,6 +8,7 @@ use Rattle.proto_case.specs.Camel.{entry_name}
 use Rattle.proto_case.proofs.EntryNames.{entry_differs}
 use Rattle.proto_text.specs.declared.lexer.Token.{Token}
 use Rattle.proto_text.specs.Texts.{offset_at}
+use Rattle.proto_text.specs.Tokens.{lexeme_at}
 use Rattle.proto_text.proofs.Once.{no_fault_with_tokens, one_token_list}
 use Rattle.proto_text.specs.declared.fault.LexFault.TheVariants as lex
 use Rattle.proto_tree.specs.Reads.{Reads}
@@ -22,8 +23,8 @@ use Rattle.proto_meaning.specs.Skeleton.{Skeleton}
 use Rattle.proto_meaning.proofs.Edited.{linked_after}
 use Rattle.proto_meaning.proofs.Files.{files_nested, files_woven}
 use Rattle.proto_meaning.proofs.Sound.{linked_from, names_sound, references_sound}
+use Rattle.proto_listing.proofs.FromTree.{tree_grown}
 use Rattle.proto_imports.specs.Links.{LinkFaults, StandsAt, of_import, of_name, of_reference, all_wanted, link_skeleton, link_imports, names_in, text_of}
-use Rattle.proto_rename_laws.proofs.Scopes.{names_are_grown}
 use Rattle.proto_rename_laws.specs.NoLinkFault.{FilesAreWoven, FilesAreLinked, ReadFilesAreClean, NoLinkFaultComesIn}
 use Rattle.proto_rename_laws.proofs.Rewording.{asked_stay, skeletons_stay}
 
@@ -44,7 +45,8 @@ pub files_are_woven : FilesAreWoven
 files_are_woven files reads r =
     files_woven (link_imports files reads) (map names_in reads) (each_grown reads (λ k l.
     let t = r.trees k (omega (arith, l, r.same)) in
-    names_are_grown (file_at files k).bytes (read_at reads k).tokens (read_at reads k).tree t))
+    tree_grown (read_at reads k).tree
+    (map (lexeme_at (file_at files k).bytes) (read_at reads k).tokens) t.spells))
 
 -- ---- faults as they stand
 

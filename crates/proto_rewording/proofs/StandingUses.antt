@@ -37,7 +37,7 @@ use Rattle.proto_rename_laws.specs.Targets.{Target, IsNamed, name_map}
 use Rattle.proto_rename_laws.proofs.NoLinkFault.{files_are_linked}
 use Rattle.proto_rename_laws.proofs.Places.{from_flat_map, stands_at, to_flat_map}
 use Rattle.proto_rename_laws.proofs.PlacesSuit.{meaning_parts}
-use Rattle.proto_rename_laws.proofs.PlainNames.{names_are_plain}
+use Rattle.proto_names.proofs.PlainNames.{names_are_plain}
 use Rattle.proto_rewording.specs.StandingTokens.{counted, from_end, listed, standing_tokens, words_behind}
 use Rattle.proto_rewording.proofs.EndTokens.{cons_parts, end_split, is_listed, listed_is, same_fronts, split_end, split_map}
 use Rattle.proto_rewording.proofs.NameTexts.{behind_is, is_behind}

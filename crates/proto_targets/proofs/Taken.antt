@@ -25,7 +25,7 @@ use Rattle.proto_names.specs.LinkOfFiles.{IsLinkRead}
 use Rattle.proto_names.specs.Linking.{LinkOf, NameOf, name_at}
 use Rattle.proto_rename_laws.specs.Targets.{Target, IsNamed, may_rename, name_map}
 use Rattle.proto_rename_laws.proofs.NoLinkFault.{files_are_linked}
-use Rattle.proto_rename_laws.proofs.PlainNames.{names_are_plain}
+use Rattle.proto_names.proofs.PlainNames.{names_are_plain}
 use Rattle.proto_meaning.specs.Grown.{at}
 use Rattle.proto_targets.specs.Aims.{IsAimedAt}
 use Rattle.proto_targets.specs.declared.aim.Aim.{Aim}
