@@ -5,6 +5,7 @@ use Rattle.bench.specs.declared.kind.Kind.TheVariants as kind
 use Rattle.proto_tree.specs.declared.tree.Item.{Item}
 use Rattle.proto_tree.specs.declared.tree.Item.TheVariants as item
 
+-- the item of a file is of the kind
 abbrev pub is_of_kind : Kind → Item → Bool
 is_of_kind kind.Message (item.Message _) = true
 is_of_kind kind.Enum (item.Enum _) = true

@@ -121,8 +121,9 @@ fn answered<R: AllocGlobal + Clock>(
     }
 }
 
-/// How many files an edit changes, and three times in microseconds: of opening the files, of the edit's answer, and of putting
-/// its changes and opening what they leave. Of a refused edit why it is, and the first two times.
+/// How many files an edit changes, and three times in microseconds: of opening the files, of the
+/// edit's answer, and of putting its changes and opening what they leave. Of a refused edit why it
+/// is, and the first two times.
 pub(crate) fn timed<R: AllocGlobal + Clock>(
     rt: &R,
     edit: Edit,

@@ -1,4 +1,5 @@
-//! Does one step of the compiler over the files that its words name, so that it can be tried on whole schemas, and timed.
+//! Does one step of the compiler over the files that its words name, so that it can be tried on
+//! whole schemas, and timed.
 //!
 //!     bench lex|parse|link|lint|compile FILE..
 //!     bench edit rename NAME TO FILE..

@@ -117,7 +117,9 @@ reserved_numbers rs ns =
 
 -- two ranges share a number: neither ends before it begins, or before the other
 abbrev pub share : RangeAt → RangeAt → Bool
-share a b = int_le a.first a.last && (int_le b.first b.last && (int_le a.first b.last && int_le b.first a.last))
+share a b =
+    int_le a.first a.last
+    && (int_le b.first b.last && (int_le a.first b.last && int_le b.first a.last))
 
 -- 21 RangeOverlap at each range that shares a number with an earlier one
 abbrev pub overlaps : List RangeAt → List Flaw
