@@ -1,15 +1,17 @@
-//! The checks of linked files, and the descriptors of those that pass them.
+//! The checks of linked files, and the descriptors of those that pass them, with their JSON text.
 #![tactic(auto)]
 
 mod checking;
+mod json_form;
 pub mod laws;
 
 pub use checking::check;
+pub use json_form::to_json;
 pub use proto_faults::SchemaFault as CheckFault;
 pub use proto_json::{
     Descriptors, EnumDescriptor, EnumOptions, EnumReservedRange, EnumValueDescriptor,
     EnumValueOptions, FieldDescriptor, FieldOptions, FieldType, FileDescriptor, FileOptions,
     IdempotencyLevel, Label, MessageDescriptor, MessageOptions, MethodDescriptor, MethodOptions,
     NumberRange, OneofDescriptor, OptimizeMode, ServiceDescriptor, ServiceOptions, Syntax,
-    keys_rise, to_json,
+    keys_rise,
 };

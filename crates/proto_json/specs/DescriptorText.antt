@@ -1,6 +1,8 @@
--- The JSON text of descriptors: for each kind of object its keys, in the order of their bytes, with the texts of their values.
-use Rattle.std.specs.Prelude.{ℕ, List, [], ◌∷◌, Option, Some, None, option_map, map, codes, decimal}
+-- The JSON text of descriptors: for each kind of object its keys, in the order of their bytes, with
+-- the texts of their values.
+use Rattle.std.specs.Prelude.{List, [], ◌∷◌, Option, Some, None, option_map, map, codes, decimal}
 use Rattle.std.specs.Fmt.{signed_decimal}
+use Rattle.proto_faults.specs.Texts.{Text}
 use Rattle.proto_json.specs.Descriptors.{FieldDesc, EnumValueDesc, EnumDesc, MessageDesc, Messages, NoMessages, Message, MethodDesc, ServiceDesc, FileOptionsDesc, FileDesc}
 use Rattle.proto_json.specs.JsonText.{Slot, quoted, boolean_text, object_text, array_if_any, object_if_any, mark}
 use Rattle.proto_json.specs.declared.enumeration.EnumOptions.{EnumOptions}
@@ -24,12 +26,14 @@ use Rattle.proto_json.specs.declared.service.ServiceOptions.{ServiceOptions}
 
 -- ---- names
 
-abbrev pub label_name : Label → List ℕ
+-- the name of a label in descriptor.proto
+abbrev pub label_name : Label → Text
 label_name label.Optional = codes "LABEL_OPTIONAL"
 label_name label.Required = codes "LABEL_REQUIRED"
 label_name label.Repeated = codes "LABEL_REPEATED"
 
-abbrev pub field_type_name : FieldType → List ℕ
+-- the name of a type in descriptor.proto: `TYPE_`, then the word of the type in capitals
+abbrev pub field_type_name : FieldType → Text
 field_type_name field_type.Double = codes "TYPE_DOUBLE"
 field_type_name field_type.Float = codes "TYPE_FLOAT"
 field_type_name field_type.Int64 = codes "TYPE_INT64"
@@ -48,28 +52,32 @@ field_type_name field_type.Sfixed64 = codes "TYPE_SFIXED64"
 field_type_name field_type.Sint32 = codes "TYPE_SINT32"
 field_type_name field_type.Sint64 = codes "TYPE_SINT64"
 
-abbrev pub optimize_mode_name : OptimizeMode → List ℕ
+-- the word of a mode, as a file writes it at its option `optimize_for`
+abbrev pub optimize_mode_name : OptimizeMode → Text
 optimize_mode_name optimize_mode.Speed = codes "SPEED"
 optimize_mode_name optimize_mode.CodeSize = codes "CODE_SIZE"
 optimize_mode_name optimize_mode.LiteRuntime = codes "LITE_RUNTIME"
 
-abbrev pub idempotency_level_name : IdempotencyLevel → List ℕ
+-- the word of a level, as a method writes it at its option `idempotency_level`
+abbrev pub idempotency_level_name : IdempotencyLevel → Text
 idempotency_level_name idempotency_level.Unknown = codes "IDEMPOTENCY_UNKNOWN"
 idempotency_level_name idempotency_level.NoSideEffects = codes "NO_SIDE_EFFECTS"
 idempotency_level_name idempotency_level.Idempotent = codes "IDEMPOTENT"
 
 -- proto2 is the version of a file that names none
-abbrev pub syntax_name : Syntax → Option (List ℕ)
+abbrev pub syntax_name : Syntax → Option Text
 syntax_name syntax.Proto2 = None
 syntax_name syntax.Proto3 = Some (codes "proto3")
 
 -- ---- fields
 
+-- the options at a field, each left out where it is not written
 abbrev pub field_options_slots : FieldOptions → List Slot
 field_options_slots o =
     (codes "deprecated", option_map boolean_text o.deprecated)
     ∷ (codes "packed", option_map boolean_text o.packed) ∷ []
 
+-- a field: label, name, number and type always stand, any other key only where it says something
 abbrev pub field_slots : FieldDesc → List Slot
 field_slots f =
     (codes "defaultValue", option_map quoted f.default_value)
@@ -83,34 +91,44 @@ field_slots f =
     ∷ (codes "type", Some (quoted (field_type_name f.field_type)))
     ∷ (codes "typeName", option_map quoted f.type_name) ∷ []
 
-abbrev pub field_text : FieldDesc → List ℕ
+-- the object of a field
+abbrev pub field_text : FieldDesc → Text
 field_text f = object_text (field_slots f)
 
 -- ---- enums
 
+-- the option at a value of an enum, left out where it is not written
 abbrev pub enum_value_options_slots : EnumValueOptions → List Slot
 enum_value_options_slots o = (codes "deprecated", option_map boolean_text o.deprecated) ∷ []
 
+-- a value of an enum: name and number always stand, options only where one is written
 abbrev pub enum_value_slots : EnumValueDesc → List Slot
 enum_value_slots v =
     (codes "name", Some (quoted v.name))
     ∷ (codes "number", Some (signed_decimal v.number))
     ∷ (codes "options", object_if_any (enum_value_options_slots v.options)) ∷ []
 
-abbrev pub enum_value_text : EnumValueDesc → List ℕ
+-- the object of a value of an enum
+abbrev pub enum_value_text : EnumValueDesc → Text
 enum_value_text v = object_text (enum_value_slots v)
 
+-- reserved numbers of an enum, from `start` to `end`, both among them
 abbrev pub enum_range_slots : EnumReservedRange → List Slot
-enum_range_slots r = (codes "end", Some (signed_decimal r.end)) ∷ (codes "start", Some (signed_decimal r.start)) ∷ []
+enum_range_slots r =
+    (codes "end", Some (signed_decimal r.end))
+    ∷ (codes "start", Some (signed_decimal r.start)) ∷ []
 
-abbrev pub enum_range_text : EnumReservedRange → List ℕ
+-- the object of a range of reserved numbers of an enum
+abbrev pub enum_range_text : EnumReservedRange → Text
 enum_range_text r = object_text (enum_range_slots r)
 
+-- the options in an enum, each left out where it is not written
 abbrev pub enum_options_slots : EnumOptions → List Slot
 enum_options_slots o =
     (codes "allowAlias", option_map boolean_text o.allow_alias)
     ∷ (codes "deprecated", option_map boolean_text o.deprecated) ∷ []
 
+-- an enum: its name always stands, its options and its lists only where they are not empty
 abbrev pub enum_slots : EnumDesc → List Slot
 enum_slots e =
     (codes "name", Some (quoted e.name))
@@ -119,30 +137,36 @@ enum_slots e =
     ∷ (codes "reservedRange", array_if_any (map enum_range_text e.reserved_range))
     ∷ (codes "value", array_if_any (map enum_value_text e.value)) ∷ []
 
-abbrev pub enum_text : EnumDesc → List ℕ
+-- the object of an enum
+abbrev pub enum_text : EnumDesc → Text
 enum_text e = object_text (enum_slots e)
 
 -- ---- messages
 
+-- field numbers from `start` up to `end`, which is not one of them
 abbrev pub range_slots : NumberRange → List Slot
 range_slots r = (codes "end", Some (decimal r.end)) ∷ (codes "start", Some (decimal r.start)) ∷ []
 
-abbrev pub range_text : NumberRange → List ℕ
+-- the object of a range of field numbers
+abbrev pub range_text : NumberRange → Text
 range_text r = object_text (range_slots r)
 
-abbrev pub oneof_slots : List ℕ → List Slot
+-- a oneof, of which the name is written alone: each field says in which oneof it stands
+abbrev pub oneof_slots : Text → List Slot
 oneof_slots name = (codes "name", Some (quoted name)) ∷ []
 
-abbrev pub oneof_text : List ℕ → List ℕ
+-- the object of a oneof with this name
+abbrev pub oneof_text : Text → Text
 oneof_text name = object_text (oneof_slots name)
 
+-- the options in a message; `mapEntry` stands in the entry of a map field alone
 abbrev pub message_options_slots : MessageOptions → List Slot
 message_options_slots o =
     (codes "deprecated", option_map boolean_text o.deprecated)
     ∷ (codes "mapEntry", mark o.map_entry) ∷ []
 
 -- a message, with the texts of those nested in it
-abbrev pub message_slots : MessageDesc → List (List ℕ) → List Slot
+abbrev pub message_slots : MessageDesc → List Text → List Slot
 message_slots m nested =
     (codes "enumType", array_if_any (map enum_text m.enum_type))
     ∷ (codes "extensionRange", array_if_any (map range_text m.extension_range))
@@ -154,21 +178,27 @@ message_slots m nested =
     ∷ (codes "reservedName", array_if_any (map quoted m.reserved_name))
     ∷ (codes "reservedRange", array_if_any (map range_text m.reserved_range)) ∷ []
 
-abbrev pub message_text : MessageDesc → List (List ℕ) → List ℕ
+-- the object of a message, with the texts of those nested in it
+abbrev pub message_text : MessageDesc → List Text → Text
 message_text m nested = object_text (message_slots m nested)
 
 -- the texts of messages, in order
-abbrev pub message_texts : Messages → List (List ℕ)
+abbrev pub message_texts : Messages → List Text
 message_texts NoMessages = []
 message_texts (Message m nested rest) = message_text m (message_texts nested) ∷ message_texts rest
 
 -- ---- services
 
+-- the options in a method, each left out where it is not written
 abbrev pub method_options_slots : MethodOptions → List Slot
 method_options_slots o =
     (codes "deprecated", option_map boolean_text o.deprecated)
-    ∷ (codes "idempotencyLevel", option_map (λ level. quoted (idempotency_level_name level)) o.idempotency_level) ∷ []
+    ∷ (
+      codes "idempotencyLevel",
+      option_map (λ level. quoted (idempotency_level_name level)) o.idempotency_level,
+    ) ∷ []
 
+-- a method: its name and its types always stand, a mark of a stream only where there is one
 abbrev pub method_slots : MethodDesc → List Slot
 method_slots m =
     (codes "clientStreaming", mark m.client_streaming)
@@ -178,23 +208,28 @@ method_slots m =
     ∷ (codes "outputType", Some (quoted m.output_type))
     ∷ (codes "serverStreaming", mark m.server_streaming) ∷ []
 
-abbrev pub method_text : MethodDesc → List ℕ
+-- the object of a method
+abbrev pub method_text : MethodDesc → Text
 method_text m = object_text (method_slots m)
 
+-- the option in a service, left out where it is not written
 abbrev pub service_options_slots : ServiceOptions → List Slot
 service_options_slots o = (codes "deprecated", option_map boolean_text o.deprecated) ∷ []
 
+-- a service: its name always stands, its methods and its options only where there are any
 abbrev pub service_slots : ServiceDesc → List Slot
 service_slots s =
     (codes "method", array_if_any (map method_text s.method))
     ∷ (codes "name", Some (quoted s.name))
     ∷ (codes "options", object_if_any (service_options_slots s.options)) ∷ []
 
-abbrev pub service_text : ServiceDesc → List ℕ
+-- the object of a service
+abbrev pub service_text : ServiceDesc → Text
 service_text s = object_text (service_slots s)
 
 -- ---- files
 
+-- the options in a file, each left out where it is not written
 abbrev pub file_options_slots : FileOptionsDesc → List Slot
 file_options_slots o =
     (codes "ccEnableArenas", option_map boolean_text o.cc_enable_arenas)
@@ -208,6 +243,7 @@ file_options_slots o =
     ∷ (codes "optimizeFor", option_map (λ mode. quoted (optimize_mode_name mode)) o.optimize_for)
     ∷ (codes "phpNamespace", option_map quoted o.php_namespace) ∷ []
 
+-- a file: its path always stands, any other key only where it says something
 abbrev pub file_slots : FileDesc → List Slot
 file_slots f =
     (codes "dependency", array_if_any (map quoted f.dependency))
@@ -220,9 +256,14 @@ file_slots f =
     ∷ (codes "service", array_if_any (map service_text f.service))
     ∷ (codes "syntax", option_map quoted (syntax_name f.syntax)) ∷ []
 
-abbrev pub file_text : FileDesc → List ℕ
+-- the object of a file
+abbrev pub file_text : FileDesc → Text
 file_text f = object_text (file_slots f)
 
+-- one object with one key, at which the texts of these files stand as a list
+abbrev pub text_of_files : Text → List FileDesc → Text
+text_of_files key files = object_text ((key, array_if_any (map file_text files)) ∷ [])
+
 -- the text of a set of files: one object with the list `file`
-abbrev pub json_text : List FileDesc → List ℕ
+abbrev pub json_text : List FileDesc → Text
 json_text files = object_text ((codes "file", array_if_any (map file_text files)) ∷ [])

@@ -4,9 +4,10 @@ use Rattle.std.specs.Char.{digit_char}
 use Rattle.std.specs.List.{list_all}
 use Rattle.std.specs.Cmp.Lexicographic.{slice_cmp}
 use Rattle.std.specs.Ordering.{nat_cmp, is_lt}
+use Rattle.proto_faults.specs.Texts.{Text}
 
 -- what stands in a string for a byte of a text
-abbrev pub escaped : ℕ → List ℕ
+abbrev pub escaped : ℕ → Text
 escaped b =
     if b == 34 then codes "\\\"" else
     (if b == 92 then codes "\\\\" else
@@ -19,55 +20,59 @@ escaped b =
     else b ∷ [])))))))
 
 -- a text between quotes
-unfoldable pub quoted : List ℕ → List ℕ
+unfoldable pub quoted : Text → Text
 quoted text = 34 ∷ (flat_map escaped text ++ 34 ∷ [])
 
-abbrev pub boolean_text : Bool → List ℕ
+-- the literal of a truth value
+abbrev pub boolean_text : Bool → Text
 boolean_text true = codes "true"
 boolean_text false = codes "false"
 
 -- texts with a comma between two
-abbrev pub separated : List (List ℕ) → List ℕ
+abbrev pub separated : List Text → Text
 separated [] = []
 separated (t ∷ ts) = t ++ flat_map (λ u. 44 ∷ u) ts
 
-unfoldable pub array_text : List (List ℕ) → List ℕ
+-- the values of an array between brackets, with a comma between two
+unfoldable pub array_text : List Text → Text
 array_text texts = 91 ∷ (separated texts ++ 93 ∷ [])
 
 -- a key of an object and, where it is there, the text of its value
 abbrev pub Slot : Type 0
-Slot = List ℕ × Option (List ℕ)
+Slot = Text × Option Text
 
 -- a member that is there: its key, a colon, its value
-abbrev pub member_texts : List Slot → List (List ℕ)
+abbrev pub member_texts : List Slot → List Text
 member_texts [] = []
 member_texts ((key, None) ∷ slots) = member_texts slots
 member_texts ((key, Some text) ∷ slots) = (quoted key ++ 58 ∷ text) ∷ member_texts slots
 
 -- the members that are there, in the order of the slots
-unfoldable pub object_text : List Slot → List ℕ
+unfoldable pub object_text : List Slot → Text
 object_text slots = 123 ∷ (separated (member_texts slots) ++ 125 ∷ [])
 
 -- an array that is left out where it has no items
-unfoldable pub array_if_any : List (List ℕ) → Option (List ℕ)
+unfoldable pub array_if_any : List Text → Option Text
 array_if_any [] = None
 array_if_any (t ∷ ts) = Some (array_text (t ∷ ts))
 
 -- an object that is left out where it has no members
-unfoldable pub object_if_any : List Slot → Option (List ℕ)
+unfoldable pub object_if_any : List Slot → Option Text
 object_if_any [] = None
 object_if_any ((key, None) ∷ slots) = object_if_any slots
 object_if_any ((key, Some text) ∷ slots) = Some (object_text ((key, Some text) ∷ slots))
 
 -- a mark that is left out where it is false
-abbrev pub mark : Bool → Option (List ℕ)
+abbrev pub mark : Bool → Option Text
 mark true = Some (codes "true")
 mark false = None
 
 -- each key is below all later ones, byte by byte
-abbrev pub are_rising : List (List ℕ) → Bool
+abbrev pub are_rising : List Text → Bool
 are_rising [] = true
-are_rising (key ∷ keys) = list_all (λ later. is_lt (slice_cmp nat_cmp key later)) keys && are_rising keys
+are_rising (key ∷ keys) =
+    list_all (λ later. is_lt (slice_cmp nat_cmp key later)) keys && are_rising keys
 
-abbrev pub keys_of : List Slot → List (List ℕ)
+-- the keys of slots, also of those that are left out
+abbrev pub keys_of : List Slot → List Text
 keys_of slots = map (λ slot. slot.0) slots

@@ -1,5 +1,6 @@
 -- The order of the keys in each kind of object.
-use Rattle.std.specs.Prelude.{◌≡◌, ℕ, List, true}
+use Rattle.std.specs.Prelude.{◌≡◌, List, true}
+use Rattle.proto_faults.specs.Texts.{Text}
 use Rattle.proto_json.specs.DescriptorText.{field_slots, field_options_slots, enum_slots, enum_value_slots, enum_range_slots, enum_options_slots, enum_value_options_slots, message_slots, range_slots, message_options_slots, service_slots, method_slots, service_options_slots, method_options_slots, file_slots, file_options_slots}
 use Rattle.proto_json.specs.Descriptors.{FieldDesc, EnumValueDesc, EnumDesc, MessageDesc, MethodDesc, ServiceDesc, FileOptionsDesc, FileDesc}
 use Rattle.proto_json.specs.JsonText.{Slot, are_rising, keys_of}
@@ -16,10 +17,11 @@ use Rattle.proto_json.specs.declared.service.ServiceOptions.{ServiceOptions}
 abbrev pub IsInKeyOrder : List Slot → Type 0
 IsInKeyOrder slots = are_rising (keys_of slots) ≡ true
 
+-- in each kind of object the keys are in the order of their bytes, each once
 pub record KeysRise : Type 0 where
   pub files : (f : FileDesc) → IsInKeyOrder (file_slots f)
   pub file_options : (o : FileOptionsDesc) → IsInKeyOrder (file_options_slots o)
-  pub messages : (m : MessageDesc) (nested : List (List ℕ)) → IsInKeyOrder (message_slots m nested)
+  pub messages : (m : MessageDesc) (nested : List Text) → IsInKeyOrder (message_slots m nested)
   pub message_options : (o : MessageOptions) → IsInKeyOrder (message_options_slots o)
   pub ranges : (r : NumberRange) → IsInKeyOrder (range_slots r)
   pub fields : (f : FieldDesc) → IsInKeyOrder (field_slots f)

@@ -1,16 +1,19 @@
 -- Members of objects in Rust's form and in that of `serde_json`, as slots.
-use Rattle.std.specs.Prelude.{◌≡◌, ℕ, List, [], ◌∷◌, Some, None, Bool, true, map}
+use Rattle.std.specs.Prelude.{◌≡◌, List, [], ◌∷◌, Some, None, Bool, true, map}
 use Rattle.std.specs.Cmp.Lexicographic.{slice_cmp}
 use Rattle.std.specs.List.{list_all}
 use Rattle.std.specs.Ordering.{nat_cmp, is_lt}
+use Rattle.proto_faults.specs.Texts.{Text}
 use Rattle.serde_json.specs.Data.{Members, no_members, member}
 use Rattle.serde_json.specs.Written.{compact_text}
 use Rattle.proto_json.specs.declared.object.Member.{Member}
 use Rattle.proto_json.specs.JsonText.{Slot, keys_of}
 
+-- the key of a member and, where it has a value, the text of this
 abbrev pub slot_of : Member → Slot
 slot_of m = (m.key.now, m.value)
 
+-- members as slots, in order
 abbrev pub slots_of : List Member → List Slot
 slots_of members = map slot_of members
 
@@ -25,9 +28,10 @@ abbrev pub held : Members → List Slot
 held no_members = []
 held (member key value rest) = (key, Some (compact_text value)) ∷ held rest
 
-abbrev pub is_below : List ℕ → List ℕ → Bool
+-- the first key stands before the second in the order of their bytes
+abbrev pub is_below : Text → Text → Bool
 is_below key later = is_lt (slice_cmp nat_cmp key later)
 
 -- the key is above all those of the slots
-abbrev pub IsAbove : List ℕ → List Slot → Type 0
+abbrev pub IsAbove : Text → List Slot → Type 0
 IsAbove key slots = list_all (λ other. is_below other key) (keys_of slots) ≡ true

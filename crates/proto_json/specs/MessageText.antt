@@ -1,12 +1,14 @@
 -- The text of a message in Rust's form, by its own level and those nested in it.
-use Rattle.std.specs.Prelude.{ℕ, List}
+use Rattle.std.specs.Prelude.{List}
+use Rattle.proto_faults.specs.Texts.{Text}
 use Rattle.proto_json.specs.declared.message.MessageDescriptor.{MessageDescriptor, out-MessageDescriptor}
 use Rattle.proto_json.specs.DescriptorText.{message_text, message_texts}
 use Rattle.proto_json.specs.Views.{MessageTree, message_desc}
 
-abbrev pub tree_text : MessageTree → List ℕ
+-- the object of a message, with the texts of those nested in it
+abbrev pub tree_text : MessageTree → Text
 tree_text t = message_text t.message (message_texts t.nested_type)
 
--- with the texts of those nested in it
-abbrev pub level_text : MessageDescriptor → List (List ℕ) → List ℕ
+-- the object of a message in Rust's form, with the texts of those nested in it
+abbrev pub level_text : MessageDescriptor → List Text → Text
 level_text m nested = message_text (message_desc (out-MessageDescriptor m)) nested

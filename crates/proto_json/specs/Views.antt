@@ -1,5 +1,6 @@
 -- What the declared types of descriptors say, as the plain records of `Descriptors`.
-use Rattle.std.specs.Prelude.{ℕ, List, [], ◌∷◌, map, option_map, string_bytes}
+use Rattle.std.specs.Prelude.{List, [], ◌∷◌, map, option_map, string_bytes}
+use Rattle.proto_faults.specs.Texts.{Text}
 use Rattle.proto_json.specs.declared.enumeration.EnumDescriptor.{EnumDescriptor}
 use Rattle.proto_json.specs.declared.enumeration.EnumValueDescriptor.{EnumValueDescriptor}
 use Rattle.proto_json.specs.declared.field.FieldDescriptor.{FieldDescriptor}
@@ -14,6 +15,7 @@ use Rattle.proto_json.specs.declared.service.MethodDescriptor.{MethodDescriptor}
 use Rattle.proto_json.specs.declared.service.ServiceDescriptor.{ServiceDescriptor}
 use Rattle.proto_json.specs.Descriptors.{FieldDesc, EnumValueDesc, EnumDesc, MessageDesc, Messages, NoMessages, Message, MethodDesc, ServiceDesc, FileOptionsDesc, FileDesc}
 
+-- a field, its texts as bytes
 abbrev pub field_desc : FieldDescriptor → FieldDesc
 field_desc f = record {
   name = string_bytes f.name;
@@ -28,9 +30,11 @@ field_desc f = record {
   options = f.options;
 }
 
+-- a value of an enum, its name as bytes
 abbrev pub enum_value_desc : EnumValueDescriptor → EnumValueDesc
 enum_value_desc v = record { name = string_bytes v.name; number = v.number; options = v.options }
 
+-- an enum, its values and its reserved names and ranges in order
 abbrev pub enum_desc : EnumDescriptor → EnumDesc
 enum_desc e = record {
   name = string_bytes e.name;
@@ -40,7 +44,8 @@ enum_desc e = record {
   options = e.options;
 }
 
-abbrev pub oneof_desc : OneofDescriptor → List ℕ
+-- a oneof is its name
+abbrev pub oneof_desc : OneofDescriptor → Text
 oneof_desc o = string_bytes o.name
 
 -- one message and those nested in it
@@ -48,6 +53,7 @@ pub record MessageTree : Type 0 where
   pub message : MessageDesc
   pub nested_type : Messages
 
+-- messages in order, each before those behind it
 abbrev pub messages_of : List MessageTree → Messages
 messages_of [] = NoMessages
 messages_of (t ∷ ts) = Message t.message t.nested_type (messages_of ts)
@@ -65,15 +71,19 @@ message_desc m = record {
   options = m.options;
 }
 
+-- a message, where each of those nested in it is seen already
 abbrev pub message_step : MessageDescriptor-F MessageTree → MessageTree
 message_step m = record { message = message_desc m; nested_type = messages_of m.nested_type.items }
 
+-- a message with all that are nested in it, however deep
 abbrev pub message_tree : MessageDescriptor → MessageTree
 message_tree = fold-MessageDescriptor MessageTree message_step
 
+-- messages in order, each with all that are nested in it
 abbrev pub messages_desc : List MessageDescriptor → Messages
 messages_desc ms = messages_of (map message_tree ms)
 
+-- a method, its name and the names of its types as bytes
 abbrev pub method_desc : MethodDescriptor → MethodDesc
 method_desc m = record {
   name = string_bytes m.name;
@@ -84,9 +94,15 @@ method_desc m = record {
   server_streaming = m.server_streaming;
 }
 
+-- a service, its methods in order
 abbrev pub service_desc : ServiceDescriptor → ServiceDesc
-service_desc s = record { name = string_bytes s.name; method = map method_desc s.method.items; options = s.options }
+service_desc s = record {
+  name = string_bytes s.name;
+  method = map method_desc s.method.items;
+  options = s.options;
+}
 
+-- the options in a file, their texts as bytes
 abbrev pub file_options_desc : FileOptions → FileOptionsDesc
 file_options_desc o = record {
   java_package = option_map string_bytes o.java_package;
@@ -101,6 +117,7 @@ file_options_desc o = record {
   php_namespace = option_map string_bytes o.php_namespace;
 }
 
+-- a file with all that it declares, in order
 abbrev pub file_desc : FileDescriptor → FileDesc
 file_desc f = record {
   name = string_bytes f.name;

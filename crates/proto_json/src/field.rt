@@ -14,9 +14,13 @@ use std::alloc::Global;
 /// A field.
 #[derive(Drop)]
 pub struct FieldDescriptor {
+    /// The name that its declaration gives it.
     pub name: String,
+    /// Its number, from 1.
     pub number: u32,
+    /// How many values it may have.
     pub label: Label,
+    /// Its scalar type, or which kind of type `type_name` names.
     pub field_type: FieldType,
     /// The full name of the message or enum, behind a dot.
     pub type_name: Option<String>,
@@ -24,45 +28,70 @@ pub struct FieldDescriptor {
     pub default_value: Option<String>,
     /// The place of its oneof in the message's `oneof_decl`, from 0.
     pub oneof_index: Option<usize>,
+    /// The name in JSON texts: the one that is written, or the field's own in camel case.
     pub json_name: Option<String>,
     /// Whether a proto3 field says `optional`.
     pub proto3_optional: bool,
+    /// The options in brackets behind it.
     pub options: FieldOptions,
 }
 
+/// How many values a field may have.
 #[derive(Clone, Copy)]
 pub enum Label {
+    /// One or none: also where no label is written.
     Optional,
+    /// Exactly one.
     Required,
+    /// Any number: also of a map field.
     Repeated,
 }
 
 /// A scalar type, or which kind of type `type_name` names.
 #[derive(Clone, Copy)]
 pub enum FieldType {
+    /// `double`.
     Double,
+    /// `float`.
     Float,
+    /// `int64`.
     Int64,
+    /// `uint64`.
     Uint64,
+    /// `int32`.
     Int32,
+    /// `fixed64`.
     Fixed64,
+    /// `fixed32`.
     Fixed32,
+    /// `bool`.
     Bool,
+    /// `string`.
     String,
+    /// A message, that of a map field's entry among them.
     Message,
+    /// `bytes`.
     Bytes,
+    /// `uint32`.
     Uint32,
+    /// An enum.
     Enum,
+    /// `sfixed32`.
     Sfixed32,
+    /// `sfixed64`.
     Sfixed64,
+    /// `sint32`.
     Sint32,
+    /// `sint64`.
     Sint64,
 }
 
 /// The options that stand at a field.
 #[derive(Clone, Copy)]
 pub struct FieldOptions {
+    /// Whether the values of a repeated field stand in one block.
     pub packed: Option<bool>,
+    /// Whether the field is no longer to be used.
     pub deprecated: Option<bool>,
 }
 

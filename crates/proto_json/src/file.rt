@@ -1,22 +1,23 @@
 //! A set of files, and one file.
 
-ghost use Rattle.std.specs.Prelude.{◌≡◌, IfOk, string_bytes, option_map};
-ghost use Rattle.proto_json.specs.DescriptorText.{optimize_mode_name, syntax_name, file_text, file_options_slots, json_text};
+ghost use Rattle.std.specs.Prelude.{◌≡◌, IfOk, map, string_bytes, option_map};
+ghost use Rattle.proto_json.specs.DescriptorText.{optimize_mode_name, syntax_name, file_text, file_options_slots, text_of_files};
 ghost use Rattle.proto_json.specs.JsonText.{quoted, object_if_any};
-ghost use Rattle.proto_json.specs.Views.{file_desc, files_desc, file_options_desc};
+ghost use Rattle.proto_json.specs.Views.{file_desc, file_options_desc};
 
 use crate::enumeration::EnumDescriptor;
 use crate::json_value::Json;
 use crate::members::Members;
 use crate::message::{MessageDescriptor, messages_json};
 use crate::service::ServiceDescriptor;
-use crate::values::ToJson;
+use crate::values::{ToJson, array_if_any};
 use proto_faults::NoMemory;
 use std::alloc::Global;
 
 /// The descriptors of a workspace: one per file, in the order of the paths.
 #[derive(Drop)]
 pub struct Descriptors {
+    /// The descriptors of the files.
     pub file: Vec<FileDescriptor>,
 }
 
@@ -25,55 +26,83 @@ pub struct Descriptors {
 pub struct FileDescriptor {
     /// The path in the workspace.
     pub name: String,
+    /// The name of the package, its words joined by dots.
     pub package: Option<String>,
     /// The imported paths.
     pub dependency: Vec<String>,
     /// The places of the public imports in `dependency`, from 0.
     pub public_dependency: Vec<usize>,
+    /// The messages right in the file.
     pub message_type: Vec<MessageDescriptor>,
+    /// The enums right in the file.
     pub enum_type: Vec<EnumDescriptor>,
+    /// The services.
     pub service: Vec<ServiceDescriptor>,
+    /// The options right in the file.
     pub options: FileOptions,
+    /// The language version.
     pub syntax: Syntax,
 }
 
 /// The language version of a file.
 #[derive(Clone, Copy)]
 pub enum Syntax {
+    /// `proto2`: also where the file names no version.
     Proto2,
+    /// `proto3`.
     Proto3,
 }
 
-/// The options that stand in a file.
+/// The options that stand in a file, each by its own name.
 #[derive(Drop)]
 pub struct FileOptions {
+    /// The package of the Java classes.
     pub java_package: Option<String>,
+    /// The name of the outer Java class.
     pub java_outer_classname: Option<String>,
+    /// Whether each message has a Java file of its own.
     pub java_multiple_files: Option<bool>,
+    /// What generated code is optimized for.
     pub optimize_for: Option<OptimizeMode>,
+    /// The path of the Go package.
     pub go_package: Option<String>,
+    /// Whether the file is no longer to be used.
     pub deprecated: Option<bool>,
+    /// Whether C++ messages may be allocated in arenas.
     pub cc_enable_arenas: Option<bool>,
+    /// What stands before the names of Objective-C classes.
     pub objc_class_prefix: Option<String>,
+    /// The namespace of the C# classes.
     pub csharp_namespace: Option<String>,
+    /// The namespace of the PHP classes.
     pub php_namespace: Option<String>,
 }
 
 /// What generated code is optimized for.
 #[derive(Clone, Copy)]
 pub enum OptimizeMode {
+    /// Fast code.
     Speed,
+    /// Little code, which uses descriptors as it runs.
     CodeSize,
+    /// Code for a runtime without descriptors.
     LiteRuntime,
 }
 
-/// The JSON text of the descriptors: one compact object, keys in the order of their bytes.
-/// Numbers and options are always written; empty lists, empty option objects and false marks are left out.
-pub fn to_json(alloc: Global, descriptors: &Descriptors) -> Result<String, NoMemory>
-    ensures { IfOk result (λ s. string_bytes s ≡ json_text (files_desc descriptors.now)) }
+/// One compact JSON object with the list of the files at this key, which is left out where there is
+/// no file. In each object the keys are in the order of their bytes. Numbers are always written;
+/// empty lists, options that are not given and false marks are left out. Fails for want of memory
+/// alone.
+pub fn text_of_files(
+    alloc: Global,
+    key: &'static str,
+    files: &[FileDescriptor],
+) -> Result<String, NoMemory>
+    ensures { IfOk result (λ s. string_bytes s ≡ text_of_files key.now (map file_desc files.now)) }
 {
+    let list = array_if_any(alloc, files)?;
     let mut members = Members::new(alloc);
-    members.put_list("file", &descriptors.file)?;
+    members.put(key, list)?;
     let json = members.into_object()?;
     json.print(alloc)
 }

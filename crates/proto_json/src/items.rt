@@ -1,6 +1,7 @@
 //! The items of a JSON list.
 
-ghost use Rattle.std.specs.Prelude.{◌≡◌, ℕ, List, [], ◌∷◌, ◌++◌, map, false, OnOk};
+ghost use Rattle.std.specs.Prelude.{◌≡◌, List, [], ◌∷◌, ◌++◌, map, false, OnOk};
+ghost use Rattle.proto_faults.specs.Texts.{Text};
 ghost use Rattle.serde_json.specs.Written.{compact_text, items_have_float};
 ghost use Rattle.serde_json.specs.View.{view as data_of, items_view};
 ghost use Rattle.proto_json.specs.JsonText.{array_if_any};
@@ -18,7 +19,7 @@ pub(crate) struct Items {
 }
 
 impl Model for Items {
-    ghost Value = { List (List ℕ) };
+    ghost Value = { List Text };
 
     ghost view = { λ a. map (λ v. compact_text (data_of v)) a.values.items };
 

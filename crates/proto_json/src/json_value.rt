@@ -1,10 +1,11 @@
 //! JSON values over `serde_json`, each seen as its text.
 
-ghost use Rattle.std.specs.Prelude.{◌≡◌, List, ℕ, [], ◌∷◌, ◌++◌, map, false, true, IfOk, OnOk, string_bytes, decimal};
+ghost use Rattle.std.specs.Prelude.{◌≡◌, false, true, IfOk, string_bytes, decimal};
 ghost use Rattle.std.specs.Fmt.{signed_decimal};
-ghost use Rattle.serde_json.specs.Written.{compact_text, has_float, items_have_float};
-ghost use Rattle.serde_json.specs.View.{view as data_of, items_view};
-ghost use Rattle.proto_json.specs.JsonText.{quoted, boolean_text, object_text, object_if_any, array_text, mark, keys_of, are_rising};
+ghost use Rattle.proto_faults.specs.Texts.{Text};
+ghost use Rattle.serde_json.specs.Written.{compact_text, has_float};
+ghost use Rattle.serde_json.specs.View.{view as data_of};
+ghost use Rattle.proto_json.specs.JsonText.{quoted, boolean_text, mark};
 
 use proto_faults::NoMemory;
 use serde_json::Value;
@@ -18,7 +19,7 @@ pub(crate) struct Json {
 }
 
 impl Model for Json {
-    ghost Value = { List ℕ };
+    ghost Value = { Text };
 
     ghost view = { λ j. compact_text (data_of j.value) };
 

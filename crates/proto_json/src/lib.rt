@@ -17,7 +17,7 @@ pub use enumeration::{
     EnumDescriptor, EnumOptions, EnumReservedRange, EnumValueDescriptor, EnumValueOptions,
 };
 pub use field::{FieldDescriptor, FieldOptions, FieldType, Label};
-pub use file::{Descriptors, FileDescriptor, FileOptions, OptimizeMode, Syntax, to_json};
+pub use file::{Descriptors, FileDescriptor, FileOptions, OptimizeMode, Syntax, text_of_files};
 pub use key_order::keys_rise;
 pub use message::{MessageDescriptor, MessageOptions, NumberRange, OneofDescriptor};
 pub use service::{

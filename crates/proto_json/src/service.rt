@@ -11,43 +11,58 @@ use crate::values::ToJson;
 use proto_faults::NoMemory;
 use std::alloc::Global;
 
+/// A service.
 #[derive(Drop)]
 pub struct ServiceDescriptor {
+    /// Its name.
     pub name: String,
-    /// In source order.
+    /// Its methods, in source order.
     pub method: Vec<MethodDescriptor>,
+    /// The options right in its block.
     pub options: ServiceOptions,
 }
 
 /// A method. The types are full names behind a dot.
 #[derive(Drop)]
 pub struct MethodDescriptor {
+    /// Its name.
     pub name: String,
+    /// The message that it takes.
     pub input_type: String,
+    /// The message that it answers.
     pub output_type: String,
+    /// The options in its block.
     pub options: MethodOptions,
+    /// Whether it takes a stream of messages.
     pub client_streaming: bool,
+    /// Whether it answers a stream of messages.
     pub server_streaming: bool,
 }
 
 /// The options that stand in a service.
 #[derive(Clone, Copy)]
 pub struct ServiceOptions {
+    /// Whether the service is no longer to be used.
     pub deprecated: Option<bool>,
 }
 
 /// The options that stand in a method.
 #[derive(Clone, Copy)]
 pub struct MethodOptions {
+    /// Whether the method is no longer to be used.
     pub deprecated: Option<bool>,
+    /// What a caller may rest on when it calls the method twice.
     pub idempotency_level: Option<IdempotencyLevel>,
 }
 
 /// What a caller may rest on when it calls a method twice.
 #[derive(Clone, Copy)]
 pub enum IdempotencyLevel {
+    /// Nothing.
     Unknown,
+    /// The method changes nothing.
     NoSideEffects,
+    /// A second call changes nothing more.
     Idempotent,
 }
 

@@ -1,7 +1,8 @@
 //! What is written as one JSON value, and optional values and lists of it.
 
-ghost use Rattle.std.specs.Prelude.{◌≡◌, ℕ, List, map, option_map, IfOk, string_bytes, decimal};
+ghost use Rattle.std.specs.Prelude.{◌≡◌, map, option_map, IfOk, string_bytes, decimal};
 ghost use Rattle.std.specs.Fmt.{signed_decimal};
+ghost use Rattle.proto_faults.specs.Texts.{Text};
 ghost use Rattle.proto_json.specs.JsonText.{quoted, boolean_text, array_if_any};
 
 use crate::items::Items;
@@ -9,8 +10,9 @@ use crate::json_value::Json;
 use proto_faults::NoMemory;
 use std::alloc::Global;
 
+/// What is written as one JSON value, which has this text.
 pub(crate) trait ToJson {
-    ghost text: { Self → List ℕ };
+    ghost text: { Self → Text };
 
     fn to_json(&self, alloc: Global) -> Result<Json, NoMemory>
         ensures { IfOk result (λ j. j ≡ text self.now) };
@@ -70,11 +72,8 @@ pub(crate) fn optional<T: ToJson>(
 }
 
 /// The list of the values, which is left out where there are none.
-pub(crate) fn array_if_any<T: ToJson>(
-    alloc: Global,
-    values: &Vec<T>,
-) -> Result<Option<Json>, NoMemory>
-    ensures { IfOk result (λ o. o ≡ array_if_any (map T.text values.now.items)) }
+pub(crate) fn array_if_any<T: ToJson>(alloc: Global, values: &[T]) -> Result<Option<Json>, NoMemory>
+    ensures { IfOk result (λ o. o ≡ array_if_any (map T.text values.now)) }
 {
     let mut items = Items::new(alloc);
     for value in values {

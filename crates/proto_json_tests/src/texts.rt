@@ -5,7 +5,7 @@ use proto_json::{
     Descriptors, EnumDescriptor, EnumOptions, EnumReservedRange, EnumValueDescriptor,
     EnumValueOptions, FieldDescriptor, FieldOptions, FieldType, FileDescriptor, FileOptions,
     IdempotencyLevel, Label, MessageDescriptor, MessageOptions, MethodDescriptor, MethodOptions,
-    NumberRange, OptimizeMode, ServiceDescriptor, ServiceOptions, Syntax, to_json,
+    NumberRange, OptimizeMode, ServiceDescriptor, ServiceOptions, Syntax, text_of_files,
 };
 use std::alloc::{AllocError, Global};
 use std::test::Fail;
@@ -416,7 +416,7 @@ fn are_text(
     for step in steps {
         put(alloc, &mut made.file, step)?;
     }
-    Ok(to_json(alloc, made)?.as_str() == json)
+    Ok(text_of_files(alloc, "file", &made.file)?.as_str() == json)
 }
 
 // The one owner of descriptors, which has nothing to give up for.

@@ -1,0 +1,18 @@
+//! The JSON text of descriptors.
+
+ghost use Rattle.std.specs.Prelude.{◌≡◌, IfOk, string_bytes};
+ghost use Rattle.proto_json.specs.DescriptorText.{json_text};
+ghost use Rattle.proto_json.specs.Views.{files_desc};
+
+use proto_faults::NoMemory;
+use proto_json::{Descriptors, text_of_files};
+use std::alloc::Global;
+
+/// The JSON text of the descriptors: one compact object, keys in the order of their bytes. Numbers
+/// are always written; empty lists, options that are not given and false marks are left out. Fails
+/// for want of memory alone.
+pub fn to_json(alloc: Global, descriptors: &Descriptors) -> Result<String, NoMemory>
+    ensures { IfOk result (λ s. string_bytes s ≡ json_text (files_desc descriptors.now)) }
+{
+    text_of_files(alloc, "file", descriptors.file.as_slice())
+}
