@@ -10,20 +10,26 @@ use Rattle.proto_desc.specs.Checked.{fault_of, flaws_of}
 use Rattle.proto_faults.specs.declared.fault.SchemaFault.{SchemaFault}
 use Rattle.proto_faults.specs.declared.fault.SchemaFault.TheVariants.{Schema, NoMemory}
 
+-- the checks find nothing in the file at a place, counted from 0
 abbrev pub HasNoFlaw : List FileOf → ℕ → Type 0
-HasNoFlaw files file = (reads : List ReadOf) → AreRead files reads → (f : Flaw) → Contains (flaws_of files reads file) f → ⊥
+HasNoFlaw files file =
+    (reads : List ReadOf) → AreRead files reads
+    → (f : Flaw) → Contains (flaws_of files reads file) f → ⊥
 
 -- the error is want of memory, or the flaw as a fault of the file
 abbrev pub IsFaultOf : List FileOf → ℕ → Flaw → SchemaFault → Type 0
-IsFaultOf files file f (Schema fault) = (reads : List ReadOf) → AreRead files reads → fault_at fault ≡ fault_of files reads file f
+IsFaultOf files file f (Schema fault) =
+    (reads : List ReadOf) → AreRead files reads → fault_at fault ≡ fault_of files reads file f
 IsFaultOf files file f NoMemory = Unit {0}
 
--- it is the file's least flaw
+-- the fault is the file's least flaw, by token and then by number
 pub record IsLeastFlaw (files : List FileOf) (file : ℕ) (e : SchemaFault) : Type 0 where
   pub flaw : Flaw
   pub fault : IsFaultOf files file flaw e
-  pub least : (reads : List ReadOf) → AreRead files reads → IsLeast (Contains (flaws_of files reads file)) (Some flaw)
+  pub least : (reads : List ReadOf) → AreRead files reads
+      → IsLeast (Contains (flaws_of files reads file)) (Some flaw)
 
+-- the error is want of memory, or the file's least flaw as a fault
 abbrev pub IsFileError : List FileOf → ℕ → SchemaFault → Type 0
 IsFileError files file (Schema fault) = IsLeastFlaw files file (Schema fault)
 IsFileError files file NoMemory = Unit {0}

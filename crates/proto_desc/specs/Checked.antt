@@ -19,21 +19,31 @@ flaws_of files reads file = file_flaws (scene_of None files reads file) (read_at
 
 -- a flaw as a fault of the file at an offset
 abbrev pub fault_of : List FileOf → List ReadOf → ℕ → Flaw → FaultAt
-fault_of files reads file f = record { path = (file_at files file).path; offset = offset_at (read_at reads file).tokens f.token; kind = f.kind }
+fault_of files reads file f = record {
+  path = (file_at files file).path;
+  offset = offset_at (read_at reads file).tokens f.token;
+  kind = f.kind;
+}
 
--- the faults of the checks of all files (they count where no import, name or reference has a fault: the least fault is by phase first)
+-- the faults of the checks of all files (they count where no import, name or reference has a fault:
+-- the least fault is by phase first)
 pub data CheckFaults (files : List FileOf) : FaultAt → Type 0 where
-  of_flaw : (reads : List ReadOf) (file : ℕ) (f : Flaw) → AreRead files reads → file < length files → Contains (flaws_of files reads file) f → CheckFaults files (fault_of files reads file f)
+  of_flaw : (reads : List ReadOf) (file : ℕ) (f : Flaw) → AreRead files reads
+      → file < length files → Contains (flaws_of files reads file) f
+      → CheckFaults files (fault_of files reads file f)
 
 -- the descriptors of the files from this number on
 abbrev pub described_from : List FileOf → List ReadOf → ℕ → List ReadOf → List FileDesc
 described_from files reads file [] = []
-described_from files reads file (r ∷ rs) = file_described (scene_of None files reads file) (file_at files file).path r.tree ∷ described_from files reads (suc file) rs
+described_from files reads file (r ∷ rs) =
+    file_described (scene_of None files reads file) (file_at files file).path r.tree
+    ∷ described_from files reads (suc file) rs
 
 -- the descriptors of the files, in the order of their paths
 abbrev pub described : List FileOf → List ReadOf → List FileDesc
 described files reads = described_from files reads 0 reads
 
+-- these are the descriptors of the files, in the order of their paths
 abbrev pub AreDescribed : List FileOf → List FileDesc → Type 0
 AreDescribed files ds = (reads : List ReadOf) → AreRead files reads → ds ≡ described files reads
 

@@ -1,11 +1,10 @@
 //! Checking linked files, and their descriptors.
 
-ghost use Rattle.std.specs.Prelude.{◌≡◌, ◌<◌, List, length, map, IfOk, IfErr};
+ghost use Rattle.std.specs.Prelude.{◌<◌, length, map, IfOk, IfErr};
 ghost use Rattle.std.specs.List.{Contains};
 ghost use Rattle.proto_tree.specs.File.{tree_of_file};
 ghost use Rattle.proto_files.specs.Faults.{HasNoFault};
 ghost use Rattle.proto_names.specs.LinkOfFiles.{IsLinkOf};
-ghost use Rattle.proto_files.specs.FilesRead.{ReadOf, AreRead};
 ghost use Rattle.proto_checks.specs.FileFlaws.{file_flaws};
 ghost use Rattle.proto_numbers.specs.Flaws.{IsLeast};
 ghost use Rattle.proto_desc.specs.Checked.{AreDescribed, CheckFaults, IsCheckError};
@@ -14,9 +13,9 @@ ghost use Rattle.proto_desc.specs.CheckSteps.{HasNoFlaw, IsFaultOf, IsFileError}
 ghost use Rattle.proto_scenes.specs.Enums.{IsEnumTable};
 ghost use Rattle.proto_json.specs.Views.{file_desc, files_desc};
 
+use crate::described::file_descriptor;
 use indexmap::IndexMap;
 use proto_checks::{Flaw, file_flaws, least};
-use proto_described::file_descriptor;
 use proto_faults::{Fault, NoMemory, SchemaFault};
 use proto_files::{Files, offset_of};
 use proto_json::{Descriptors, FileDescriptor};
@@ -69,7 +68,8 @@ fn check_files(alloc: Global, files: &Files, scenes: &[Scene]) -> Result<(), Sch
     ensures clean { IfOk result (λ _. HasNoFault (CheckFaults files.now)) }
     ensures fault { IfErr result (IsCheckError files.now) }
 {
-    // The contracts of these say that each file is read, and that the files are those of a workspace.
+    // The contracts of these say that each file is read, and that the files are those of a
+    // workspace.
     are_read(files);
     let _count = files.len();
     for file in 0..files.len() {
@@ -114,7 +114,8 @@ fn check_with(
     Ok(Descriptors { file })
 }
 
-/// The descriptors of linked files, where their checks find no fault; else the least fault by path, offset and number.
+/// The descriptors of linked files, in the order of their paths, where their checks find no fault;
+/// else the least fault by path, offset and number, or want of memory.
 pub fn check(alloc: Global, files: &Files, link: &Link) -> Result<Descriptors, SchemaFault>
     requires { IsLinkOf files.now link.now }
     ensures clean { IfOk result (λ _. HasNoFault (CheckFaults files.now)) }

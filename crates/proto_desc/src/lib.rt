@@ -2,10 +2,12 @@
 #![tactic(auto)]
 
 mod checking;
+mod described;
 mod json_form;
 pub mod laws;
 
 pub use checking::check;
+pub use described::file_descriptor;
 pub use json_form::to_json;
 pub use proto_faults::SchemaFault as CheckFault;
 pub use proto_json::{

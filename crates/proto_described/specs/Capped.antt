@@ -1,5 +1,6 @@
 -- A cap past every limit of the language changes nothing of a file's descriptor.
-use Rattle.std.specs.Prelude.{◌≡◌, ℕ, List, Some}
+use Rattle.std.specs.Prelude.{◌≡◌, Some}
+use Rattle.proto_faults.specs.Texts.{Path}
 use Rattle.proto_tree.specs.Tree.{Tree}
 use Rattle.proto_parts.specs.Numbers.{past}
 use Rattle.proto_parts.specs.Scenes.{Scene, uncapped}
@@ -7,4 +8,6 @@ use Rattle.proto_described.specs.Described.{file_described}
 
 -- the descriptor is the same with the cap and without it
 abbrev pub CapsKeepTheDescriptor : Type 0
-CapsKeepTheDescriptor = (scene : Scene) (path : List ℕ) (tree : Tree) → scene.cap ≡ Some past → file_described scene path tree ≡ file_described (uncapped scene) path tree
+CapsKeepTheDescriptor =
+    (scene : Scene) (path : Path) (tree : Tree) → scene.cap ≡ Some past
+    → file_described scene path tree ≡ file_described (uncapped scene) path tree

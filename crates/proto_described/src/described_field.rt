@@ -80,7 +80,9 @@ fn default_value(
     scene: &Scene,
     options: &[OptionAt],
 ) -> Result<Option<String>, NoMemory>
-    ensures { IfOk result (λ d. option_map string_bytes d ≡ option_map (default_text scene.now) (value_named (text scene.now) (codes "default") (map option_of options.now))) }
+    ensures { IfOk result (λ d. option_map string_bytes d
+        ≡ option_map (default_text scene.now)
+        (value_named (text scene.now) (codes "default") (map option_of options.now))) }
 {
     match option_named(scene, options, "default") {
         Some(option) => Ok(Some(default_text(alloc, scene, option.value)?)),

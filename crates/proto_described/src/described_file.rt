@@ -1,4 +1,4 @@
-//! The descriptor of a file.
+//! What stands right in a file: its package and imports, messages, enums, services and options.
 
 ghost use Rattle.std.specs.Prelude.{◌≡◌, ◌∷◌, if◌then◌else◌, map, option_map, option_to_list, string_bytes, IfOk};
 ghost use Rattle.proto_tree.specs.File.{item_tree, tree_of_file, trees};
@@ -10,8 +10,8 @@ ghost use Rattle.proto_parts.specs.Parts.{options_in};
 ghost use Rattle.proto_parts.specs.Scenes.{text, value};
 ghost use Rattle.proto_parts.specs.Views.{option_of};
 ghost use Rattle.proto_json.specs.declared.file.Syntax.TheVariants as syntax;
-ghost use Rattle.proto_described.specs.Described.{enums_described, file_described, file_options, messages_described, mode_named, package_named, package_prefix, public_places, services_described};
-ghost use Rattle.proto_json.specs.Views.{enum_desc, file_desc, file_options_desc, messages_desc, service_desc};
+ghost use Rattle.proto_described.specs.Described.{enums_described, file_options, messages_described, mode_named, package_named, package_prefix, public_places, services_described};
+ghost use Rattle.proto_json.specs.Views.{enum_desc, file_options_desc, messages_desc, service_desc};
 
 use crate::described_enum::enum_descriptor;
 use crate::described_message::message_descriptor;
@@ -19,8 +19,7 @@ use crate::described_names::absolute;
 use crate::described_service::service_descriptor;
 use proto_faults::NoMemory;
 use proto_json::{
-    EnumDescriptor, FileDescriptor, FileOptions, MessageDescriptor, OptimizeMode,
-    ServiceDescriptor, Syntax,
+    EnumDescriptor, FileOptions, MessageDescriptor, OptimizeMode, ServiceDescriptor, Syntax,
 };
 use proto_listing::wanted::{Wanted, imports, package};
 use proto_parts::{OptionAt, Scene, file_options, text_option, truth_option, word_option};
@@ -42,7 +41,9 @@ fn item_message(
     }
 }
 
-fn message_descriptors(
+/// The messages right in a file, each with those nested in it; `around` is what stands before their
+/// names. Fails for want of memory alone, as do all of these.
+pub fn message_descriptors(
     alloc: Global,
     scene: &Scene,
     around: &str,
@@ -70,8 +71,9 @@ fn item_enum(alloc: Global, scene: &Scene, item: &Item) -> Result<Option<EnumDes
     }
 }
 
+/// The enums right in a file.
 #[tactic(auto, using(crate::proofs::Levels::enums_joined))]
-fn enum_descriptors(
+pub fn enum_descriptors(
     alloc: Global,
     scene: &Scene,
     items: &[Item],
@@ -102,8 +104,9 @@ fn item_service(
     }
 }
 
+/// The services of a file.
 #[tactic(auto, using(crate::proofs::Levels::services_joined))]
-fn service_descriptors(
+pub fn service_descriptors(
     alloc: Global,
     scene: &Scene,
     items: &[Item],
@@ -141,8 +144,9 @@ fn package_name(alloc: Global, scene: &Scene, words: &[u32]) -> Result<Option<St
     }
 }
 
-// What stands before the names of a package's symbols.
-fn prefix(alloc: Global, name: &Option<String>) -> Result<String, NoMemory>
+/// What stands before the names of a package's symbols: the package's full name behind a dot, and
+/// nothing where there is no package.
+pub fn prefix(alloc: Global, name: &Option<String>) -> Result<String, NoMemory>
     ensures { IfOk result (λ s. string_bytes s
         ≡ package_prefix (option_map string_bytes name.now)) }
 {
@@ -207,7 +211,8 @@ fn options_of_file(
     })
 }
 
-fn syntax(scene: &Scene) -> Syntax
+/// The language version of a file.
+pub fn syntax(scene: &Scene) -> Syntax
     ensures { result ≡ (if scene.now.is_proto3 then syntax.Proto3 else syntax.Proto2) }
 {
     if scene.is_proto3() {
@@ -217,8 +222,9 @@ fn syntax(scene: &Scene) -> Syntax
     }
 }
 
-// What a file says of others: its package, the paths of its imports, and which of these are public.
-fn head(
+/// What a file says of others: the full name of its package, the paths of its imports in order, and
+/// the places of the public ones among these, from 0.
+pub fn head(
     alloc: Global,
     scene: &Scene,
     file: &File,
@@ -237,50 +243,11 @@ fn head(
     Ok((name, paths, places))
 }
 
-// The messages of a package's items.
-fn messages_of(
-    alloc: Global,
-    scene: &Scene,
-    name: &Option<String>,
-    items: &[Item],
-) -> Result<Vec<MessageDescriptor>, NoMemory>
-    ensures { IfOk result (λ ds. messages_desc ds.items ≡ messages_described scene.now
-        (package_prefix (option_map string_bytes name.now)) (trees item_tree items.now)) }
-{
-    let prefix = prefix(alloc, name)?;
-    message_descriptors(alloc, scene, &prefix, items)
-}
-
-fn written_options(alloc: Global, scene: &Scene, file: &File) -> Result<FileOptions, NoMemory>
+/// The options right in a file.
+pub fn written_options(alloc: Global, scene: &Scene, file: &File) -> Result<FileOptions, NoMemory>
     ensures { IfOk result (λ o. file_options_desc o
         ≡ file_options scene.now (options_in (tree_of_file file.now))) }
 {
     let options = file_options(alloc, file)?;
     options_of_file(alloc, scene, &options)
-}
-
-/// The descriptor of the file at the path. Of numbers outside their limits, which checks refuse, nothing is said.
-pub fn file_descriptor(
-    alloc: Global,
-    scene: &Scene,
-    path: &str,
-    file: &File,
-) -> Result<FileDescriptor, NoMemory>
-    ensures { IfOk result (λ d. file_desc d ≡ file_described scene.now path.now
-        (tree_of_file file.now)) }
-{
-    let items = file.items.as_slice();
-    let (package, dependency, public_dependency) = head(alloc, scene, file)?;
-    let message_type = messages_of(alloc, scene, &package, items)?;
-    Ok(FileDescriptor {
-        name: String::from_str(alloc, path)?,
-        package,
-        dependency,
-        public_dependency,
-        message_type,
-        enum_type: enum_descriptors(alloc, scene, items)?,
-        service: service_descriptors(alloc, scene, items)?,
-        options: written_options(alloc, scene, file)?,
-        syntax: syntax(scene),
-    })
 }

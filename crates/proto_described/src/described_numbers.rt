@@ -1,4 +1,5 @@
-//! The numbers of descriptors. A file has a descriptor only where its numbers are in their limits: another number is 0.
+//! The numbers of descriptors. A file has a descriptor only where its numbers are in their limits:
+//! another number is 0.
 
 ghost use Rattle.std.specs.Prelude.{◌≡◌, ◌≤◌};
 ghost use Rattle.proto_described.specs.Described.{field_number, value_number, default_number, number_range, value_range};

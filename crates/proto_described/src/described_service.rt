@@ -2,7 +2,6 @@
 
 ghost use Rattle.std.specs.Prelude.{◌≡◌, [], ◌∷◌, map, option_to_list, IfOk};
 ghost use Rattle.proto_tree.specs.File.{method_tree, service_item_tree, trees};
-ghost use Rattle.proto_parts.specs.Parts.{options_in};
 ghost use Rattle.proto_parts.specs.Views.{option_of};
 ghost use Rattle.proto_described.specs.Described.{level_named, method_described, method_options, methods_described, service_described};
 ghost use Rattle.proto_json.specs.Views.{method_desc, service_desc};

@@ -1,15 +1,13 @@
-//! The descriptor of a file, from its tree and what is read of it.
+//! What stands in the descriptor of a file, from its tree and what is read of it.
 #![tactic(auto)]
 
 mod described_entry;
 mod described_enum;
 mod described_field;
-mod described_file;
+pub mod described_file;
 mod described_message;
 mod described_names;
 mod described_numbers;
 mod described_service;
 mod described_type;
 pub mod laws;
-
-pub use described_file::file_descriptor;
