@@ -89,10 +89,9 @@ pub enum OptimizeMode {
     LiteRuntime,
 }
 
-/// One compact JSON object with the list of the files at this key, which is left out where there is
-/// no file. In each object the keys are in the order of their bytes. Numbers are always written;
-/// empty lists, options that are not given and false marks are left out. Fails for want of memory
-/// alone.
+/// The files at this key of one compact JSON object, in each object the keys in the order of bytes.
+/// Numbers are always written; empty lists, options that are not given and false marks never. Fails
+/// for want of memory alone.
 pub fn text_of_files(
     alloc: Global,
     key: &'static str,

@@ -16,8 +16,7 @@ use crate::values::ToJson;
 use proto_faults::NoMemory;
 use std::alloc::Global;
 
-/// A message. All lists are in source order; a map field's entry stands in `nested_type` at the
-/// place of its field.
+/// A message, its lists in source order; a map field's entry is in `nested_type` at its place.
 #[derive(Drop)]
 pub struct MessageDescriptor {
     /// The name that its declaration gives it.
