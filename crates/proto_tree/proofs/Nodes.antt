@@ -197,27 +197,6 @@ read_push {c = c} {tokens = tokens} {middle = middle} {rest = rest} view xs ys x
 
 -- ---- what stands in no block of a kind
 
-pub no_block_in_enum : (h : Header) → allows context.Enum (header_kind h) ≡ false
-no_block_in_enum (header.Message h) = refl
-no_block_in_enum (header.Oneof h) = refl
-no_block_in_enum (header.Enum h) = refl
-no_block_in_enum (header.Service h) = refl
-no_block_in_enum (header.Method s) = refl
-
-pub no_block_in_oneof : (h : Header) → allows context.Oneof (header_kind h) ≡ false
-no_block_in_oneof (header.Message h) = refl
-no_block_in_oneof (header.Oneof h) = refl
-no_block_in_oneof (header.Enum h) = refl
-no_block_in_oneof (header.Service h) = refl
-no_block_in_oneof (header.Method s) = refl
-
-pub no_block_in_method : (h : Header) → allows context.Method (header_kind h) ≡ false
-no_block_in_method (header.Message h) = refl
-no_block_in_method (header.Oneof h) = refl
-no_block_in_method (header.Enum h) = refl
-no_block_in_method (header.Service h) = refl
-no_block_in_method (header.Method s) = refl
-
 pub no_other_in_service : (h : Header) → ((s : Signature) → h ≡ header.Method s → ⊥) → allows context.Service (header_kind h) ≡ false
 no_other_in_service (header.Message h) e = refl
 no_other_in_service (header.Oneof h) e = refl

@@ -2,16 +2,16 @@
 
 ghost use Rattle.std.specs.Prelude.{◌≡◌, [], ◌∷◌, ◌++◌, MatchResult, true};
 ghost use Rattle.proto_tree.specs.Answer.{FaultOf, FoundIn, IsBody, IsMet, braced};
-ghost use Rattle.proto_tree.specs.File.{method_item_tree, service_item_tree, enum_item_tree, field_tree, member_tree, trees};
+ghost use Rattle.proto_tree.specs.File.{service_item_tree, member_tree, trees};
 ghost use Rattle.proto_tree.specs.Tree.{allows};
 
 use crate::class::Lexeme;
 use crate::context::{Context, Kind};
-use crate::items::{enum_item_of, member_of, method_item_of, oneof_field_of, service_item_of};
+use crate::items::{Single, member_of, service_item_of};
 use crate::piece::{Header, Heading, Piece};
 use crate::pieces::any_piece;
 use crate::reading::Stop;
-use crate::tree::{Block, EnumItem, Field, Member, Method, MethodEnd, MethodItem, ServiceItem};
+use crate::tree::{Block, Member, Method, MethodEnd, ServiceItem};
 use std::alloc::Global;
 
 /// Why a file was not read: for want of memory, or how many tokens are left where it goes wrong.
@@ -71,14 +71,14 @@ pub fn next_piece(
     }
 }
 
-/// The next item of a method's block, or the brace that ends it.
-fn method_item(alloc: Global, tokens: &[Lexeme]) -> Result<(Found<MethodItem>, &[Lexeme]), Fault>
-    ensures { MatchResult result (λ x. FoundIn Context.Method method_item_tree tokens.now x.0
-        x.1.now) (FaultOf Context.Method tokens.now) }
+/// The next item of a block that holds no other, or the brace that ends it.
+fn single<T: Single>(alloc: Global, tokens: &[Lexeme]) -> Result<(Found<T>, &[Lexeme]), Fault>
+    ensures { MatchResult result (λ x. FoundIn T.CONTEXT T.tree tokens.now x.0 x.1.now)
+        (FaultOf T.CONTEXT tokens.now) }
 {
-    let (piece, rest) = next_piece(alloc, Context::Method, tokens)?;
+    let (piece, rest) = next_piece(alloc, T::CONTEXT, tokens)?;
     match piece {
-        Piece::Statement(statement) => match method_item_of(statement) {
+        Piece::Statement(statement) => match T::of(statement) {
             Some(item) => Ok((Found::Item(item), rest)),
             None => Err(Fault::Syntax(tokens.len())),
         },
@@ -90,18 +90,18 @@ fn method_item(alloc: Global, tokens: &[Lexeme]) -> Result<(Found<MethodItem>, &
     }
 }
 
-/// What stands in a method's block, and the brace that ends it.
-fn method_items(
+/// What stands in a block that holds no other, and the brace that ends it.
+pub fn singles<T: Single>(
     alloc: Global,
     tokens: &[Lexeme],
-) -> Result<(Vec<MethodItem>, u32, &[Lexeme]), Fault>
-    ensures { MatchResult result (λ x. IsBody Context.Method tokens.now
-        (trees method_item_tree x.0.items) x.1 x.2.now) (FaultOf Context.Method tokens.now) }
+) -> Result<(Vec<T>, u32, &[Lexeme]), Fault>
+    ensures { MatchResult result (λ x. IsBody T.CONTEXT tokens.now (trees T.tree x.0.items) x.1
+        x.2.now) (FaultOf T.CONTEXT tokens.now) }
 {
     let mut items = Vec::new(alloc);
     let mut rest = tokens;
     loop {
-        let (found, after) = method_item(alloc, rest)?;
+        let (found, after) = single(alloc, rest)?;
         match found {
             Found::Close(close) => return Ok((items, close, after)),
             Found::Item(item) => push(&mut items, item)?,
@@ -123,7 +123,7 @@ fn service_item(alloc: Global, tokens: &[Lexeme]) -> Result<(Found<ServiceItem>,
         },
         Piece::Open(header, open) => match header {
             Header::Method(signature) => {
-                let (items, close, rest) = method_items(alloc, rest)?;
+                let (items, close, rest) = singles(alloc, rest)?;
                 let end = MethodEnd::Block { open, items, close };
                 let method = Method { signature, end };
                 Ok((Found::Item(ServiceItem::Method(method)), rest))
@@ -154,81 +154,6 @@ pub fn service_items(
     }
 }
 
-/// The next item of an enum, or the brace that ends it.
-fn enum_item(alloc: Global, tokens: &[Lexeme]) -> Result<(Found<EnumItem>, &[Lexeme]), Fault>
-    ensures { MatchResult result (λ x. FoundIn Context.Enum enum_item_tree tokens.now x.0 x.1.now)
-        (FaultOf Context.Enum tokens.now) }
-{
-    let (piece, rest) = next_piece(alloc, Context::Enum, tokens)?;
-    match piece {
-        Piece::Statement(statement) => match enum_item_of(statement) {
-            Some(item) => Ok((Found::Item(item), rest)),
-            None => Err(Fault::Syntax(tokens.len())),
-        },
-        Piece::Open(header, _) => {
-            drop(header);
-            Err(Fault::Syntax(tokens.len()))
-        }
-        Piece::Close(close) => Ok((Found::Close(close), rest)),
-    }
-}
-
-/// What stands in an enum, and the brace that ends it.
-pub fn enum_items(
-    alloc: Global,
-    tokens: &[Lexeme],
-) -> Result<(Vec<EnumItem>, u32, &[Lexeme]), Fault>
-    ensures { MatchResult result (λ x. IsBody Context.Enum tokens.now
-        (trees enum_item_tree x.0.items) x.1 x.2.now) (FaultOf Context.Enum tokens.now) }
-{
-    let mut items = Vec::new(alloc);
-    let mut rest = tokens;
-    loop {
-        let (found, after) = enum_item(alloc, rest)?;
-        match found {
-            Found::Close(close) => return Ok((items, close, after)),
-            Found::Item(item) => push(&mut items, item)?,
-        }
-        rest = after;
-    }
-}
-
-/// The next field of a oneof, or the brace that ends it.
-fn oneof_field(alloc: Global, tokens: &[Lexeme]) -> Result<(Found<Field>, &[Lexeme]), Fault>
-    ensures { MatchResult result (λ x. FoundIn Context.Oneof field_tree tokens.now x.0 x.1.now)
-        (FaultOf Context.Oneof tokens.now) }
-{
-    let (piece, rest) = next_piece(alloc, Context::Oneof, tokens)?;
-    match piece {
-        Piece::Statement(statement) => match oneof_field_of(statement) {
-            Some(item) => Ok((Found::Item(item), rest)),
-            None => Err(Fault::Syntax(tokens.len())),
-        },
-        Piece::Open(header, _) => {
-            drop(header);
-            Err(Fault::Syntax(tokens.len()))
-        }
-        Piece::Close(close) => Ok((Found::Close(close), rest)),
-    }
-}
-
-/// The fields of a oneof, and the brace that ends it.
-fn oneof_fields(alloc: Global, tokens: &[Lexeme]) -> Result<(Vec<Field>, u32, &[Lexeme]), Fault>
-    ensures { MatchResult result (λ x. IsBody Context.Oneof tokens.now
-        (trees field_tree x.0.items) x.1 x.2.now) (FaultOf Context.Oneof tokens.now) }
-{
-    let mut items = Vec::new(alloc);
-    let mut rest = tokens;
-    loop {
-        let (found, after) = oneof_field(alloc, rest)?;
-        match found {
-            Found::Close(close) => return Ok((items, close, after)),
-            Found::Item(item) => push(&mut items, item)?,
-        }
-        rest = after;
-    }
-}
-
 /// The next member of a message, or the brace that ends it.
 #[cycle(messages)]
 fn member(alloc: Global, tokens: &[Lexeme]) -> Result<(Found<Member>, &[Lexeme]), Fault>
@@ -248,12 +173,12 @@ fn member(alloc: Global, tokens: &[Lexeme]) -> Result<(Found<Member>, &[Lexeme])
                 Ok((Found::Item(Member::Message(message)), rest))
             }
             Header::Oneof(heading) => {
-                let (items, close, rest) = oneof_fields(alloc, rest)?;
+                let (items, close, rest) = singles(alloc, rest)?;
                 let oneof = block(heading, open, items, close);
                 Ok((Found::Item(Member::Oneof(oneof)), rest))
             }
             Header::Enum(heading) => {
-                let (items, close, rest) = enum_items(alloc, rest)?;
+                let (items, close, rest) = singles(alloc, rest)?;
                 let nested = block(heading, open, items, close);
                 Ok((Found::Item(Member::Enum(nested)), rest))
             }

@@ -6,7 +6,7 @@ ghost use Rattle.proto_tree.specs.File.{item_tree, trees, tree_of_file};
 ghost use Rattle.proto_tree.specs.Place.{IsShallow, IsTooDeep};
 ghost use Rattle.proto_tree.specs.Tree.{Tree, Spells, allows, header_kind, inside};
 
-use crate::blocks::{Fault, block, enum_items, members, next_piece, push, service_items};
+use crate::blocks::{Fault, block, members, next_piece, push, service_items, singles};
 use crate::class::{Class, Lexeme};
 use crate::context::{Context, kind_of};
 use crate::items::item_of;
@@ -31,7 +31,7 @@ fn block_item(
             Ok((Item::Message(block(heading, open, items, close)), rest))
         }
         Header::Enum(heading) => {
-            let (items, close, rest) = enum_items(alloc, tokens)?;
+            let (items, close, rest) = singles(alloc, tokens)?;
             Ok((Item::Enum(block(heading, open, items, close)), rest))
         }
         Header::Service(heading) => {
