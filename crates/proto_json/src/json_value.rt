@@ -37,33 +37,29 @@ impl Json {
     pub(crate) fn number(number: u32) -> Json
         ensures { result ≡ decimal number }
     {
-        Json {
-            value: Value::from(number),
-        }
+        let value = Value::from(number);
+        Json { value }
     }
 
     pub(crate) fn index(index: usize) -> Json
         ensures { result ≡ decimal index }
     {
-        Json {
-            value: Value::from(index),
-        }
+        let value = Value::from(index);
+        Json { value }
     }
 
     pub(crate) fn integer(number: i32) -> Json
         ensures { result ≡ signed_decimal number }
     {
-        Json {
-            value: Value::from(number),
-        }
+        let value = Value::from(number);
+        Json { value }
     }
 
     pub(crate) fn boolean(truth: bool) -> Json
         ensures { result ≡ boolean_text truth }
     {
-        Json {
-            value: Value::Bool(truth),
-        }
+        let value = Value::Bool(truth);
+        Json { value }
     }
 
     /// A mark, which is left out where it is false.
