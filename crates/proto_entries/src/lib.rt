@@ -8,7 +8,7 @@ pub mod laws;
 mod putting;
 mod refusal;
 
-pub use change::{all_turned_round, one_splice};
+pub use change::{all_turned_round, in_order, one_splice};
 pub use entry::{Change, Entry};
 pub use putting::put_all;
 pub use refusal::Refusal;

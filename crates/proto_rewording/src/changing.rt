@@ -7,10 +7,10 @@ ghost use Rattle.proto_text.specs.Splicing.{edit_of, edits};
 ghost use Rattle.proto_entries.specs.Entries.{change_of};
 ghost use Rattle.proto_rewording.specs.MadeChanges.{IsChangeAt, IsRewordFault, marked_from, marked_tokens, word_put, StandInOrder, bytes_in};
 
-use proto_entries::Change;
+use proto_entries::{Change, in_order};
 use proto_faults::NoMemory;
 use proto_files::Files;
-use proto_text::{Source, Splice, SpliceFault, Splices, Token};
+use proto_text::{Source, Splice, Splices, Token};
 use std::alloc::{AllocError, Global};
 
 /// How many bytes a file has at most.
@@ -192,16 +192,4 @@ fn push_splice(
         new: to.to_string(alloc)?,
     })?;
     Ok(())
-}
-
-/// Splices that are in order.
-fn in_order(list: Vec<Splice>) -> Result<Splices, NoMemory>
-    requires { AreShort 0 0 (edits list.items) }
-    ensures { IfOk result (λ splices. splices ≡ edits list.items) }
-{
-    match Splices::new(list) {
-        Ok(splices) => Ok(splices),
-        Err(SpliceFault::NoMemory) => Err(NoMemory),
-        Err(_) => unreachable!(),
-    }
 }
