@@ -3,11 +3,10 @@
 ghost use Rattle.std.specs.Prelude.{◌≡◌, ◌++◌, IfOk, OnOk, map, string_bytes};
 ghost use Rattle.proto_entries.specs.Entries.{change_of};
 ghost use Rattle.proto_output.specs.LogLines.{joined_paths, log_lines, record_line};
-ghost use Rattle.proto_records.specs.RecordText.{state_name};
 
 use proto_entries::Change;
 use proto_faults::NoMemory;
-use proto_records::{Record, State};
+use proto_records::{Record, state_text};
 use std::alloc::Global;
 
 /// The line of each record, ended by a line feed: `INDEX STATE PATHS`. The
@@ -40,15 +39,6 @@ fn add_record(
     let line = format!(in alloc; "{index} {state} {paths}\n")?;
     text.push_str(line.as_str())?;
     Ok(())
-}
-
-fn state_text(state: State) -> &'static str
-    ensures { result.now ≡ state_name state }
-{
-    match state {
-        State::Open => "open",
-        State::Done => "done",
-    }
 }
 
 fn paths_text(alloc: Global, changes: &[Change]) -> Result<String, NoMemory>

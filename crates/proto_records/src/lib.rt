@@ -13,4 +13,4 @@ pub use fault::JournalFault;
 pub use journal::{last_is_open, read_records, with_record, without_last};
 pub use reading::read_entry;
 pub use record::{Record, State};
-pub use writing::entry_text;
+pub use writing::{entry_text, state_text};

@@ -63,7 +63,8 @@ fn change_values(alloc: Global, changes: &[Change]) -> Result<Vec<Value>, NoMemo
     Ok(values)
 }
 
-fn state_text(state: State) -> &'static str
+/// The word of a state: `open` or `done`.
+pub fn state_text(state: State) -> &'static str
     ensures { result.now ≡ state_name state }
 {
     match state {
