@@ -1,4 +1,4 @@
--- The name of a field is a word.
+-- The name of a field is a word (for the crates above).
 use Rattle.std.proofs.Common.{◌≡◌, inl, inr, ℕ, ◌<◌, true, Option, List, length, map, get_or, refl, sym, ap, subst, ◌∙◌}
 use Rattle.std.proofs.lemmas.List.{get_or-map, length-map}
 use Rattle.proto_text.specs.declared.class.Class.TheVariants.{Letter}

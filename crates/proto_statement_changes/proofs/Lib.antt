@@ -1,8 +1,8 @@
 mod Apart
 mod DeletionChanges
 mod Examples
-mod FieldNames
+pub mod FieldNames
 mod FieldsThere
 mod ImportChanges
 pub mod OneFile
-mod Paths
+pub mod Paths

@@ -1,4 +1,4 @@
--- A workspace path stands in quotes as it is.
+-- A workspace path stands in quotes as it is (for the crates above).
 use Rattle.std.proofs.Common.{◌≡◌, ℕ, ◌<◌, ◌≤◌, true, false, eqb, List, [], ◌∷◌, ◌++◌, refl, sym, ap, subst, ◌∙◌, inl, inr, arith}
 use Rattle.std.specs.List.{join_with_byte, list_all}
 use Rattle.std.specs.Str.{IsAscii, IsUtf8}

@@ -2,7 +2,6 @@ mod Decimals
 mod Declared
 mod Enums
 mod FieldNamed
-mod FieldNames
 mod NamedFiles
 mod NamedTrees
 mod OneRead

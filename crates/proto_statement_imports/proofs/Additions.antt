@@ -39,7 +39,7 @@ use Rattle.proto_statement_imports.proofs.ImportFaults.{none_or}
 use Rattle.proto_statement_imports.proofs.Inserted.{IsInserted, are_moved, import_more, wanted_by}
 use Rattle.proto_statement_imports.proofs.MovedScenes.{moved_files_read}
 use Rattle.proto_statement_imports.proofs.PathTokens.{text_in, word_by}
-use Rattle.proto_statement_imports.proofs.PlainPaths.{paths_are_plain}
+use Rattle.proto_statement_changes.proofs.Paths.{paths_are_plain}
 
 got_behind : (xs ys : List Lexeme) (n k : ℕ) → n ≡ length xs + k → slice_get (xs ++ ys) n ≡ slice_get ys k
 got_behind [] ys n k e = ap (slice_get ys) (omega (arith, e))

@@ -13,4 +13,3 @@ mod MovedScenes
 mod MovedTexts
 pub mod OtherScenes
 mod PathTokens
-mod PlainPaths
