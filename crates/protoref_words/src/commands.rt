@@ -1,5 +1,9 @@
 //! The commands of the program, with their words and their help.
 
+ghost use Rattle.std.specs.Prelude.{◌≡◌, [], IfOk, map};
+ghost use Rattle.clap.specs.Words.{app_of, new_app, rule_of, shape_of};
+ghost use Rattle.protoref_words.specs.Program.{bare, program, rule_of_row, shape_of_words};
+
 use clap::{Arg, ArgAction, Command};
 use proto_faults::NoMemory;
 use std::alloc::Global;
@@ -131,40 +135,53 @@ const COMMANDS: &[Words] = &[
 ];
 
 /// The program, with all its commands.
-pub(crate) fn program<'a>(alloc: Global) -> Result<Command<'a>, NoMemory> {
-    let mut commands = Vec::new(alloc);
-    for words in COMMANDS {
-        put_command(alloc, &mut commands, words)?;
-    }
+pub(crate) fn program<'a>(alloc: Global) -> Result<Command<'a>, NoMemory>
+    ensures { IfOk result (λ c. app_of c ≡ program) }
+{
+    let commands = commands_of(alloc, COMMANDS)?;
     Ok(program_alone(alloc).subcommands(commands)?)
 }
 
 // The program, with no command yet.
-fn program_alone<'a>(alloc: Global) -> Command<'a> {
+fn program_alone<'a>(alloc: Global) -> Command<'a>
+    ensures { app_of result ≡ record { top = bare; subs = [] } }
+{
     Command::new(alloc, "protoref")
         .about("Compiles, lints and edits Protocol Buffers schemas")
         .disable_help_subcommand(true)
         .subcommand_required(true)
 }
 
-fn put_command<'a>(
-    alloc: Global,
-    commands: &mut Vec<Command<'a>>,
-    words: &Words,
-) -> Result<(), NoMemory> {
+// The commands of a table.
+fn commands_of<'a>(alloc: Global, table: &[Words]) -> Result<Vec<Command<'a>>, NoMemory>
+    ensures { IfOk result (λ v. map shape_of v.items ≡ map shape_of_words table.now) }
+{
+    let mut commands = Vec::new(alloc);
+    for words in table {
+        commands.push(command_of(alloc, words)?)?;
+    }
+    Ok(commands)
+}
+
+fn command_of<'a>(alloc: Global, words: &Words) -> Result<Command<'a>, NoMemory>
+    ensures { IfOk result (λ c. shape_of c ≡ shape_of_words words.now) }
+{
     let arguments = arguments_of(alloc, words.arguments)?;
-    let command = command_alone(alloc, words).args(arguments)?;
-    Ok(commands.push(command)?)
+    Ok(command_alone(alloc, words).args(arguments)?)
 }
 
 // The command, with no argument yet.
-fn command_alone<'a>(alloc: Global, words: &Words) -> Command<'a> {
+fn command_alone<'a>(alloc: Global, words: &Words) -> Command<'a>
+    ensures { app_of result ≡ new_app words.now.name.now }
+{
     Command::new(alloc, words.name)
         .about(words.about)
         .after_help(words.below)
 }
 
-fn arguments_of<'a>(alloc: Global, rows: &[Argument]) -> Result<Vec<Arg<'a>>, NoMemory> {
+fn arguments_of<'a>(alloc: Global, rows: &[Argument]) -> Result<Vec<Arg<'a>>, NoMemory>
+    ensures { IfOk result (λ v. map rule_of v.items ≡ map rule_of_row rows.now) }
+{
     let mut arguments = Vec::new(alloc);
     for argument in rows {
         arguments.push(argument_of(alloc, argument))?;
@@ -172,7 +189,9 @@ fn arguments_of<'a>(alloc: Global, rows: &[Argument]) -> Result<Vec<Arg<'a>>, No
     Ok(arguments)
 }
 
-fn argument_of<'a>(alloc: Global, argument: &Argument) -> Arg<'a> {
+fn argument_of<'a>(alloc: Global, argument: &Argument) -> Arg<'a>
+    ensures { rule_of result ≡ rule_of_row argument.now }
+{
     match argument {
         Argument::One(id, help) => Arg::new(alloc, id)
             .help(help)

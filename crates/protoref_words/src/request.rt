@@ -61,8 +61,10 @@ pub enum Request {
 /// Why the words ask for nothing. Want of memory is never told as a bad command line.
 #[derive(Clone, Copy, Debug, PartialEq, Eq, Error)]
 pub enum WordsFault {
+    /// The words are none of the program's, or name a rule that there is not.
     #[error("bad command line")]
     BadCommandLine,
+    /// Memory ran out.
     #[error("no memory")]
     NoMemory,
 }

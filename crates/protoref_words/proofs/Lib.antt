@@ -1,0 +1,5 @@
+mod Answering
+mod Building
+mod Lines
+mod Marking
+mod Naming

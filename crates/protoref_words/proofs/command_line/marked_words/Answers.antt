@@ -1,0 +1,16 @@
+use Rattle.std.proofs.Common.{ap, ◌∙◌, sym, ◌++◌}
+use Rattle.clap.specs.Walk.{texts}
+use Rattle.protoref_words.specs.Marked.{is_bad_at, marks}
+use Rattle.protoref_words.proofs.Marking.{handed_more, plain_more}
+use Rattle.protoref_words.proofs.command_line.marked_words.Goals as goal
+
+pub loop-index-preserved : goal.loop-index-preserved
+loop-index-preserved c =
+    let ws = c.args.words.now in
+    let i = c.loop-index.index in
+    let w = c.index-words-index.result in
+    record {
+      handed = handed_more ws i w (texts c.loop-index.marked.items) (texts c.put_marked.new.marked.items) c.loop-index-test.true c.index-words-index.is c.loop-index.invariant.handed
+          (c.in_ok-put_marked.ensures.0 ∙ ap (λ v. texts c.loop-index.marked.items ++ marks i v) c.as_str.ensures.value);
+      plain = plain_more ws i w c.loop-index-test.true c.index-words-index.is c.loop-index.invariant.plain (sym (ap (is_bad_at i) c.as_str.ensures.value) ∙ c.in_ok-put_marked.ensures.1);
+    }

@@ -1,0 +1,5 @@
+pub mod CommandLines
+pub mod Marked
+pub mod Matched
+pub mod Program
+pub mod Requests
