@@ -77,7 +77,8 @@ pub fn are_texts(workspace: &Workspace, texts: &[(&str, &str)]) -> bool
 
 /// The edit that a step asks.
 pub fn edit_of(alloc: Global, step: Step) -> Result<Edit, NoMemory>
-    ensures { IfOk result (λ e. asked e ≡ row_edit step.entry.0.now step.entry.1.now step.entry.2.now) }
+    ensures { IfOk result (λ e. asked e
+        ≡ row_edit step.entry.0.now step.entry.1.now step.entry.2.now) }
 {
     let (kind, of, to, _) = step;
     let of = String::from_str(alloc, of)?;

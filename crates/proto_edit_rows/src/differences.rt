@@ -1,43 +1,62 @@
 //! What is otherwise than rows say.
 
+ghost use Rattle.std.specs.Prelude.{◌≡◌, [], All, IfOk, IsOk, OnOk, map, string_bytes};
+ghost use Rattle.proto_edit_rows.specs.RowsHold.{RowHolds, StepsHold, UndosHold, row_files, row_of, step_of, undo_of};
+
 use crate::edited::{expect_row, expect_steps};
 use crate::row::{Row, Step, Undo};
 use crate::unlike::Unlike;
 use proto_faults::NoMemory;
 use std::alloc::Global;
 
-fn expect_rows(alloc: Global, rows: &[Row]) -> Result<(), Unlike> {
+fn expect_rows(alloc: Global, rows: &[Row]) -> Result<(), Unlike>
+    ensures { OnOk result (All (λ r. RowHolds (row_of r)) rows.now) }
+{
     for row in rows {
         expect_row(alloc, row, &[])?;
     }
     Ok(())
 }
 
-fn told(alloc: Global, answer: Result<(), Unlike>) -> Result<String, NoMemory> {
+// What is otherwise, in words; an empty text where nothing is.
+fn told(alloc: Global, answer: Result<(), Unlike>) -> Result<String, NoMemory>
+    ensures { IfOk result (λ s. string_bytes s ≡ [] → IsOk answer) }
+{
     match answer {
         Ok(()) => Ok(String::new(alloc)),
         Err(Unlike::NoMemory) => Err(NoMemory),
-        Err(Unlike::Named(name)) => Ok(String::from_str(alloc, name)?),
-        Err(Unlike::Told(words)) => Ok(words),
+        Err(Unlike::Named(name)) => Ok(String::from_str(alloc, name.text)?),
+        Err(Unlike::Told(words)) => Ok(words.text),
     }
 }
 
-/// What is first otherwise than one of these rows says, in words; an empty text where all hold. Each is done as one run and step by
-/// step, and led back, at once and one by one.
-pub fn difference(alloc: Global, rows: &[Row]) -> Result<String, NoMemory> {
+/// What is first otherwise than one of these rows says, in words; an empty text only where all
+/// hold. Each is done as one run and step by step, and led back, at once and one by one.
+pub fn difference(alloc: Global, rows: &[Row]) -> Result<String, NoMemory>
+    ensures { IfOk result (λ s. string_bytes s ≡ [] → All (λ r. RowHolds (row_of r)) rows.now) }
+{
     told(alloc, expect_rows(alloc, rows))
 }
 
-/// The same of one row that is led back by these undos to the files that it begins with.
-pub fn difference_of_undos(alloc: Global, row: &Row, undos: &[Undo]) -> Result<String, NoMemory> {
+/// The same of one row that is led back by these undos to the files that it begins with; by its
+/// entries, from the last to the first, where there are no undos.
+pub fn difference_of_undos(alloc: Global, row: &Row, undos: &[Undo]) -> Result<String, NoMemory>
+    ensures row { IfOk result (λ s. string_bytes s ≡ [] → RowHolds (row_of row.now)) }
+    ensures undos { IfOk result (λ s. string_bytes s ≡ []
+        → UndosHold (row_of row.now) (map undo_of undos.now)) }
+{
     told(alloc, expect_row(alloc, row, undos))
 }
 
-/// What is first answered otherwise than these steps say, one after another.
+/// What is first answered otherwise than these steps say, one after another; an empty text only
+/// where all hold.
 pub fn difference_of_answers(
     alloc: Global,
     files: &[(&str, &str)],
     steps: &[Step],
-) -> Result<String, NoMemory> {
+) -> Result<String, NoMemory>
+    ensures { IfOk result (λ s. string_bytes s ≡ []
+        → StepsHold (row_files files.now) (map step_of steps.now)) }
+{
     told(alloc, expect_steps(alloc, files, steps))
 }

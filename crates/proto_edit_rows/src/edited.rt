@@ -1,10 +1,17 @@
-//! A workspace that is edited and led back. A call that memory refused changed nothing, and is made again. One function owns a
-//! workspace, all else borrows it.
+//! A workspace that is edited and led back. A call that memory refused changed nothing, and is made
+//! again. One function owns a workspace, all else borrows it.
+
+ghost use Rattle.std.specs.Prelude.{◌≡◌, ◌≢◌, ◌++◌, [], ◌∷◌, IfErr, IfOk, OnOk, map};
+ghost use Rattle.proto_edit.specs.Compiled.{AreCompiled};
+ghost use Rattle.proto_edit.specs.Workspaces.{IsMappedStep, IsRefusal, Run, accepted};
+ghost use Rattle.proto_edit_rows.specs.RowsHold.{AreLed, IsLed, RowHolds, ShowsPart, StepsHold, UndoneSo, UndosHold, UndosLead, row_files, row_of, step_of, undo_of};
+ghost use Rattle.proto_edit_rows.specs.Told.{told_of};
+ghost use Rattle.proto_schema.specs.Whole.{IsSortedOf};
 
 use crate::calls::{are_texts, edit_of, is_said, open};
 use crate::row::{Row, Step, Undo};
 use crate::told::expect_told;
-use crate::unlike::{Unlike, expect};
+use crate::unlike::{Name, Unlike, expect};
 use proto_edit::{Edit, Entry, Files, Refusal, Workspace, to_json};
 use proto_faults::NoMemory;
 use std::alloc::Global;
@@ -16,7 +23,11 @@ struct Edited {
     entries: Vec<Entry>,
 }
 
-fn begun(alloc: Global, files: &[(&str, &str)]) -> Result<Edited, Unlike> {
+fn begun(alloc: Global, files: &[(&str, &str)]) -> Result<Edited, Unlike>
+    ensures sorted { IfOk result (λ e. IsSortedOf (row_files files.now) e.workspace) }
+    ensures compiled { IfOk result (λ e. AreCompiled e.workspace) }
+    ensures none { IfOk result (λ e. e.entries.items ≡ []) }
+{
     let workspace = open(alloc, files)?;
     let entries = Vec::new(alloc);
     Ok(Edited { workspace, entries })
@@ -45,11 +56,9 @@ fn expect_state(alloc: Global, workspace: &Workspace, wanted: &[u8]) -> Result<(
     expect(alloc, holds, "another state", "that before")
 }
 
-fn expect_files(
-    alloc: Global,
-    workspace: &Workspace,
-    files: &[(&str, &str)],
-) -> Result<(), Unlike> {
+fn expect_files(alloc: Global, workspace: &Workspace, files: &[(&str, &str)]) -> Result<(), Unlike>
+    ensures { OnOk result (workspace.now ≡ row_files files.now) }
+{
     let holds = are_texts(workspace, files);
     expect(alloc, holds, "other files", "those of the row")
 }
@@ -60,10 +69,21 @@ fn expect_held(
     workspace: &Workspace,
     files: &[(&str, &str)],
     part: &str,
-) -> Result<(), Unlike> {
+) -> Result<(), Unlike>
+    ensures files { OnOk result (workspace.now ≡ row_files files.now) }
+    ensures shown { OnOk result (ShowsPart workspace.now part.now) }
+{
     expect_files(alloc, workspace, files)?;
+    expect_shown(alloc, workspace, part)
+}
+
+// This stands in the descriptors.
+fn expect_shown(alloc: Global, workspace: &Workspace, part: &str) -> Result<(), Unlike>
+    ensures { OnOk result (ShowsPart workspace.now part.now) }
+{
     let json = to_json(alloc, workspace.descriptors())?;
-    expect(alloc, json.as_str().contains(part), json.as_str(), part)
+    let holds = json.as_str().contains(part);
+    expect(alloc, holds, json.as_str(), part)
 }
 
 // The workspace is as these files were opened.
@@ -72,20 +92,62 @@ fn expect_first(
     workspace: &Workspace,
     files: &[(&str, &str)],
     first: &[u8],
-) -> Result<(), Unlike> {
+) -> Result<(), Unlike>
+    ensures { OnOk result (workspace.now ≡ row_files files.now) }
+{
     expect_files(alloc, workspace, files)?;
     expect_state(alloc, workspace, first)
 }
 
 // ---- edits one after another
 
-fn apply(alloc: Global, workspace: &mut Workspace, step: Step) -> Result<Entry, Refusal> {
+type Answer = Result<Entry, Refusal>;
+
+fn apply(alloc: Global, workspace: &mut Workspace, step: Step) -> Answer
+    ensures ok { IfOk result (λ cs. IsMappedStep workspace.old
+        (step_of step.entry).edit cs workspace.new) }
+    ensures err { IfErr result (λ r. IsRefusal workspace.old (step_of step.entry).edit r
+        × (workspace.new ≡ workspace.old)) }
+{
     let edit = edit_of(alloc, step)?;
     workspace.apply(alloc, edit)
 }
 
+// Made once more in the files before, where memory refused it. A second time is want of memory.
+fn answered_again(
+    alloc: Global,
+    workspace: &mut Workspace,
+    step: Step,
+    before: &[u8],
+) -> Result<Answer, Unlike>
+    ensures { IfOk result (λ a. Run workspace.old
+        ((step_of step.entry).edit ∷ []) (a ∷ []) workspace.new) }
+{
+    expect_state(alloc, workspace, before)?;
+    match apply(alloc, workspace, step) {
+        Ok(entry) => Ok(Ok(entry)),
+        Err(Refusal::NoMemory) => Err(Unlike::NoMemory),
+        Err(refusal) => Ok(Err(refusal)),
+    }
+}
+
+// What the step's edit is answered.
+fn answered(alloc: Global, workspace: &mut Workspace, step: Step) -> Result<Answer, Unlike>
+    ensures { IfOk result (λ a. Run workspace.old
+        ((step_of step.entry).edit ∷ []) (a ∷ []) workspace.new) }
+{
+    let before = state(alloc, workspace)?;
+    match apply(alloc, workspace, step) {
+        Ok(entry) => Ok(Ok(entry)),
+        Err(Refusal::NoMemory) => answered_again(alloc, workspace, step, before.as_slice()),
+        Err(refusal) => Ok(Err(refusal)),
+    }
+}
+
 // An entry is put behind the others.
-fn accept(entries: &mut Vec<Entry>, answer: Result<Entry, Refusal>) -> Result<(), NoMemory> {
+fn accept(entries: &mut Vec<Entry>, answer: Answer) -> Result<(), NoMemory>
+    ensures { OnOk result (entries.new.items ≡ entries.old.items ++ accepted (answer ∷ [])) }
+{
     match answer {
         Ok(entry) => Ok(entries.push(entry)?),
         Err(_refusal) => Ok(()),
@@ -96,38 +158,31 @@ fn accept(entries: &mut Vec<Entry>, answer: Result<Entry, Refusal>) -> Result<()
 fn expect_answer(
     alloc: Global,
     entries: &mut Vec<Entry>,
-    answer: Result<Entry, Refusal>,
+    answer: Answer,
     wanted: &str,
-) -> Result<(), Unlike> {
+) -> Result<(), Unlike>
+    ensures told { OnOk result (told_of answer ≡ wanted.now) }
+    ensures entries { OnOk result
+        (entries.new.items ≡ entries.old.items ++ accepted (answer ∷ [])) }
+{
     expect_told(alloc, &answer, wanted)?;
     Ok(accept(entries, answer)?)
 }
 
-fn expect_step_again(
-    alloc: Global,
-    edited: &mut Edited,
-    step: Step,
-    before: &[u8],
-) -> Result<(), Unlike> {
-    expect_state(alloc, &edited.workspace, before)?;
-    let answer = apply(alloc, &mut edited.workspace, step);
+fn expect_step(alloc: Global, edited: &mut Edited, step: Step) -> Result<(), Unlike>
+    ensures { OnOk result (IsLed edited.old.workspace edited.old.entries.items
+        (step_of step.entry) edited.new.workspace edited.new.entries.items) }
+{
+    let answer = answered(alloc, &mut edited.workspace, step)?;
     let (.., wanted) = step;
     expect_answer(alloc, &mut edited.entries, answer, wanted)
 }
 
-fn expect_step(alloc: Global, edited: &mut Edited, step: Step) -> Result<(), Unlike> {
-    let before = state(alloc, &edited.workspace)?;
-    match apply(alloc, &mut edited.workspace, step) {
-        Err(Refusal::NoMemory) => expect_step_again(alloc, edited, step, before.as_slice()),
-        answer => {
-            let (.., wanted) = step;
-            expect_answer(alloc, &mut edited.entries, answer, wanted)
-        }
-    }
-}
-
 // The steps are answered as they say, each in the workspace as it then stands.
-fn expect_answers(alloc: Global, edited: &mut Edited, steps: &[Step]) -> Result<(), Unlike> {
+fn expect_answers(alloc: Global, edited: &mut Edited, steps: &[Step]) -> Result<(), Unlike>
+    ensures { OnOk result (AreLed edited.old.workspace edited.old.entries.items
+        (map step_of steps.now) edited.new.workspace edited.new.entries.items) }
+{
     for &step in steps {
         expect_step(alloc, edited, step)?;
     }
@@ -155,9 +210,13 @@ fn undo(alloc: Global, workspace: &mut Workspace, entry: &Entry) -> Result<(), U
 }
 
 // From the last entry to the first.
-fn undo_one_by_one(alloc: Global, edited: &mut Edited) -> Result<(), Unlike> {
-    for entry in edited.entries.iter().rev() {
-        undo(alloc, &mut edited.workspace, entry)?;
+fn undo_one_by_one(
+    alloc: Global,
+    workspace: &mut Workspace,
+    entries: &[Entry],
+) -> Result<(), Unlike> {
+    for entry in entries.iter().rev() {
+        undo(alloc, workspace, entry)?;
     }
     Ok(())
 }
@@ -165,23 +224,55 @@ fn undo_one_by_one(alloc: Global, edited: &mut Edited) -> Result<(), Unlike> {
 // One undo is answered so, and leaves these files.
 fn expect_undo(
     alloc: Global,
-    edited: &mut Edited,
-    &(number, said, files): &Undo,
-) -> Result<(), Unlike> {
-    let Some(entry) = edited.entries.get(number) else {
-        return Err(Unlike::Named("no such entry"));
+    workspace: &mut Workspace,
+    entries: &[Entry],
+    undo: &Undo,
+) -> Result<(), Unlike>
+    ensures undone { OnOk result (UndoneSo entries.now workspace.old (undo_of undo.now)) }
+    ensures files { OnOk result (workspace.new ≡ (undo_of undo.now).files) }
+{
+    let (number, said, files) = *undo;
+    let Some(entry) = entries.get(number) else {
+        return Err(Unlike::Named(Name {
+            text: "no such entry",
+        }));
     };
     let (_, name) = said;
-    let holds = is_said(edited.workspace.undo(alloc, entry), said);
+    let holds = is_said(workspace.undo(alloc, entry), said);
     expect(alloc, holds, "another answer of an undo", name)?;
-    expect_files(alloc, &edited.workspace, files)
+    expect_files(alloc, workspace, files)
 }
 
-fn expect_undos(alloc: Global, edited: &mut Edited, undos: &[Undo]) -> Result<(), Unlike> {
+fn expect_undos(
+    alloc: Global,
+    workspace: &mut Workspace,
+    entries: &[Entry],
+    undos: &[Undo],
+) -> Result<(), Unlike>
+    ensures { OnOk result (UndosLead entries.now workspace.old
+        (map undo_of undos.now) workspace.new) }
+{
     for undo in undos {
-        expect_undo(alloc, edited, undo)?;
+        expect_undo(alloc, workspace, entries, undo)?;
     }
     Ok(())
+}
+
+// As undos say, if there are any; else from the last entry to the first.
+fn undo_each(
+    alloc: Global,
+    workspace: &mut Workspace,
+    entries: &[Entry],
+    undos: &[Undo],
+) -> Result<(), Unlike>
+    ensures { OnOk result (map undo_of undos.now ≢ [] → UndosLead entries.now
+        workspace.old (map undo_of undos.now) workspace.new) }
+{
+    if undos.is_empty() {
+        undo_one_by_one(alloc, workspace, entries)
+    } else {
+        expect_undos(alloc, workspace, entries, undos)
+    }
 }
 
 // The entries lead back at once.
@@ -203,13 +294,23 @@ fn expect_back(
     files: &[(&str, &str)],
     first: &[u8],
     undos: &[Undo],
-) -> Result<(), Unlike> {
-    if undos.is_empty() {
-        undo_one_by_one(alloc, edited)?;
-    } else {
-        expect_undos(alloc, edited, undos)?;
-    }
+) -> Result<(), Unlike>
+    ensures { OnOk result (map undo_of undos.now ≢ [] → UndosLead edited.old.entries.items
+        edited.old.workspace (map undo_of undos.now) (row_files files.now)) }
+{
+    let entries = edited.entries.as_slice();
+    undo_each(alloc, &mut edited.workspace, entries, undos)?;
     expect_first(alloc, &edited.workspace, files, first)
+}
+
+// The files of the row afterwards.
+fn files_of<'a>(row: &Row<'a>) -> &'a [(&'a str, &'a str)]
+    ensures { row_files result.now ≡ (row_of row.now).after }
+{
+    match row.after {
+        [] => row.files,
+        after => after,
+    }
 }
 
 // The row's files and descriptors afterwards, and the way back.
@@ -219,13 +320,13 @@ fn expect_after(
     row: &Row,
     first: &[u8],
     undos: &[Undo],
-) -> Result<(), Unlike> {
-    let after = if row.after.is_empty() {
-        row.files
-    } else {
-        row.after
-    };
-    expect_held(alloc, &edited.workspace, after, row.json)?;
+) -> Result<(), Unlike>
+    ensures files { OnOk result (edited.old.workspace ≡ (row_of row.now).after) }
+    ensures shown { OnOk result (ShowsPart edited.old.workspace (row_of row.now).part) }
+    ensures back { OnOk result (map undo_of undos.now ≢ [] → UndosLead edited.old.entries.items
+        edited.old.workspace (map undo_of undos.now) (row_of row.now).files) }
+{
+    expect_held(alloc, &edited.workspace, files_of(row), row.json)?;
     expect_back_at_once(alloc, edited, row.files, first)?;
     expect_back(alloc, edited, row.files, first, undos)
 }
@@ -245,7 +346,7 @@ fn edits_of(alloc: Global, steps: &[Step]) -> Result<Vec<Edit>, NoMemory> {
     Ok(edits)
 }
 
-type Ran = (Workspace, Vec<Result<Entry, Refusal>>);
+type Ran = (Workspace, Vec<Answer>);
 
 fn run(alloc: Global, workspace: &Workspace, steps: &[Step]) -> Result<Ran, NoMemory> {
     let edits = edits_of(alloc, steps)?;
@@ -256,7 +357,7 @@ fn run(alloc: Global, workspace: &Workspace, steps: &[Step]) -> Result<Ran, NoMe
 fn expect_run_answers(
     alloc: Global,
     edited: &mut Edited,
-    answers: Vec<Result<Entry, Refusal>>,
+    answers: Vec<Answer>,
     steps: &[Step],
 ) -> Result<(), Unlike> {
     let holds = answers.len() == steps.len();
@@ -270,7 +371,7 @@ fn expect_run_answers(
 fn expect_ran(
     alloc: Global,
     edited: &mut Edited,
-    answers: Vec<Result<Entry, Refusal>>,
+    answers: Vec<Answer>,
     row: &Row,
     first: &[u8],
     undos: &[Undo],
@@ -301,7 +402,11 @@ fn expect_ways(
     row: &Row,
     first: &[u8],
     undos: &[Undo],
-) -> Result<(), Unlike> {
+) -> Result<(), Unlike>
+    ensures row { OnOk result (AreCompiled edited.old.workspace → RowHolds (row_of row.now)) }
+    ensures undos { OnOk result (edited.old.entries.items ≡ []
+        → UndosHold (row_of row.now) (map undo_of undos.now)) }
+{
     expect_run(alloc, &edited.workspace, row, first, undos)?;
     expect_first(alloc, &edited.workspace, row.files, first)?;
     expect_answers(alloc, edited, row.steps)?;
@@ -313,7 +418,11 @@ fn expect_edited(
     edited: &mut Edited,
     row: &Row,
     undos: &[Undo],
-) -> Result<(), Unlike> {
+) -> Result<(), Unlike>
+    ensures row { OnOk result (AreCompiled edited.old.workspace → RowHolds (row_of row.now)) }
+    ensures undos { OnOk result (edited.old.entries.items ≡ []
+        → UndosHold (row_of row.now) (map undo_of undos.now)) }
+{
     let first = state(alloc, &edited.workspace)?;
     expect_ways(alloc, edited, row, first.as_slice(), undos)
 }
@@ -323,13 +432,19 @@ pub(crate) fn expect_steps(
     alloc: Global,
     files: &[(&str, &str)],
     steps: &[Step],
-) -> Result<(), Unlike> {
+) -> Result<(), Unlike>
+    ensures { OnOk result (StepsHold (row_files files.now) (map step_of steps.now)) }
+{
     let mut edited = begun(alloc, files)?;
     expect_answers(alloc, &mut edited, steps)
 }
 
-/// The row holds as one run and step by step, with the way back at once and one by one, as undos say, if there are any.
-pub(crate) fn expect_row(alloc: Global, row: &Row, undos: &[Undo]) -> Result<(), Unlike> {
+/// The row holds as one run and step by step, with the way back at once and one by one, as undos
+/// say, if there are any.
+pub(crate) fn expect_row(alloc: Global, row: &Row, undos: &[Undo]) -> Result<(), Unlike>
+    ensures row { OnOk result (RowHolds (row_of row.now)) }
+    ensures undos { OnOk result (UndosHold (row_of row.now) (map undo_of undos.now)) }
+{
     let mut edited = begun(alloc, row.files)?;
     expect_edited(alloc, &mut edited, row, undos)
 }
