@@ -1,7 +1,7 @@
 //! What is asked for.
 
-use proto_lint::RuleSet;
 use proto_journal::Edit;
+use proto_lint::RuleSet;
 
 /// What is asked for.
 #[derive(Drop)]

@@ -7,10 +7,10 @@ ghost use Rattle.proto_store.specs.Stores.{HoldsFiles};
 ghost use Rattle.protoref_run.specs.Printed.{Opens};
 
 use proto_faults::SchemaFault;
+use proto_journal::{LoadFault, all_files};
 use proto_output::{Answer, RunFault, reported};
 use proto_schema::Schema;
 use proto_store::Store;
-use proto_journal::{LoadFault, all_files};
 use std::alloc::Global;
 
 // The schemas of a store, or the answer that tells of their least fault.
