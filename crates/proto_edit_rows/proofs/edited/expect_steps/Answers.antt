@@ -1,12 +1,12 @@
-use Rattle.proto_edit_rows.proofs.Outcomes.{on_ok_then}
+use Rattle.std.proofs.lemmas.Result.{on_ok_weaker}
 use Rattle.proto_edit_rows.proofs.edited.expect_steps.Goals as goal
 
 pub returns : goal.returns
-returns c = on_ok_then c.expect_answers.result c.expect_answers.ensures (λ led. record {
+returns c = on_ok_weaker c.expect_answers.result (λ led. record {
   files = c.in_ok-edited.edited.workspace;
   sorted = c.in_ok-edited.ensures.sorted;
   compiled = c.in_ok-edited.ensures.compiled;
   answers = led.answers;
   after = c.expect_answers.new.edited.workspace;
   answered = led.answered;
-})
+}) c.expect_answers.ensures
