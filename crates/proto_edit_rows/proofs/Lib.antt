@@ -1,5 +1,3 @@
 mod Leading
-mod Lists
 mod Outcomes
-mod SameFiles
 mod WholeRows

@@ -4,8 +4,9 @@ ghost use Rattle.std.specs.Prelude.{◌≡◌, [], All, IfOk, IsOk, OnOk, map, s
 ghost use Rattle.proto_edit_rows.specs.RowsHold.{RowHolds, StepsHold, UndosHold, row_files, row_of, step_of, undo_of};
 
 use crate::edited::{expect_row, expect_steps};
-use crate::row::{Row, Step, Undo};
+use crate::row::{Row, Undo};
 use crate::unlike::Unlike;
+use proto_edit_calls::Step;
 use proto_faults::NoMemory;
 use std::alloc::Global;
 

@@ -1,13 +1,12 @@
 //! Rows of edits, and whether the workspace does as they say. Tests stand on it.
 #![tactic(auto)]
 
-mod calls;
 mod differences;
 mod edited;
 mod row;
 mod told;
 mod unlike;
 
-pub use calls::{are_texts, edit_of, filled, is_said, open};
 pub use differences::{difference, difference_of_answers, difference_of_undos};
-pub use row::{Row, Said, Step, Texts, Undo};
+pub use proto_edit_calls::{Said, Step, are_texts, edit_of, filled, is_said, open};
+pub use row::{Row, Texts, Undo};

@@ -1,7 +1,7 @@
 use Rattle.std.proofs.Common.{◌≡◌, length, map, drop}
 use Rattle.std.specs.Cmp.Lexicographic.{pointwise}
-use Rattle.proto_edit_rows.specs.Rows.{is_file, row_file}
-use Rattle.proto_edit_rows.proofs.calls.are_texts.Given as goal
+use Rattle.proto_edit_calls.specs.Rows.{is_file, row_file}
+use Rattle.proto_edit_calls.proofs.calls.are_texts.Given as goal
 
 -- The files and rows before the place are the same, so the others decide.
 abbrev pub invariant-loop-place : goal.invariant-loop-place

@@ -1,10 +1,10 @@
--- Files that are told to be the same are.
+-- Files that are told to be the same are (for the crates above).
 use Rattle.std.proofs.Common.{◌≡◌, ◌∙◌, refl, ap, subst, Bool, true, ◌&&◌, List}
 use Rattle.std.specs.Cmp.{first_so, second_so}
 use Rattle.std.specs.Cmp.Lexicographic.{pointwise, pointwise_decides}
 use Rattle.std.specs.Str.{bytes_eq}
 use Rattle.std.proofs.lemmas.Slice.Eq.{bytes_eq-Decides}
-use Rattle.proto_edit_rows.specs.Rows.{is_file}
+use Rattle.proto_edit_calls.specs.Rows.{is_file}
 use Rattle.proto_files.specs.GivenFiles.{FileOf}
 
 own : (f : FileOf) → is_file f f ≡ true

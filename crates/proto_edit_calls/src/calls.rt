@@ -5,12 +5,12 @@ ghost use Rattle.std.specs.List.{repeat};
 ghost use Rattle.std.specs.Cmp.Lexicographic.{pointwise};
 ghost use Rattle.proto_edit.specs.Answers.{asked};
 ghost use Rattle.proto_edit.specs.Compiled.{AreCompiled};
-ghost use Rattle.proto_edit_rows.specs.Rows.{is_file, is_row_answer, row_edit, row_file};
+ghost use Rattle.proto_edit_calls.specs.Rows.{is_file, is_row_answer, row_edit, row_file};
 ghost use Rattle.proto_files.specs.GivenFiles.{file_at, file_of};
 ghost use Rattle.proto_schema.specs.Answers.{IsOpenError};
 ghost use Rattle.proto_schema.specs.Whole.{IsSortedOf};
 
-use crate::row::{Said, Step};
+use crate::step::{Said, Step};
 use proto_edit::{Edit, Refusal, Workspace};
 use proto_faults::{NoMemory, SchemaFault};
 use proto_files::Files;

@@ -1,9 +1,9 @@
 use Rattle.std.proofs.Common.{rules, ◌≡◌, ◌∙◌, sym, ap, ℕ, ◌+◌, ◌<◌, Bool, true, false, ◌&&◌, List, length, map, drop, get_or, arith, Bor, []}
 use Rattle.std.specs.Cmp.Lexicographic.{pointwise}
-use Rattle.proto_edit_rows.specs.Rows.{is_file, row_file}
+use Rattle.proto_edit_calls.specs.Rows.{is_file, row_file}
 use Rattle.proto_files.specs.GivenFiles.{FileOf}
-use Rattle.proto_edit_rows.proofs.Lists.{same_from}
-use Rattle.proto_edit_rows.proofs.calls.are_texts.Goals as goal
+use Rattle.proto_edit_calls.proofs.Lists.{same_from}
+use Rattle.proto_edit_calls.proofs.calls.are_texts.Goals as goal
 
 pub returns-then-not-is_text : goal.returns-then-not-is_text
 returns-then-not-is_text c =

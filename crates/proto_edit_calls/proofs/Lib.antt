@@ -1,0 +1,2 @@
+mod Lists
+pub mod SameFiles
