@@ -1,4 +1,4 @@
--- The flaws of a file in two scenes that differ in names: the same, but for those that names decide.
+-- The flaws of a file in two scenes that differ in names: the same, but for those that names decide (for the crates above).
 use Rattle.std.proofs.Common.{◌≡◌, ℕ, ℤ, pos, neg_ℤ, Bool, true, false, not, ◌&&◌, ◌||◌, if◌then◌else◌, List, [], ◌∷◌, ◌++◌, map, flat_map, find, Option, Some, None, is_some, is_none, codes, option_and_then, refl, sym, ◌∙◌, ap, ap₂}
 use Rattle.std.specs.Prelude.{option_to_list}
 use Rattle.std.specs.List.{AllByRecursion, list_any}
