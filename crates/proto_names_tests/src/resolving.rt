@@ -102,16 +102,20 @@ fn meant_of_two<'a>(
     }
 }
 
+fn expect_name<R: AllocGlobal + Abort>(rt: &R, found: &str, said: &str) {
+    assert_eq!(rt; found, said);
+}
+
 // A scope need not be declared.
 fn expect_scopes<R: AllocGlobal + Abort>(rt: &R, link: &Link, files: &Files) -> Result<(), Fail>
     requires { IsLinkOf files.now link.now }
 {
     let alloc = rt.alloc();
-    assert_eq!(rt; meant(alloc, link, files, "p.A")?, "p.A.foo");
-    assert_eq!(rt; meant(alloc, link, files, "p")?, "p.foo");
-    assert_eq!(rt; meant(alloc, link, files, "")?, "nothing");
-    assert_eq!(rt; meant(alloc, link, files, "p.zzz.y")?, "p.foo");
-    assert_eq!(rt; meant(alloc, link, files, "q")?, "nothing");
+    expect_name(rt, meant(alloc, link, files, "p.A")?, "p.A.foo");
+    expect_name(rt, meant(alloc, link, files, "p")?, "p.foo");
+    expect_name(rt, meant(alloc, link, files, "")?, "nothing");
+    expect_name(rt, meant(alloc, link, files, "p.zzz.y")?, "p.foo");
+    expect_name(rt, meant(alloc, link, files, "q")?, "nothing");
     Ok(())
 }
 
@@ -121,9 +125,9 @@ fn expect_nearest<R: AllocGlobal + Abort>(rt: &R, link: &Link, files: &Files) ->
     requires { IsLinkOf files.now link.now }
 {
     let alloc = rt.alloc();
-    assert_eq!(rt; meant_of_two(alloc, link, files, "A", None)?, "nothing");
-    assert_eq!(rt; meant_of_two(alloc, link, files, "", None)?, "b.X");
-    assert_eq!(rt; meant_of_two(alloc, link, files, "A", Some(DOT))?, "b.X");
+    expect_name(rt, meant_of_two(alloc, link, files, "A", None)?, "nothing");
+    expect_name(rt, meant_of_two(alloc, link, files, "", None)?, "b.X");
+    expect_name(rt, meant_of_two(alloc, link, files, "A", Some(DOT))?, "b.X");
     Ok(())
 }
 
