@@ -178,3 +178,27 @@ fn first(one: Option<BadImport>, other: Option<BadImport>) -> Option<BadImport>
         (None, b) => b,
     }
 }
+
+/// For each file, the files that its imports name, in their order. Refused for want of memory
+/// alone.
+pub fn all_targets(alloc: Global, imports: &[Vec<FileImport>]) -> Result<Vec<Vec<u32>>, NoMemory>
+    ensures { IfOk result (λ next. map (λ v. v.items) next.items
+        ≡ map (λ v. map (λ i. i.to) v.items) imports.now) }
+{
+    let mut next = Vec::new(alloc);
+    for own in imports {
+        next.push(targets(alloc, own)?)?;
+    }
+    Ok(next)
+}
+
+/// The files that these imports name, in their order. Refused for want of memory alone.
+pub fn targets(alloc: Global, imports: &[FileImport]) -> Result<Vec<u32>, NoMemory>
+    ensures { IfOk result (λ files. files.items ≡ map (λ i. i.to) imports.now) }
+{
+    let mut files = Vec::new(alloc);
+    for import in imports {
+        files.push(import.to)?;
+    }
+    Ok(files)
+}

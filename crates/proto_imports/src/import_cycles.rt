@@ -9,7 +9,7 @@ ghost use Rattle.proto_imports.specs.Importing.{AreRising, all_asked, all_import
 ghost use Rattle.proto_imports.specs.ImportSteps.{AreTurned, AreImporters, IsFileIndex, IsFirst, CycleFault, MarkedFault};
 
 use crate::first_places::place_of;
-use crate::import::{BadImport, FileImport, ImportFlaw, WrittenImport};
+use crate::import::{BadImport, FileImport, ImportFlaw, WrittenImport, all_targets};
 use crate::walk::reached;
 use indexmap::IndexMap;
 use proto_faults::NoMemory;
@@ -39,29 +39,6 @@ pub(crate) fn first_on_cycle(
         return Ok(None);
     }
     first_back(alloc, index, files, &importers)
-}
-
-/// For each file, the files that it imports.
-fn all_targets(alloc: Global, imports: &[Vec<FileImport>]) -> Result<Vec<Vec<u32>>, NoMemory>
-    ensures { IfOk result (λ next. map (λ v. v.items) next.items
-        ≡ map (λ v. map (λ i. i.to) v.items) imports.now) }
-{
-    let mut next = Vec::new(alloc);
-    for own in imports {
-        next.push(targets(alloc, own)?)?;
-    }
-    Ok(next)
-}
-
-/// The files that these imports name.
-pub(crate) fn targets(alloc: Global, imports: &[FileImport]) -> Result<Vec<u32>, NoMemory>
-    ensures { IfOk result (λ files. files.items ≡ map (λ i. i.to) imports.now) }
-{
-    let mut files = Vec::new(alloc);
-    for import in imports {
-        files.push(import.to)?;
-    }
-    Ok(files)
 }
 
 /// For each file, the files whose lists have it.

@@ -1,10 +1,9 @@
-//! The imports of files: their paths, their cycles, and what each file sees.
+//! The imports of files: their paths, their cycles, and what is reached by them.
 #![tactic(auto)]
 
 pub mod first_places;
 pub mod import;
 mod import_cycles;
 mod import_paths;
-pub mod sight;
 pub mod walk;
 pub mod written;

@@ -1,6 +1,6 @@
 //! Whether imports lead from one file to another.
 
-ghost use Rattle.std.specs.Prelude.{◌≡◌, ◌↔◌, ◌<◌, List, length, map, IfOk, IsTrue};
+ghost use Rattle.std.specs.Prelude.{◌↔◌, ◌<◌, List, length, IfOk, IsTrue};
 ghost use Rattle.proto_files.specs.Faults.{HasNoFault};
 ghost use Rattle.proto_files.specs.FilesRead.{ReadOf, AreRead};
 ghost use Rattle.proto_imports.specs.Links.{LinkFaults, link_imports};
@@ -9,30 +9,9 @@ ghost use Rattle.proto_meaning.specs.Cycles.{Leads};
 use crate::imports::linked_imports;
 use proto_faults::NoMemory;
 use proto_files::Files;
-use proto_imports::import::FileImport;
+use proto_imports::import::all_targets;
 use proto_imports::walk::reached;
 use std::alloc::Global;
-
-fn targets(alloc: Global, imports: &[FileImport]) -> Result<Vec<u32>, NoMemory>
-    ensures { IfOk result (λ files. files.items ≡ map (λ i. i.to) imports.now) }
-{
-    let mut files = Vec::new(alloc);
-    for import in imports {
-        files.push(import.to)?;
-    }
-    Ok(files)
-}
-
-fn all_targets(alloc: Global, imports: &[Vec<FileImport>]) -> Result<Vec<Vec<u32>>, NoMemory>
-    ensures { IfOk result (λ next. map (λ v. v.items) next.items
-        ≡ map (λ v. map (λ i. i.to) v.items) imports.now) }
-{
-    let mut next = Vec::new(alloc);
-    for own in imports {
-        next.push(targets(alloc, own)?)?;
-    }
-    Ok(next)
-}
 
 /// Whether a file is the other, or leads to it by imports, public or not.
 pub(crate) fn leads(alloc: Global, files: &Files, from: u32, to: u32) -> Result<bool, NoMemory>

@@ -1,7 +1,7 @@
 use Rattle.std.proofs.Common.{◌≡◌, ◌↔◌, ℕ, ◌<◌, [], length, get_or, map, filter}
 use Rattle.proto_imports.specs.Walks.{IsMarked, Walks}
-use Rattle.proto_imports.proofs.SeenFiles.{steps_from}
-use Rattle.proto_imports.proofs.sight.all_seen.Given as goal
+use Rattle.proto_sight.proofs.SeenFiles.{steps_from}
+use Rattle.proto_sight.proofs.sight.all_seen.Given as goal
 
 abbrev pub invariant-loop-file : goal.invariant-loop-file
 invariant-loop-file l = record {

@@ -3,8 +3,8 @@ use Rattle.std.specs.List.{Contains}
 use Rattle.std.proofs.lemmas.List.{get_or-map, length-map, length-set, map-set}
 use Rattle.proto_imports.specs.Walks.{IsMarked, Walks}
 use Rattle.proto_imports.proofs.ImportGraph.{all_within}
-use Rattle.proto_imports.proofs.SeenFiles.{lists_within, set_within, own_within, own_of, set_back}
-use Rattle.proto_imports.proofs.sight.seen_from.Goals as goal
+use Rattle.proto_sight.proofs.SeenFiles.{lists_within, set_within, own_within, own_of, set_back}
+use Rattle.proto_sight.proofs.sight.seen_from.Goals as goal
 
 pub reached-requires-clause-files : goal.reached-requires-clause-files
 reached-requires-clause-files c =

@@ -7,10 +7,9 @@ ghost use Rattle.proto_meaning.specs.Marks.{MarksSeen};
 ghost use Rattle.proto_imports.specs.Importing.{all_imports};
 ghost use Rattle.proto_imports.specs.Walks.{IsMarked, Walks};
 
-use crate::import::FileImport;
-use crate::import_cycles::targets;
-use crate::walk::reached;
 use proto_faults::NoMemory;
+use proto_imports::import::{FileImport, targets};
+use proto_imports::walk::reached;
 use std::alloc::Global;
 use std::mem;
 

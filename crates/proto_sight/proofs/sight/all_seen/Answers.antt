@@ -5,8 +5,8 @@ use Rattle.proto_meaning.specs.Names.{Import}
 use Rattle.proto_imports.specs.Importing.{all_imports}
 use Rattle.proto_imports.specs.Walks.{IsMarked, Walks}
 use Rattle.proto_imports.proofs.ImportGraph.{all_within}
-use Rattle.proto_imports.proofs.SeenFiles.{own_of, public_of, public_within, pushed, imports_within, public_twice, steps_from, marks_seen}
-use Rattle.proto_imports.proofs.sight.all_seen.Goals as goal
+use Rattle.proto_sight.proofs.SeenFiles.{own_of, public_of, public_within, pushed, imports_within, public_twice, steps_from, marks_seen}
+use Rattle.proto_sight.proofs.sight.all_seen.Goals as goal
 
 pub seen_from-requires-clause-public : goal.seen_from-requires-clause-public
 seen_from-requires-clause-public c =

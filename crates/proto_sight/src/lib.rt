@@ -1,0 +1,6 @@
+//! What each file of a workspace sees.
+#![tactic(auto)]
+
+mod sight;
+
+pub use sight::all_seen;
