@@ -32,9 +32,6 @@ use Rattle.proto_numbers.proofs.CappedRanges.{outside_here, outside_same, covere
 
 -- ---- fields: their flaws are the same
 
-either_same : {X : Type 0} (b : Bool) (x y v w : X) → x ≡ y → v ≡ w → (if b then x else v) ≡ (if b then y else w)
-either_same b x y v w h k = ap (λ z. if b then z else v) h ∙ ap (λ z. if b then y else z) k
-
 pub holds_same : (scalar : List ℕ) (a b : ℤ) → Alike a b → holds_number scalar a ≡ holds_number scalar b
 holds_same scalar a b h =
     four (is_one_of signed_32 scalar) (is_one_of signed_64 scalar) (is_one_of unsigned_32 scalar) (is_one_of unsigned_64 scalar)

@@ -4,3 +4,4 @@ pub mod FlawTokens
 pub mod KnownNames
 pub mod OptionNames
 pub mod Phases
+mod Turns

@@ -4,7 +4,7 @@ ghost use Rattle.std.specs.Prelude.{◌≡◌, ◌++◌, ◌&&◌, [], codes, if
 ghost use Rattle.proto_faults.specs.declared.fault.FaultKind.TheVariants as kind;
 ghost use Rattle.proto_tree.specs.File.{enum_item_tree, trees};
 ghost use Rattle.proto_parts.specs.Options.{is_named, truth_of};
-ghost use Rattle.proto_parts.specs.Parts.{enum_ranges, options_in, reserved_names_in, statements};
+ghost use Rattle.proto_parts.specs.Parts.{enum_ranges, options_in, reserved_names_in, statements, values_in};
 ghost use Rattle.proto_parts.specs.Scenes.{text};
 ghost use Rattle.proto_parts.specs.Views.{option_of};
 ghost use Rattle.proto_parts.specs.declared.options.Element.TheVariants as element;
@@ -188,6 +188,29 @@ fn add_enum_options(
 
 // ---- all of it
 
+// What is wrong with an enum of these values.
+fn add_flaws_with_values(
+    alloc: Global,
+    found: &mut Vec<Flaw>,
+    scene: &Scene,
+    enumeration: &Enum,
+    values: &[&Value],
+) -> Result<(), NoMemory>
+    requires { map (λ v. v.now) values.now
+        ≡ values_in (trees enum_item_tree enumeration.now.members.items) }
+    ensures { OnOk result (found.new.items ≡ found.old.items
+        ++ enum_flaws scene.now enumeration.now.name
+        (trees enum_item_tree enumeration.now.members.items)) }
+{
+    let items = enumeration.members.as_slice();
+    let is_empty = values.is_empty();
+    add_if(found, is_empty, FaultKind::EmptyEnum, enumeration.name)?;
+    add_number_flaws(alloc, found, scene, items, values)?;
+    add_names(alloc, found, scene, items, values)?;
+    add_each_value(alloc, found, scene, values)?;
+    add_enum_options(alloc, found, scene, items)
+}
+
 /// Adds what is wrong with an enum.
 pub(crate) fn add_enum_flaws(
     alloc: Global,
@@ -199,16 +222,6 @@ pub(crate) fn add_enum_flaws(
         ++ enum_flaws scene.now enumeration.now.name
         (trees enum_item_tree enumeration.now.members.items)) }
 {
-    let items = enumeration.members.as_slice();
-    let values = values(alloc, items)?;
-    add_if(
-        found,
-        values.is_empty(),
-        FaultKind::EmptyEnum,
-        enumeration.name,
-    )?;
-    add_number_flaws(alloc, found, scene, items, &values)?;
-    add_names(alloc, found, scene, items, &values)?;
-    add_each_value(alloc, found, scene, &values)?;
-    add_enum_options(alloc, found, scene, items)
+    let values = values(alloc, enumeration.members.as_slice())?;
+    add_flaws_with_values(alloc, found, scene, enumeration, &values)
 }

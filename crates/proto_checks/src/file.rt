@@ -190,8 +190,8 @@ fn add_items(
 pub fn file_flaws(alloc: Global, scene: &Scene, file: &File) -> Result<Vec<Flaw>, NoMemory>
     ensures { IfOk result (λ found. found.items ≡ file_flaws scene.now (tree_of_file file.now)) }
 {
-    let mut found = Vec::new(alloc);
     let options = file_options(alloc, file)?;
+    let mut found = Vec::new(alloc);
     add_option_flaws(alloc, &mut found, scene, Element::File, &options)?;
     add_items(alloc, &mut found, scene, &file.items)?;
     Ok(found)

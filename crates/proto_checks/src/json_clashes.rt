@@ -46,9 +46,9 @@ fn add_repeated_names(
         (map (λ f. f.name) (map field_of fields.now))
         (after_earlier bytes_eq (map (json_name_of scene.now) (map field_of fields.now)))) }
 {
-    let tokens = name_tokens(alloc, fields)?;
     let names = json_names(alloc, scene, fields)?;
     let flags = repeats(alloc, names)?;
+    let tokens = name_tokens(alloc, fields)?;
     add_marked(found, FaultKind::JsonClash, &tokens, &flags)
 }
 

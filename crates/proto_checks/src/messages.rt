@@ -3,7 +3,7 @@
 ghost use Rattle.std.specs.Prelude.{◌≡◌, ◌++◌, flat_map, map, OnOk};
 ghost use Rattle.proto_faults.specs.declared.fault.FaultKind.TheVariants as kind;
 ghost use Rattle.proto_tree.specs.File.{member_tree, trees};
-ghost use Rattle.proto_parts.specs.Parts.{closed_ranges, options_in, reserved_names_in, statements};
+ghost use Rattle.proto_parts.specs.Parts.{closed_ranges, fields_in, options_in, reserved_names_in, statements};
 ghost use Rattle.proto_parts.specs.Views.{field_of};
 ghost use Rattle.proto_parts.specs.declared.options.Element.TheVariants as element;
 ghost use Rattle.proto_numbers.specs.Flaws.{flaw_if};
@@ -109,6 +109,26 @@ fn add_message_options(
     add_option_flaws(alloc, found, scene, Element::Message, &options)
 }
 
+// What is wrong with a message of these fields.
+fn add_flaws_with_fields(
+    alloc: Global,
+    found: &mut Vec<Flaw>,
+    scene: &Scene,
+    members: &[Member],
+    fields: &[FieldAt],
+) -> Result<(), NoMemory>
+    requires { map field_of fields.now ≡ fields_in (trees member_tree members.now) }
+    ensures { OnOk result (found.new.items ≡ found.old.items
+        ++ message_flaws scene.now (trees member_tree members.now)) }
+{
+    add_each_field(alloc, found, scene, fields)?;
+    add_numbers(alloc, found, scene, members, fields)?;
+    add_names(alloc, found, scene, members, fields)?;
+    add_json_clashes(alloc, found, scene, fields)?;
+    add_extension_flaws(alloc, found, scene, members)?;
+    add_message_options(alloc, found, scene, members)
+}
+
 /// Adds what is wrong with a message, without what is nested in it.
 pub(crate) fn add_message_flaws(
     alloc: Global,
@@ -120,10 +140,5 @@ pub(crate) fn add_message_flaws(
         ++ message_flaws scene.now (trees member_tree members.now)) }
 {
     let fields = fields_of(alloc, members)?;
-    add_each_field(alloc, found, scene, &fields)?;
-    add_numbers(alloc, found, scene, members, &fields)?;
-    add_names(alloc, found, scene, members, &fields)?;
-    add_json_clashes(alloc, found, scene, &fields)?;
-    add_extension_flaws(alloc, found, scene, members)?;
-    add_message_options(alloc, found, scene, members)
+    add_flaws_with_fields(alloc, found, scene, members, &fields)
 }

@@ -1,13 +1,23 @@
-use Rattle.std.proofs.Common.{◌≡◌, ◌++◌, ℕ, Bool, List, [], length, map, OnOk, take, sym, ap, subst, ◌∙◌}
+use Rattle.std.proofs.Common.{◌≡◌, ◌++◌, ℕ, Bool, List, [], ◌∷◌, length, map, OnOk, take, sym, ap, subst, ◌∙◌}
 use Rattle.std.specs.Str.{bytes_eq}
-use Rattle.std.proofs.lemmas.List.{take_all}
+use Rattle.std.proofs.lemmas.List.{map_push, take_all}
 use Rattle.proto_faults.specs.declared.fault.FaultKind.TheVariants as kind
 use Rattle.proto_parts.specs.Parts.{OptionOf}
 use Rattle.proto_parts.specs.Scenes.{text}
 use Rattle.proto_parts.specs.Views.{option_of}
 use Rattle.proto_numbers.specs.Flaws.{after_earlier, marked}
 use Rattle.proto_checks.proofs.OptionNames.{earlier_map, flags_length}
+use Rattle.proto_checks.proofs.Turns.{listed_more}
 use Rattle.proto_checks.proofs.options.add_repeated.Goals as goal
+
+pub loop-option-preserved : goal.loop-option-preserved
+loop-option-preserved c =
+    let option = c.option-item.result in
+    record {
+      tokens = listed_more (λ o. o.name) option_of c.args.options.now c.loop-option.option-index option option c.loop-option.tokens.items _ c.loop-option-test.true c.option-item.is c.in_ok-push.ensures.items c.loop-option.invariant.tokens;
+      names = listed_more (λ o. text c.args.scene.now o.name) option_of c.args.options.now c.loop-option.option-index option option (map (λ n. n.now) c.loop-option.names.items) _ c.loop-option-test.true c.option-item.is
+          (ap (map (λ n. n.now)) c.in_ok-push-2.ensures.items ∙ map_push (λ n. n.now) c.loop-option.names.items c.text.result ∙ ap (λ (name : List ℕ). map (λ n. n.now) c.loop-option.names.items ++ name ∷ []) c.text.ensures) c.loop-option.invariant.names;
+    }
 
 pub add_marked-requires : goal.add_marked-requires
 add_marked-requires c =
