@@ -2,17 +2,7 @@
 
 use std::process::Abort;
 
-/// Ends the test with the row unless the answer is yes. An answer that could not be given is handed on.
-pub(crate) fn expect<R: Abort, E: Drop>(
-    rt: &R,
-    answer: Result<bool, E>,
-    row: &str,
-) -> Result<(), E> {
-    match answer {
-        Ok(is_row) => {
-            assert!(rt; is_row, "{row}");
-            Ok(())
-        }
-        Err(error) => Err(error),
-    }
+/// Ends the test with the row unless the answer is yes.
+pub(crate) fn expect(rt: &impl Abort, is_row: bool, row: &str) {
+    assert!(rt; is_row, "{row}");
 }

@@ -1,32 +1,27 @@
 //! Tests of the files of a workspace, through public calls alone.
 
 use crate::expect::expect;
-use crate::repeated::repeated;
-use proto_faults::{Fault, FaultKind, NoMemory, SchemaFault};
+use proto_faults::{FaultKind, SchemaFault};
 use proto_files::{
     Files, Paths, Words, all_paths, are_read, fault_at_token, file_named, is_workspace_path,
     offset_of,
 };
 use proto_text::{Span, Token, TokenKind};
-use std::alloc::Global;
-use std::test::Fail;
+use std::process::Abort;
 
 // The letter `a` so many times, with this behind it.
-fn long_path(alloc: Global, count: u32, end: &str) -> Result<String, NoMemory> {
-    let mut path = String::new(alloc);
-    for _ in 0..count {
-        path.push('a')?;
-    }
-    path.push_str(end)?;
-    Ok(path)
+fn long_path<R: AllocGlobal + Abort>(rt: &R, count: usize, end: &str) -> String {
+    let mut path = "a".repeat(rt.alloc(), count).expect(rt, "memory");
+    path.push_str(end).expect(rt, "memory");
+    path
 }
 
-fn is_path(alloc: Global, count: u32, end: &str, wanted: bool) -> Result<bool, NoMemory> {
-    Ok(is_workspace_path(long_path(alloc, count, end)?.as_str()) == wanted)
+fn is_path<R: AllocGlobal + Abort>(rt: &R, count: usize, end: &str) -> bool {
+    is_workspace_path(long_path(rt, count, end).as_str())
 }
 
 /// How many letters stand before the end of a path, the end, and whether it is a path of a workspace.
-const PATHS: &[(u32, &str, bool)] = &[
+const PATHS: &[(usize, &str, bool)] = &[
     (249, ".proto", true),
     (249, ".protoa.proto", false),
     (0, "a/b-c_D.9/e.proto", true),
@@ -43,26 +38,35 @@ const PATHS: &[(u32, &str, bool)] = &[
 ];
 
 #[test]
-fn workspace_paths(rt: HostRuntime) -> Result<(), Fail> {
-    assert!(rt; long_path(rt.alloc(), 249, ".proto")?.len() == 255);
+fn workspace_paths(rt: HostRuntime) {
+    assert!(rt; long_path(&rt, 249, ".proto").len() == 255);
     for (count, end, wanted) in PATHS {
-        expect(&rt, is_path(rt.alloc(), *count, end, *wanted), end)?;
+        expect(&rt, is_path(&rt, *count, end) == *wanted, end);
     }
-    Ok(())
 }
 
-fn is_fault(alloc: Global, fault: &Fault, said: &str) -> Result<bool, NoMemory> {
-    let (number, name) = (fault.number(), fault.name());
-    let (path, offset) = (fault.path.as_str(), fault.offset);
-    Ok(format!(in alloc; "{number} {name} {path} {offset}")?.as_str() == said)
-}
+/// A fault: its number, its name, its path and its offset.
+struct Said(u32, &'static str, &'static str, u32);
 
-// Whether a call answers this: the number, the name, the path and the offset of its fault, or `good`.
-fn is_answer(alloc: Global, fault: &Option<SchemaFault>, said: &str) -> Result<bool, NoMemory> {
+fn is_fault(fault: &SchemaFault, said: &Said) -> bool {
+    let Said(number, name, path, offset) = said;
     match fault {
-        None => Ok(said == "good"),
-        Some(SchemaFault::Schema(fault)) => is_fault(alloc, fault, said),
-        Some(SchemaFault::NoMemory) => Err(NoMemory),
+        SchemaFault::Schema(fault) => {
+            fault.number() == *number
+                && fault.name() == *name
+                && fault.path.as_str() == *path
+                && fault.offset == *offset
+        }
+        SchemaFault::NoMemory => false,
+    }
+}
+
+// Whether a call has this fault, or none.
+fn is_answer(fault: &Option<SchemaFault>, said: &Option<Said>) -> bool {
+    match (fault, said) {
+        (None, None) => true,
+        (Some(fault), Some(said)) => is_fault(fault, said),
+        _ => false,
     }
 }
 
@@ -70,148 +74,166 @@ fn is_answer(alloc: Global, fault: &Option<SchemaFault>, said: &str) -> Result<b
 type Given = Vec<(String, Vec<u8>)>;
 
 // Puts one more file, with the text so many times.
-fn put_file(
-    alloc: Global,
+fn put_file<R: AllocGlobal + Abort>(
+    rt: &R,
     files: &mut Given,
     path: &str,
     text: &[u8],
     count: usize,
-) -> Result<(), NoMemory> {
-    let text = repeated(alloc, text, count)?;
-    let path = String::from_str(alloc, path)?;
-    files.push((path, text))?;
-    Ok(())
+) {
+    let path = String::from_str(rt.alloc(), path).expect(rt, "memory");
+    let text = text.repeat(rt.alloc(), count).expect(rt, "memory");
+    files.push((path, text)).expect(rt, "memory");
 }
 
 // Files with the paths, separated by spaces, each with a space as its one byte.
-fn given(alloc: Global, paths: &str) -> Result<Given, NoMemory> {
-    let mut files = Vec::new(alloc);
+fn given<R: AllocGlobal + Abort>(rt: &R, paths: &str) -> Given {
+    let mut files = Vec::new(rt.alloc());
     for path in paths.split(' ') {
-        put_file(alloc, &mut files, path, b" ", 1)?;
+        put_file(rt, &mut files, path, b" ", 1);
     }
-    Ok(files)
+    files
 }
 
 // Whether this is said of files with the paths, of which there may be so many.
-fn are_paths(
-    alloc: Global,
+fn are_paths<R: AllocGlobal + Abort>(
+    rt: &R,
     limit: Option<usize>,
     paths: &str,
-    said: &str,
-) -> Result<bool, NoMemory> {
-    let given = given(alloc, paths)?;
+    said: &Option<Said>,
+) -> bool {
+    let given = given(rt, paths);
     let made = match limit {
-        Some(limit) => Paths::up_to(alloc, limit.min(4096), given),
-        None => Paths::new(alloc, given),
+        Some(limit) => Paths::up_to(rt.alloc(), limit.min(4096), given),
+        None => Paths::new(rt.alloc(), given),
     };
     let fault = made.err();
-    is_answer(alloc, &fault, said)
+    is_answer(&fault, said)
 }
 
-/// How many files there may be, if it is said, their paths, and the answer.
-const WORKSPACES: &[(Option<usize>, &str, &str)] = &[
-    (Some(4096), "b.proto a/c.proto a.proto", "good"),
+/// How many files there may be, if it is said, their paths, and the fault.
+const WORKSPACES: &[(Option<usize>, &str, Option<Said>)] = &[
+    (Some(4096), "b.proto a/c.proto a.proto", None),
     (
         Some(4096),
         "b.proto a.proto b.proto",
-        "34 DoublePath b.proto 0",
+        Some(Said(34, "DoublePath", "b.proto", 0)),
     ),
-    (Some(4096), "b.txt a.proto b.txt", "33 BadPath b.txt 0"),
-    (Some(1), "b.proto a.proto", "35 TooManyFiles b.proto 0"),
-    (Some(2), "b.proto a.proto", "good"),
+    (
+        Some(4096),
+        "b.txt a.proto b.txt",
+        Some(Said(33, "BadPath", "b.txt", 0)),
+    ),
+    (
+        Some(1),
+        "b.proto a.proto",
+        Some(Said(35, "TooManyFiles", "b.proto", 0)),
+    ),
+    (Some(2), "b.proto a.proto", None),
     (
         Some(1),
         "b.proto a.proto c.txt",
-        "35 TooManyFiles b.proto 0",
+        Some(Said(35, "TooManyFiles", "b.proto", 0)),
     ),
     (
         Some(1),
         "b.proto a.proto a.proto",
-        "34 DoublePath a.proto 0",
+        Some(Said(34, "DoublePath", "a.proto", 0)),
     ),
-    (Some(0), "b.proto a.proto", "35 TooManyFiles a.proto 0"),
-    (None, "c.proto a.proto", "good"),
-    (None, "c.proto .", "33 BadPath . 0"),
+    (
+        Some(0),
+        "b.proto a.proto",
+        Some(Said(35, "TooManyFiles", "a.proto", 0)),
+    ),
+    (None, "c.proto a.proto", None),
+    (None, "c.proto .", Some(Said(33, "BadPath", ".", 0))),
 ];
 
 #[test]
-fn faults_of_paths(rt: HostRuntime) -> Result<(), Fail> {
+fn faults_of_paths(rt: HostRuntime) {
     assert!(rt; FaultKind::BadPath.phase() == 0);
     for (limit, paths, said) in WORKSPACES {
-        expect(&rt, are_paths(rt.alloc(), *limit, paths, said), paths)?;
+        expect(&rt, are_paths(&rt, *limit, paths, said), paths);
     }
-    Ok(())
 }
 
 /// The path of a file, a text, and how often it stands in the file.
 type Text = (&'static str, &'static [u8], usize);
 
 // Files from their paths and texts.
-fn written(alloc: Global, texts: &[Text]) -> Result<Given, NoMemory> {
-    let mut files = Vec::new(alloc);
+fn written<R: AllocGlobal + Abort>(rt: &R, texts: &[Text]) -> Given {
+    let mut files = Vec::new(rt.alloc());
     for (path, text, count) in texts {
-        put_file(alloc, &mut files, path, text, *count)?;
+        put_file(rt, &mut files, path, text, *count);
     }
-    Ok(files)
+    files
 }
 
-fn read(alloc: Global, texts: &[Text]) -> Result<Files, SchemaFault> {
-    Files::read(alloc, Paths::new(alloc, written(alloc, texts)?)?)
+fn read<R: AllocGlobal + Abort>(rt: &R, texts: &[Text]) -> Result<Files, SchemaFault> {
+    let paths = Paths::new(rt.alloc(), written(rt, texts)).expect(rt, "paths");
+    Files::read(rt.alloc(), paths)
 }
 
 /// Texts, and what reading them answers.
-const FAULTS: &[(&[Text], &str)] = &[
+const FAULTS: &[(&[Text], Said)] = &[
     (
         &[("b.proto", b"1x", 1), ("a.proto", b"message", 1)],
-        "7 BadNumber b.proto 0",
+        Said(7, "BadNumber", "b.proto", 0),
     ),
     (
         &[("b.proto", b"/*", 1), ("a.proto", b"a $", 1)],
-        "3 BadChar a.proto 2",
+        Said(3, "BadChar", "a.proto", 2),
     ),
     (
         &[("a.proto", b"", 1), ("b.proto", b" /*", 1)],
-        "4 OpenComment b.proto 1",
+        Said(4, "OpenComment", "b.proto", 1),
     ),
-    (&[("a.proto", b"import 'b", 1)], "5 OpenString a.proto 7"),
-    (&[("a.proto", b"'\\q'", 1)], "6 BadEscape a.proto 0"),
+    (
+        &[("a.proto", b"import 'b", 1)],
+        Said(5, "OpenString", "a.proto", 7),
+    ),
+    (
+        &[("a.proto", b"'\\q'", 1)],
+        Said(6, "BadEscape", "a.proto", 0),
+    ),
     (
         &[("a.proto", b"", 1), ("b.proto", b" message", 1)],
-        "8 Syntax b.proto 1",
+        Said(8, "Syntax", "b.proto", 1),
     ),
     (
         &[
             ("a.proto", b"message M {}", 1),
             ("b.proto", b"message M { a b }", 1),
         ],
-        "8 Syntax b.proto 12",
+        Said(8, "Syntax", "b.proto", 12),
     ),
     // Messages in messages, 33 deep.
     (
         &[("b.proto", b"message", 1), ("a.proto", b"message M{", 33)],
-        "9 TooDeep a.proto 329",
+        Said(9, "TooDeep", "a.proto", 329),
     ),
     (
         &[("b.proto", b"", 1), ("a.proto", b"\xff", 1)],
-        "2 NotUtf8 a.proto 0",
+        Said(2, "NotUtf8", "a.proto", 0),
     ),
     (
         &[("b.proto", b"", 1), ("a.proto", b" ", 1048577)],
-        "1 TooLarge a.proto 0",
+        Said(1, "TooLarge", "a.proto", 0),
     ),
 ];
 
-fn are_refused(alloc: Global, texts: &[Text], said: &str) -> Result<bool, NoMemory> {
-    let fault = read(alloc, texts).err();
-    is_answer(alloc, &fault, said)
+fn are_refused<R: AllocGlobal + Abort>(rt: &R, texts: &[Text], said: &Said) -> bool {
+    match read(rt, texts) {
+        Ok(_) => false,
+        Err(fault) => is_fault(&fault, said),
+    }
 }
 
 #[test]
-fn faults_of_texts_and_grammar(rt: HostRuntime) -> Result<(), Fail> {
+fn faults_of_texts_and_grammar(rt: HostRuntime) {
     for (texts, said) in FAULTS {
-        expect(&rt, are_refused(rt.alloc(), texts, said), said)?;
+        expect(&rt, are_refused(&rt, texts, said), said.1);
     }
-    Ok(())
 }
 
 const SCHEMA: &[u8] = b"syntax = \"proto3\"; message A { string b_c = 1; }";
@@ -245,7 +267,7 @@ enum Answer {
     /// and has no text.
     Token(u32, u32, u32, &'static str, Option<&'static str>),
     /// A file, a token, and the fault at it of a name that is there twice.
-    Duplicate(u32, u32, &'static str),
+    Duplicate(u32, u32, &'static Said),
 }
 
 const ANSWERS: &[(&[Text], Answer)] = &[
@@ -256,7 +278,10 @@ const ANSWERS: &[(&[Text], Answer)] = &[
     (THREE, Answer::Place("a/b.proto", Some(1))),
     (THREE, Answer::Place("b", None)),
     (THREE, Answer::Paths(&["a.proto", "a/b.proto", "b.proto"])),
-    (TWO, Answer::Duplicate(1, 5, "13 DuplicateName b.proto 27")),
+    (
+        TWO,
+        Answer::Duplicate(1, 5, &Said(13, "DuplicateName", "b.proto", 27)),
+    ),
 ];
 
 const TOKENS: &[(&[Text], Answer)] = &[
@@ -322,15 +347,15 @@ fn has_text(files: &Files, file: u32, token: u32, offset: u32, text: &str) -> bo
 }
 
 // Whether a token is a string of this value, or none.
-fn has_value(
-    alloc: Global,
+fn has_value<R: AllocGlobal + Abort>(
+    rt: &R,
     files: &Files,
     file: u32,
     token: u32,
     value: Option<&str>,
-) -> Result<bool, NoMemory> {
+) -> bool {
     if file as usize >= files.len() {
-        return Ok(false);
+        return false;
     }
     match files.tokens(file as usize).get(token as usize) {
         Some(
@@ -338,80 +363,72 @@ fn has_value(
                 kind: TokenKind::Text,
                 ..
             },
-        ) => Ok(value == Some(files.string_value(alloc, file, token)?.as_str())),
-        _ => Ok(value.is_none()),
+        ) => {
+            let string = files
+                .string_value(rt.alloc(), file, token)
+                .expect(rt, "memory");
+            value == Some(string.as_str())
+        }
+        _ => value.is_none(),
     }
 }
 
 // The same of the words of a file, which say of no other value that it is the token's.
-fn says_value(
-    alloc: Global,
+fn says_value<R: AllocGlobal + Abort>(
+    rt: &R,
     words: &Words,
     token: u32,
     value: Option<&str>,
-) -> Result<bool, NoMemory> {
+) -> bool {
     let said = match value {
         Some(value) => words.says(token, value.as_bytes()) && !words.says(token, b"proto"),
         None => !words.says(token, words.get(token).as_bytes()),
     };
-    match words.string(alloc, token)? {
-        Some(string) => Ok(said && value == Some(string.as_str())),
-        None => Ok(said && value.is_none()),
-    }
+    let string = words.string(rt.alloc(), token).expect(rt, "memory");
+    said && value == string.as_deref()
 }
 
-fn is_token(
-    alloc: Global,
+fn is_token<R: AllocGlobal + Abort>(
+    rt: &R,
     files: &Files,
     file: u32,
     token: u32,
     value: Option<&str>,
-) -> Result<bool, NoMemory> {
-    if file as usize >= files.len() {
-        return Ok(false);
-    }
-    if says_value(alloc, &Words::new(files, file as usize), token, value)? {
-        has_value(alloc, files, file, token, value)
-    } else {
-        Ok(false)
-    }
+) -> bool {
+    (file as usize) < files.len()
+        && says_value(rt, &Words::new(files, file as usize), token, value)
+        && has_value(rt, files, file, token, value)
 }
 
-fn is_duplicate(
-    alloc: Global,
+fn is_duplicate<R: AllocGlobal + Abort>(
+    rt: &R,
     files: &Files,
     file: u32,
     token: u32,
-    said: &str,
-) -> Result<bool, NoMemory> {
+    said: &Said,
+) -> bool {
     if file as usize >= files.len() {
-        return Ok(false);
+        return false;
     }
-    let kind = FaultKind::DuplicateName;
-    let fault = Some(fault_at_token(alloc, files, file, token, kind));
-    is_answer(alloc, &fault, said)
+    let fault = fault_at_token(rt.alloc(), files, file, token, FaultKind::DuplicateName);
+    is_fault(&fault, said)
 }
 
-fn are_all_paths(alloc: Global, files: &Files, paths: &[&str]) -> Result<bool, NoMemory> {
-    Ok(all_paths(alloc, files)?.as_slice() == paths)
+fn are_all_paths<R: AllocGlobal + Abort>(rt: &R, files: &Files, paths: &[&str]) -> bool {
+    all_paths(rt.alloc(), files).expect(rt, "memory").as_slice() == paths
 }
 
-fn is_given(alloc: Global, files: &Files, answer: &Answer) -> Result<bool, NoMemory> {
+fn is_given<R: AllocGlobal + Abort>(rt: &R, files: &Files, answer: &Answer) -> bool {
     match answer {
-        Answer::Count(count) => Ok(files.len() == *count && files.is_empty() == (*count == 0)),
-        Answer::Paths(paths) => are_all_paths(alloc, files, paths),
-        Answer::Place(path, place) => Ok(is_place(files, path, *place)),
-        Answer::File(file, path, length, tokens) => {
-            Ok(is_file(files, *file, path, *length, *tokens))
-        }
+        Answer::Count(count) => files.len() == *count && files.is_empty() == (*count == 0),
+        Answer::Paths(paths) => are_all_paths(rt, files, paths),
+        Answer::Place(path, place) => is_place(files, path, *place),
+        Answer::File(file, path, length, tokens) => is_file(files, *file, path, *length, *tokens),
         Answer::Token(file, token, offset, text, value) => {
-            if has_text(files, *file, *token, *offset, text) {
-                is_token(alloc, files, *file, *token, *value)
-            } else {
-                Ok(false)
-            }
+            has_text(files, *file, *token, *offset, text)
+                && is_token(rt, files, *file, *token, *value)
         }
-        Answer::Duplicate(file, token, said) => is_duplicate(alloc, files, *file, *token, said),
+        Answer::Duplicate(file, token, said) => is_duplicate(rt, files, *file, *token, said),
     }
 }
 
@@ -422,30 +439,28 @@ fn name_of(answer: &Answer) -> &'static str {
         Answer::Paths(_) => "paths",
         Answer::Place(path, _) | Answer::File(_, path, _, _) => path,
         Answer::Token(_, _, _, text, _) => text,
-        Answer::Duplicate(_, _, said) => said,
+        Answer::Duplicate(_, _, Said(_, name, _, _)) => name,
     }
 }
 
-// The one owner of files, which has nothing to give up for.
-fn are_given(alloc: Global, texts: &[Text], answer: &Answer) -> Result<bool, SchemaFault> {
-    let files = read(alloc, texts)?;
-    is_given(alloc, &files, answer).map_err(SchemaFault::from)
+// The one owner of files.
+fn are_given<R: AllocGlobal + Abort>(rt: &R, texts: &[Text], answer: &Answer) -> bool {
+    let files = read(rt, texts).expect(rt, "files");
+    is_given(rt, &files, answer)
 }
 
 #[test]
-fn answers_of_files(rt: HostRuntime) -> Result<(), Fail> {
+fn answers_of_files(rt: HostRuntime) {
     for (texts, answer) in ANSWERS {
-        expect(&rt, are_given(rt.alloc(), texts, answer), name_of(answer))?;
+        expect(&rt, are_given(&rt, texts, answer), name_of(answer));
     }
-    Ok(())
 }
 
 #[test]
-fn texts_and_values_of_tokens(rt: HostRuntime) -> Result<(), Fail> {
+fn texts_and_values_of_tokens(rt: HostRuntime) {
     for (texts, answer) in TOKENS {
-        expect(&rt, are_given(rt.alloc(), texts, answer), name_of(answer))?;
+        expect(&rt, are_given(&rt, texts, answer), name_of(answer));
     }
-    Ok(())
 }
 
 fn twice<T: Copy>(value: T) -> (T, T) {

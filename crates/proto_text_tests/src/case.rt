@@ -4,9 +4,7 @@ use crate::expect::expect;
 use proto_case::{
     camel_from, entry_name, is_lower_snake, is_pascal, is_upper_snake, is_version, upper,
 };
-use proto_faults::NoMemory;
-use std::alloc::Global;
-use std::test::Fail;
+use std::process::Abort;
 
 /// A rule of names or versions.
 enum Rule {
@@ -67,7 +65,7 @@ fn holds(rule: &Rule, name: &str) -> bool {
 fn names_and_versions(rt: HostRuntime) {
     for (rule, wanted, names) in NAMES {
         for name in names.split('|') {
-            assert!(rt; holds(rule, name) == *wanted, "{name}");
+            expect(&rt, holds(rule, name) == *wanted, name);
         }
     }
 }
@@ -108,23 +106,23 @@ const TURNED: &[(Style, &str, &str)] = &[
     (Style::Entry, "_1", "1Entry"),
 ];
 
-fn turned(alloc: Global, style: &Style, name: &str) -> Result<String, NoMemory> {
-    match style {
-        Style::Upper => upper(alloc, name),
-        Style::Camel => camel_from(alloc, false, name),
-        Style::Pascal => camel_from(alloc, true, name),
-        Style::Entry => entry_name(alloc, name),
-    }
+fn turned<R: AllocGlobal + Abort>(rt: &R, style: &Style, name: &str) -> String {
+    let turned = match style {
+        Style::Upper => upper(rt.alloc(), name),
+        Style::Camel => camel_from(rt.alloc(), false, name),
+        Style::Pascal => camel_from(rt.alloc(), true, name),
+        Style::Entry => entry_name(rt.alloc(), name),
+    };
+    turned.expect(rt, "memory")
 }
 
-fn is_turned(alloc: Global, style: &Style, name: &str, wanted: &str) -> Result<bool, NoMemory> {
-    Ok(turned(alloc, style, name)?.as_str() == wanted)
+fn is_turned<R: AllocGlobal + Abort>(rt: &R, style: &Style, name: &str, wanted: &str) -> bool {
+    turned(rt, style, name).as_str() == wanted
 }
 
 #[test]
-fn names_in_other_styles(rt: HostRuntime) -> Result<(), Fail> {
+fn names_in_other_styles(rt: HostRuntime) {
     for (style, name, wanted) in TURNED {
-        expect(&rt, is_turned(rt.alloc(), style, name, wanted), name)?;
+        expect(&rt, is_turned(&rt, style, name, wanted), name);
     }
-    Ok(())
 }
