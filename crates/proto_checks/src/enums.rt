@@ -7,10 +7,8 @@ ghost use Rattle.proto_parts.specs.Options.{is_named, truth_of};
 ghost use Rattle.proto_parts.specs.Parts.{enum_ranges, options_in, reserved_names_in, statements, values_in};
 ghost use Rattle.proto_parts.specs.Scenes.{text};
 ghost use Rattle.proto_parts.specs.Views.{option_of};
-ghost use Rattle.proto_parts.specs.declared.options.Element.TheVariants as element;
 ghost use Rattle.proto_numbers.specs.Flaws.{marked};
-ghost use Rattle.proto_checks.specs.FieldFlaws.{option_flaws};
-ghost use Rattle.proto_numbers.specs.NumberFlaws.{enum_range_of, number_of_value, repeated_numbers};
+ghost use Rattle.proto_numbers.specs.NumberFlaws.{broken_ranges, enum_range_of, is_value_number, least_value, most_value, number_of_value, outside, overlaps, repeated_numbers, reserved_numbers};
 ghost use Rattle.proto_checks.specs.FileFlaws.{allows_alias, enum_flaws, first_value_flaws, is_true, name_flaws, value_number_flaws, value_option_flaws};
 
 use crate::names::add_name_flaws;
@@ -82,17 +80,21 @@ fn add_numbers(
     alloc: Global,
     found: &mut Vec<Flaw>,
     scene: &Scene,
-    items: &[EnumItem],
+    options: &[OptionAt],
     ranges: &[RangeAt],
     numbers: &[NumberAt],
 ) -> Result<(), NoMemory>
     ensures { OnOk result (found.new.items ≡ found.old.items
-        ++ value_number_flaws scene.now (trees enum_item_tree items.now) ranges.now numbers.now) }
+        ++ (outside is_value_number numbers.now
+        ++ (first_value_flaws scene.now numbers.now
+        ++ ((if allows_alias scene.now (map option_of options.now) then [] else marked
+        kind.AliasNotAllowed (map (λ n. n.token) numbers.now) (repeated_numbers numbers.now))
+        ++ (reserved_numbers ranges.now numbers.now
+        ++ (broken_ranges least_value most_value ranges.now ++ overlaps ranges.now)))))) }
 {
-    let options = enum_options(alloc, items)?;
     add_outside_values(found, numbers)?;
     add_first_value(found, scene, numbers)?;
-    add_aliases(alloc, found, scene, &options, numbers)?;
+    add_aliases(alloc, found, scene, options, numbers)?;
     add_value_ranges(alloc, found, ranges, numbers)
 }
 
@@ -101,8 +103,10 @@ fn add_number_flaws(
     found: &mut Vec<Flaw>,
     scene: &Scene,
     items: &[EnumItem],
+    options: &[OptionAt],
     values: &[&Value],
 ) -> Result<(), NoMemory>
+    requires { map option_of options.now ≡ options_in (trees enum_item_tree items.now) }
     ensures { OnOk result (found.new.items ≡ found.old.items ++ value_number_flaws scene.now
         (trees enum_item_tree items.now)
         (map (enum_range_of scene.now)
@@ -112,7 +116,7 @@ fn add_number_flaws(
     let closed = enum_ranges(alloc, items)?;
     let ranges = value_ranges(alloc, scene, &closed)?;
     let numbers = value_numbers(alloc, scene, values)?;
-    add_numbers(alloc, found, scene, items, &ranges, &numbers)
+    add_numbers(alloc, found, scene, options, &ranges, &numbers)
 }
 
 // ---- names
@@ -173,31 +177,21 @@ fn add_each_value(
     Ok(())
 }
 
-fn add_enum_options(
-    alloc: Global,
-    found: &mut Vec<Flaw>,
-    scene: &Scene,
-    items: &[EnumItem],
-) -> Result<(), NoMemory>
-    ensures { OnOk result (found.new.items ≡ found.old.items
-        ++ option_flaws scene.now element.Enum (options_in (trees enum_item_tree items.now))) }
-{
-    let options = enum_options(alloc, items)?;
-    add_option_flaws(alloc, found, scene, Element::Enum, &options)
-}
-
 // ---- all of it
 
-// What is wrong with an enum of these values.
+// What is wrong with an enum of these values and options.
 fn add_flaws_with_values(
     alloc: Global,
     found: &mut Vec<Flaw>,
     scene: &Scene,
     enumeration: &Enum,
     values: &[&Value],
+    options: &[OptionAt],
 ) -> Result<(), NoMemory>
-    requires { map (λ v. v.now) values.now
+    requires values { map (λ v. v.now) values.now
         ≡ values_in (trees enum_item_tree enumeration.now.members.items) }
+    requires options { map option_of options.now
+        ≡ options_in (trees enum_item_tree enumeration.now.members.items) }
     ensures { OnOk result (found.new.items ≡ found.old.items
         ++ enum_flaws scene.now enumeration.now.name
         (trees enum_item_tree enumeration.now.members.items)) }
@@ -205,10 +199,10 @@ fn add_flaws_with_values(
     let items = enumeration.members.as_slice();
     let is_empty = values.is_empty();
     add_if(found, is_empty, FaultKind::EmptyEnum, enumeration.name)?;
-    add_number_flaws(alloc, found, scene, items, values)?;
+    add_number_flaws(alloc, found, scene, items, options, values)?;
     add_names(alloc, found, scene, items, values)?;
     add_each_value(alloc, found, scene, values)?;
-    add_enum_options(alloc, found, scene, items)
+    add_option_flaws(alloc, found, scene, Element::Enum, options)
 }
 
 /// Adds what is wrong with an enum.
@@ -222,6 +216,8 @@ pub(crate) fn add_enum_flaws(
         ++ enum_flaws scene.now enumeration.now.name
         (trees enum_item_tree enumeration.now.members.items)) }
 {
-    let values = values(alloc, enumeration.members.as_slice())?;
-    add_flaws_with_values(alloc, found, scene, enumeration, &values)
+    let items = enumeration.members.as_slice();
+    let values = values(alloc, items)?;
+    let options = enum_options(alloc, items)?;
+    add_flaws_with_values(alloc, found, scene, enumeration, &values, &options)
 }

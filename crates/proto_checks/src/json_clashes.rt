@@ -62,8 +62,8 @@ pub(crate) fn add_json_clashes(
     ensures { OnOk result (found.new.items ≡ found.old.items
         ++ json_clashes scene.now (map field_of fields.now)) }
 {
-    if scene.is_proto3() {
-        add_repeated_names(alloc, found, scene, fields)?;
+    if !scene.is_proto3() {
+        return Ok(());
     }
-    Ok(())
+    add_repeated_names(alloc, found, scene, fields)
 }
