@@ -1,8 +1,8 @@
 -- What stands right in a message or a file, of trees that stand one behind another.
-use Rattle.std.proofs.Common.{◌≡◌, ℕ, ◌+◌, ◌<◌, ◌≤◌, List, [], ◌∷◌, ◌++◌, length, get_or, drop, refl, sym, ap, ◌∙◌, map}
+use Rattle.std.proofs.Common.{◌≡◌, ℕ, ◌+◌, ◌<◌, ◌≤◌, List, [], ◌∷◌, ◌++◌, length, get_or, take, drop, refl, sym, ap, ◌∙◌, map, append_assoc}
 use Rattle.std.specs.List.{flat_map}
 use Rattle.std.specs.Prelude.{Option, option_to_list}
-use Rattle.std.proofs.lemmas.List.{append-nil, at_drop_more, at_drop_all}
+use Rattle.std.proofs.lemmas.List.{append-nil, at_drop_more, at_drop_all, map-append, take_more}
 use Rattle.proto_tree.specs.declared.piece.Statement.TheVariants as statement
 use Rattle.proto_tree.specs.declared.piece.Header.TheVariants as header
 use Rattle.proto_tree.specs.File.{trees}
@@ -54,6 +54,37 @@ services_joined scene (Block (header.Message h) i within j rest) u = services_jo
 services_joined scene (Block (header.Oneof h) i within j rest) u = services_joined scene rest u
 services_joined scene (Block (header.Enum h) i within j rest) u = services_joined scene rest u
 services_joined scene (Block (header.Method s) i within j rest) u = services_joined scene rest u
+
+-- what is described of items, with one item more
+pub described_turn : {A D : Type 0} (described : Tree → List D) (view : A → Tree) → ((t u : Tree) → described (joined t u) ≡ described t ++ described u)
+    → (items : List A) (i : ℕ) (x : A) (found next whole : List D) → i < length items → x ≡ get_or items i x → next ≡ found ++ described (view x)
+    → found ++ described (trees view (drop i items)) ≡ whole → next ++ described (trees view (drop (i + 1) items)) ≡ whole
+described_turn described view law items i x found next whole l e new before =
+    let rest = trees view (drop (i + 1) items) in
+    ap (λ (ds : List _). ds ++ described rest) new
+    ∙ append_assoc found (described (view x)) (described rest)
+    ∙ ap (λ (ds : List _). found ++ ds) (sym (law (view x) rest) ∙ ap (λ y. described (joined (view y) rest)) e ∙ sym (at_drop_more (λ xs. described (trees view xs)) items i x l))
+    ∙ before
+
+-- there is no item more
+pub described_none : {A D : Type 0} (described : Tree → List D) (view : A → Tree) → described End ≡ [] → (items : List A) (i : ℕ) (found whole : List D)
+    → length items ≤ i → found ++ described (trees view (drop i items)) ≡ whole → found ≡ whole
+described_none described view none items i found whole l before =
+    sym (append-nil found) ∙ ap (λ (ds : List _). found ++ ds) (sym none ∙ sym (at_drop_all (λ xs. described (trees view xs)) items i l)) ∙ before
+
+-- what is made of each item, with one item more
+pub mapped_turn : {A B D : Type 0} (read : D → B) (described : A → B) (items : List A) (i : ℕ) (x y : A) (found next : List D) (d : D) → i < length items → x ≡ get_or items i y → next ≡ found ++ d ∷ []
+    → read d ≡ described x → map read found ≡ map described (take i items) → map read next ≡ map described (take (i + 1) items)
+mapped_turn read described items i x y found next d l e new is before =
+    ap (map read) new ∙ map-append read found (d ∷ []) ∙ ap (λ (b : _). map read found ++ b ∷ []) (is ∙ ap described e) ∙ ap (λ (bs : List _). bs ++ described (get_or items i y) ∷ []) before
+    ∙ sym (ap (map described) (take_more items i y l) ∙ map-append described (take i items) (get_or items i y ∷ []))
+
+-- the same where what is made is kept as it is
+pub pushed_turn : {A D : Type 0} (made : A → D) (items : List A) (i : ℕ) (x : A) (found next : List D) (d : D) → i < length items → next ≡ found ++ d ∷ []
+    → d ≡ made (get_or items i x) → found ≡ map made (take i items) → next ≡ map made (take (i + 1) items)
+pushed_turn made items i x found next d l new is before =
+    new ∙ ap (λ (y : _). found ++ y ∷ []) is ∙ ap (λ (ys : List _). ys ++ made (get_or items i x) ∷ []) before
+    ∙ sym (ap (map made) (take_more items i x l) ∙ map-append made (take i items) (get_or items i x ∷ []))
 
 -- ---- messages
 

@@ -54,10 +54,11 @@ fn entry_fields(
 {
     let key_type = scalar_type(scene.text(field.key));
     let value_type = type_of(scene, &field.value);
+    let mut fields = Vec::new(alloc);
+    fields.push(entry_field(alloc, "key", 1, key_type, None)?)?;
     let value_name = type_name(alloc, scene, &field.value)?;
-    let key = entry_field(alloc, "key", 1, key_type, None)?;
-    let value = entry_field(alloc, "value", 2, value_type, value_name)?;
-    Ok(vec![in alloc; key, value]?)
+    fields.push(entry_field(alloc, "value", 2, value_type, value_name)?)?;
+    Ok(fields)
 }
 
 /// The message that stands for the pairs of a map field.

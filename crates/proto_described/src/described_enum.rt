@@ -1,7 +1,9 @@
 //! The descriptors of enums.
 
-ghost use Rattle.std.specs.Prelude.{◌≡◌, map, IfOk};
+ghost use Rattle.std.specs.Prelude.{◌≡◌, [], ◌∷◌, ◌++◌, flat_map, map, string_bytes, IfOk, OnOk};
 ghost use Rattle.proto_tree.specs.File.{enum_item_tree, trees};
+ghost use Rattle.proto_parts.specs.Parts.{enum_ranges, reserved_names_in, statements};
+ghost use Rattle.proto_parts.specs.Scenes.{value};
 ghost use Rattle.proto_parts.specs.Views.{option_of};
 ghost use Rattle.proto_numbers.specs.NumberFlaws.{enum_range_of};
 ghost use Rattle.proto_described.specs.Described.{value_described, value_range, enum_options, enum_described};
@@ -17,7 +19,7 @@ use proto_numbers::value_ranges;
 use proto_parts::{
     OptionAt, Scene, enum_ranges, enum_reserved_names, options_between, truth_option, values,
 };
-use proto_tree::{Enum, Range, Signed, Value};
+use proto_tree::{Enum, EnumItem, Range, Signed, Value};
 use std::alloc::Global;
 
 fn value_descriptor(
@@ -77,8 +79,40 @@ fn enum_options(scene: &Scene, options: &[OptionAt]) -> EnumOptions
     }
 }
 
+// The numbers and the names that no value may have.
+fn reserved(
+    alloc: Global,
+    scene: &Scene,
+    items: &[EnumItem],
+) -> Result<(Vec<EnumReservedRange>, Vec<String>), NoMemory>
+    ensures numbers { IfOk result (λ r. r.0.items
+        ≡ map (λ n. value_range (enum_range_of scene.now n))
+        (flat_map enum_ranges (statements (trees enum_item_tree items.now)))) }
+    ensures names { IfOk result (λ r. map string_bytes r.1.items
+        ≡ map (value scene.now) (reserved_names_in (trees enum_item_tree items.now))) }
+{
+    let ranges = enum_ranges(alloc, items)?;
+    let names = enum_reserved_names(alloc, items)?;
+    let numbers = reserved_ranges(alloc, scene, &ranges)?;
+    Ok((numbers, strings(alloc, scene, &names)?))
+}
+
+/// Puts the descriptor of an enum behind those found.
+pub(crate) fn push_enum(
+    alloc: Global,
+    scene: &Scene,
+    found: &mut Vec<EnumDescriptor>,
+    enumeration: &Enum,
+) -> Result<(), NoMemory>
+    ensures { OnOk result (map enum_desc found.new.items ≡ map enum_desc found.old.items
+        ++ enum_described scene.now enumeration.now.name
+        (trees enum_item_tree enumeration.now.members.items) ∷ []) }
+{
+    Ok(found.push(enum_descriptor(alloc, scene, enumeration)?)?)
+}
+
 /// The descriptor of an enum.
-pub(crate) fn enum_descriptor(
+fn enum_descriptor(
     alloc: Global,
     scene: &Scene,
     enumeration: &Enum,
@@ -87,15 +121,14 @@ pub(crate) fn enum_descriptor(
         (trees enum_item_tree enumeration.now.members.items)) }
 {
     let items = &enumeration.members;
-    let values = values(alloc, items)?;
-    let ranges = enum_ranges(alloc, items)?;
-    let names = enum_reserved_names(alloc, items)?;
+    let (reserved_range, reserved_name) = reserved(alloc, scene, items)?;
     let options = proto_parts::enum_options(alloc, items)?;
+    let values = values(alloc, items)?;
     Ok(EnumDescriptor {
         name: String::from_str(alloc, scene.text(enumeration.name))?,
         value: value_descriptors(alloc, scene, &values)?,
-        reserved_range: reserved_ranges(alloc, scene, &ranges)?,
-        reserved_name: strings(alloc, scene, &names)?,
+        reserved_range,
+        reserved_name,
         options: enum_options(scene, &options),
     })
 }

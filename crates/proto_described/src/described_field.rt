@@ -68,10 +68,7 @@ fn default_text(alloc: Global, scene: &Scene, constant: &Constant) -> Result<Str
     match constant {
         Constant::Number(number) => { Ok(default_number(scene.signed(*number)).to_string(alloc)?) }
         Constant::Word(word) => Ok(String::from_str(alloc, scene.text(*word))?),
-        Constant::Text(_) => match text_value(alloc, scene, constant)? {
-            Some(value) => Ok(value),
-            None => Ok(String::new(alloc)),
-        },
+        Constant::Text(_) => Ok(text_value(alloc, scene, constant)?.unwrap_or(String::new(alloc))),
     }
 }
 
@@ -110,16 +107,31 @@ pub(crate) fn field_descriptor(
         ≡ field_described scene.now full.now (field_of field.entry)) }
 {
     let options = options_between(alloc, field.settings)?;
+    field_with(alloc, scene, full, field, &options)
+}
+
+// The same, with the options at the field.
+fn field_with(
+    alloc: Global,
+    scene: &Scene,
+    full: &str,
+    field: FieldAt,
+    options: &[OptionAt],
+) -> Result<FieldDescriptor, NoMemory>
+    requires { map option_of options.now ≡ (field_of field).options }
+    ensures { IfOk result (λ d. field_desc d
+        ≡ field_described scene.now full.now (field_of field.entry)) }
+{
     Ok(FieldDescriptor {
         name: String::from_str(alloc, scene.text(field.name))?,
         number: field_number(scene.number(field.number)),
         label: label_of(scene, field),
         field_type: field_type_of(scene, field),
         type_name: field_type_name(alloc, scene, full, field)?,
-        default_value: default_value(alloc, scene, &options)?,
+        default_value: default_value(alloc, scene, options)?,
         oneof_index: field.oneof,
         json_name: Some(json_name(alloc, scene, field)?),
         proto3_optional: scene.is_proto3() && has_label(scene, "optional", field),
-        options: field_options(scene, &options),
+        options: field_options(scene, options),
     })
 }

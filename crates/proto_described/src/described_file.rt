@@ -1,11 +1,12 @@
 //! What stands right in a file: its package and imports, messages, enums, services and options.
 
-ghost use Rattle.std.specs.Prelude.{◌≡◌, ◌∷◌, if◌then◌else◌, map, option_map, option_to_list, string_bytes, IfOk};
+ghost use Rattle.std.specs.Prelude.{◌≡◌, ◌∷◌, ◌++◌, if◌then◌else◌, map, option_map, option_to_list, string_bytes, IfOk, OnOk};
 ghost use Rattle.proto_tree.specs.File.{item_tree, tree_of_file, trees};
 ghost use Rattle.proto_listing.specs.FromTree.{imports_in, items_in};
 ghost use Rattle.proto_meaning.specs.Joined.{joined};
 ghost use Rattle.proto_listing.specs.Listing.{wanted_of};
 ghost use Rattle.proto_meaning.specs.Tree.{package_of};
+ghost use Rattle.proto_parts.specs.Options.{text_option};
 ghost use Rattle.proto_parts.specs.Parts.{options_in};
 ghost use Rattle.proto_parts.specs.Scenes.{text, value};
 ghost use Rattle.proto_parts.specs.Views.{option_of};
@@ -13,7 +14,7 @@ ghost use Rattle.proto_json.specs.declared.file.Syntax.TheVariants as syntax;
 ghost use Rattle.proto_described.specs.Described.{enums_described, file_options, messages_described, mode_named, package_named, package_prefix, public_places, services_described};
 ghost use Rattle.proto_json.specs.Views.{enum_desc, file_options_desc, messages_desc, service_desc};
 
-use crate::described_enum::enum_descriptor;
+use crate::described_enum::push_enum;
 use crate::described_message::message_descriptor;
 use crate::described_names::absolute;
 use crate::described_service::service_descriptor;
@@ -61,18 +62,22 @@ pub fn message_descriptors(
     Ok(descriptors)
 }
 
-fn item_enum(alloc: Global, scene: &Scene, item: &Item) -> Result<Option<EnumDescriptor>, NoMemory>
-    ensures { IfOk result (λ d. map enum_desc
-        (option_to_list d) ≡ enums_described scene.now (item_tree item.now)) }
+fn push_item_enum(
+    alloc: Global,
+    scene: &Scene,
+    found: &mut Vec<EnumDescriptor>,
+    item: &Item,
+) -> Result<(), NoMemory>
+    ensures { OnOk result (map enum_desc found.new.items
+        ≡ map enum_desc found.old.items ++ enums_described scene.now (item_tree item.now)) }
 {
     match item {
-        Item::Enum(enumeration) => Ok(Some(enum_descriptor(alloc, scene, enumeration)?)),
-        _ => Ok(None),
+        Item::Enum(enumeration) => push_enum(alloc, scene, found, enumeration),
+        _ => Ok(()),
     }
 }
 
 /// The enums right in a file.
-#[tactic(auto, using(crate::proofs::Levels::enums_joined))]
 pub fn enum_descriptors(
     alloc: Global,
     scene: &Scene,
@@ -83,29 +88,27 @@ pub fn enum_descriptors(
 {
     let mut descriptors = Vec::new(alloc);
     for item in items {
-        if let Some(descriptor) = item_enum(alloc, scene, item)? {
-            descriptors.push(descriptor)?;
-        }
+        push_item_enum(alloc, scene, &mut descriptors, item)?;
     }
     Ok(descriptors)
 }
 
-fn item_service(
+fn push_service(
     alloc: Global,
     scene: &Scene,
+    found: &mut Vec<ServiceDescriptor>,
     item: &Item,
-) -> Result<Option<ServiceDescriptor>, NoMemory>
-    ensures { IfOk result (λ d. map service_desc
-        (option_to_list d) ≡ services_described scene.now (item_tree item.now)) }
+) -> Result<(), NoMemory>
+    ensures { OnOk result (map service_desc found.new.items
+        ≡ map service_desc found.old.items ++ services_described scene.now (item_tree item.now)) }
 {
     match item {
-        Item::Service(service) => Ok(Some(service_descriptor(alloc, scene, service)?)),
-        _ => Ok(None),
+        Item::Service(service) => Ok(found.push(service_descriptor(alloc, scene, service)?)?),
+        _ => Ok(()),
     }
 }
 
 /// The services of a file.
-#[tactic(auto, using(crate::proofs::Levels::services_joined))]
 pub fn service_descriptors(
     alloc: Global,
     scene: &Scene,
@@ -116,9 +119,7 @@ pub fn service_descriptors(
 {
     let mut descriptors = Vec::new(alloc);
     for item in items {
-        if let Some(descriptor) = item_service(alloc, scene, item)? {
-            descriptors.push(descriptor)?;
-        }
+        push_service(alloc, scene, &mut descriptors, item)?;
     }
     Ok(descriptors)
 }
@@ -189,6 +190,28 @@ fn mode_named(word: &str) -> OptimizeMode
     }
 }
 
+// The values of three options that are texts, by their names.
+fn texts(
+    alloc: Global,
+    scene: &Scene,
+    options: &[OptionAt],
+    first: &str,
+    second: &str,
+    third: &str,
+) -> Result<(Option<String>, Option<String>, Option<String>), NoMemory>
+    ensures first { IfOk result (λ t. option_map string_bytes t.0
+        ≡ text_option (text scene.now) (value scene.now) first.now (map option_of options.now)) }
+    ensures second { IfOk result (λ t. option_map string_bytes t.1
+        ≡ text_option (text scene.now) (value scene.now) second.now (map option_of options.now)) }
+    ensures third { IfOk result (λ t. option_map string_bytes t.2
+        ≡ text_option (text scene.now) (value scene.now) third.now (map option_of options.now)) }
+{
+    let first = text_option(alloc, scene, options, first)?;
+    let second = text_option(alloc, scene, options, second)?;
+    let third = text_option(alloc, scene, options, third)?;
+    Ok((first, second, third))
+}
+
 fn options_of_file(
     alloc: Global,
     scene: &Scene,
@@ -197,17 +220,33 @@ fn options_of_file(
     ensures { IfOk result (λ o. file_options_desc o
         ≡ file_options scene.now (map option_of options.now)) }
 {
+    let (java_package, java_outer_classname, go_package) = texts(
+        alloc,
+        scene,
+        options,
+        "java_package",
+        "java_outer_classname",
+        "go_package",
+    )?;
+    let (objc_class_prefix, csharp_namespace, php_namespace) = texts(
+        alloc,
+        scene,
+        options,
+        "objc_class_prefix",
+        "csharp_namespace",
+        "php_namespace",
+    )?;
     Ok(FileOptions {
-        java_package: text_option(alloc, scene, options, "java_package")?,
-        java_outer_classname: text_option(alloc, scene, options, "java_outer_classname")?,
+        java_package,
+        java_outer_classname,
         java_multiple_files: truth_option(scene, options, "java_multiple_files"),
         optimize_for: word_option(scene, options, "optimize_for").map(mode_named),
-        go_package: text_option(alloc, scene, options, "go_package")?,
+        go_package,
         deprecated: truth_option(scene, options, "deprecated"),
         cc_enable_arenas: truth_option(scene, options, "cc_enable_arenas"),
-        objc_class_prefix: text_option(alloc, scene, options, "objc_class_prefix")?,
-        csharp_namespace: text_option(alloc, scene, options, "csharp_namespace")?,
-        php_namespace: text_option(alloc, scene, options, "php_namespace")?,
+        objc_class_prefix,
+        csharp_namespace,
+        php_namespace,
     })
 }
 

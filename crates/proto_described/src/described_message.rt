@@ -1,14 +1,15 @@
 //! The descriptors of messages, with those nested in them.
 
-ghost use Rattle.std.specs.Prelude.{◌≡◌, false, [], ◌∷◌, flat_map, map, option_to_list, IfOk};
+ghost use Rattle.std.specs.Prelude.{◌≡◌, false, [], ◌∷◌, ◌++◌, flat_map, map, option_to_list, string_bytes, IfOk, OnOk};
 ghost use Rattle.proto_tree.specs.File.{member_tree, trees, message_tree as written_message};
-ghost use Rattle.proto_parts.specs.Parts.{extension_ranges, fields_in, options_in, reserved_ranges, statements};
+ghost use Rattle.proto_parts.specs.Parts.{extension_ranges, fields_in, options_in, reserved_names_in, reserved_ranges, statements};
+ghost use Rattle.proto_parts.specs.Scenes.{value};
 ghost use Rattle.proto_numbers.specs.NumberFlaws.{range_of};
 ghost use Rattle.proto_described.specs.Described.{enums_described, field_described, message_described, message_options, messages_described, number_range, oneof_names};
 ghost use Rattle.proto_json.specs.Views.{enum_desc, field_desc, message_tree, messages_desc, oneof_desc};
 
 use crate::described_entry::entry_descriptor;
-use crate::described_enum::enum_descriptor;
+use crate::described_enum::push_enum;
 use crate::described_field::field_descriptor;
 use crate::described_names::{below, strings};
 use crate::described_numbers::number_range;
@@ -77,6 +78,54 @@ fn nested_message(
     }
 }
 
+// The fields, the enums and the oneofs right in a message.
+fn declared_parts(
+    alloc: Global,
+    scene: &Scene,
+    full: &str,
+    members: &[Member],
+) -> Result<
+    (
+        Vec<FieldDescriptor>,
+        Vec<EnumDescriptor>,
+        Vec<OneofDescriptor>,
+    ),
+    NoMemory,
+>
+    ensures fields { IfOk result (λ d. map field_desc d.0.items
+        ≡ map (field_described scene.now full.now) (fields_in (trees member_tree members.now))) }
+    ensures enums { IfOk result (λ d. map enum_desc d.1.items
+        ≡ enums_described scene.now (trees member_tree members.now)) }
+    ensures oneofs { IfOk result (λ d. map oneof_desc d.2.items
+        ≡ oneof_names scene.now (trees member_tree members.now)) }
+{
+    let fields = field_descriptors(alloc, scene, full, members)?;
+    let enums = enum_descriptors(alloc, scene, members)?;
+    let oneofs = oneof_descriptors(alloc, scene, members)?;
+    Ok((fields, enums, oneofs))
+}
+
+// The numbers that are left to extensions, and the numbers and the names that no field may have.
+fn reserved_parts(
+    alloc: Global,
+    scene: &Scene,
+    members: &[Member],
+) -> Result<(Vec<NumberRange>, Vec<NumberRange>, Vec<String>), NoMemory>
+    ensures extensions { IfOk result (λ r. r.0.items
+        ≡ map (λ n. number_range (range_of scene.now n))
+        (flat_map extension_ranges (statements (trees member_tree members.now)))) }
+    ensures numbers { IfOk result (λ r. r.1.items
+        ≡ map (λ n. number_range (range_of scene.now n))
+        (flat_map reserved_ranges (statements (trees member_tree members.now)))) }
+    ensures names { IfOk result (λ r. map string_bytes r.2.items
+        ≡ map (value scene.now) (reserved_names_in (trees member_tree members.now))) }
+{
+    let names = reserved_names(alloc, members)?;
+    let extensions = extensions(alloc, scene, members)?;
+    let numbers = reserved_numbers(alloc, scene, members)?;
+    Ok((extensions, numbers, strings(alloc, scene, &names)?))
+}
+
 /// The message of this full name, with the descriptors of those nested in it.
 fn message_around(
     alloc: Global,
@@ -93,15 +142,17 @@ fn message_around(
           nested_type = messages_desc nested.items;
         }) }
 {
+    let (field, enum_type, oneof_decl) = declared_parts(alloc, scene, full, members)?;
+    let (extension_range, reserved_range, reserved_name) = reserved_parts(alloc, scene, members)?;
     Ok(MessageDescriptor {
         name: String::from_str(alloc, scene.text(name))?,
-        field: field_descriptors(alloc, scene, full, members)?,
+        field,
         nested_type: nested,
-        enum_type: enum_descriptors(alloc, scene, members)?,
-        extension_range: extensions(alloc, scene, members)?,
-        oneof_decl: oneof_descriptors(alloc, scene, members)?,
-        reserved_range: reserved_numbers(alloc, scene, members)?,
-        reserved_name: strings(alloc, scene, &reserved_names(alloc, members)?)?,
+        enum_type,
+        extension_range,
+        oneof_decl,
+        reserved_range,
+        reserved_name,
         options: options_of_message(alloc, scene, members)?,
     })
 }
@@ -115,29 +166,29 @@ fn field_descriptors(
     ensures { IfOk result (λ ds. map field_desc ds.items
         ≡ map (field_described scene.now full.now) (fields_in (trees member_tree members.now))) }
 {
-    let mut descriptors = Vec::new(alloc);
     let fields = fields_of(alloc, members)?;
+    let mut descriptors = Vec::new(alloc);
     for field in &fields {
         descriptors.push(field_descriptor(alloc, scene, full, *field)?)?;
     }
     Ok(descriptors)
 }
 
-fn member_enum(
+fn push_member_enum(
     alloc: Global,
     scene: &Scene,
+    found: &mut Vec<EnumDescriptor>,
     member: &Member,
-) -> Result<Option<EnumDescriptor>, NoMemory>
-    ensures { IfOk result (λ d. map enum_desc
-        (option_to_list d) ≡ enums_described scene.now (member_tree member.now)) }
+) -> Result<(), NoMemory>
+    ensures { OnOk result (map enum_desc found.new.items
+        ≡ map enum_desc found.old.items ++ enums_described scene.now (member_tree member.now)) }
 {
     match member {
-        Member::Enum(enumeration) => Ok(Some(enum_descriptor(alloc, scene, enumeration)?)),
-        _ => Ok(None),
+        Member::Enum(enumeration) => push_enum(alloc, scene, found, enumeration),
+        _ => Ok(()),
     }
 }
 
-#[tactic(auto, using(crate::proofs::Levels::enums_joined))]
 fn enum_descriptors(
     alloc: Global,
     scene: &Scene,
@@ -148,30 +199,29 @@ fn enum_descriptors(
 {
     let mut descriptors = Vec::new(alloc);
     for member in members {
-        if let Some(descriptor) = member_enum(alloc, scene, member)? {
-            descriptors.push(descriptor)?;
-        }
+        push_member_enum(alloc, scene, &mut descriptors, member)?;
     }
     Ok(descriptors)
 }
 
-fn member_oneof(
+fn push_oneof(
     alloc: Global,
     scene: &Scene,
+    found: &mut Vec<OneofDescriptor>,
     member: &Member,
-) -> Result<Option<OneofDescriptor>, NoMemory>
-    ensures { IfOk result (λ d. map oneof_desc
-        (option_to_list d) ≡ oneof_names scene.now (member_tree member.now)) }
+) -> Result<(), NoMemory>
+    ensures { OnOk result (map oneof_desc found.new.items
+        ≡ map oneof_desc found.old.items ++ oneof_names scene.now (member_tree member.now)) }
 {
     match member {
-        Member::Oneof(oneof) => Ok(Some(OneofDescriptor {
-            name: String::from_str(alloc, scene.text(oneof.name))?,
-        })),
-        _ => Ok(None),
+        Member::Oneof(oneof) => {
+            let name = String::from_str(alloc, scene.text(oneof.name))?;
+            Ok(found.push(OneofDescriptor { name })?)
+        }
+        _ => Ok(()),
     }
 }
 
-#[tactic(auto, using(crate::proofs::Levels::oneofs_joined))]
 fn oneof_descriptors(
     alloc: Global,
     scene: &Scene,
@@ -182,9 +232,7 @@ fn oneof_descriptors(
 {
     let mut descriptors = Vec::new(alloc);
     for member in members {
-        if let Some(descriptor) = member_oneof(alloc, scene, member)? {
-            descriptors.push(descriptor)?;
-        }
+        push_oneof(alloc, scene, &mut descriptors, member)?;
     }
     Ok(descriptors)
 }

@@ -1,6 +1,6 @@
 //! The descriptors of services and their methods.
 
-ghost use Rattle.std.specs.Prelude.{◌≡◌, [], ◌∷◌, map, option_to_list, IfOk};
+ghost use Rattle.std.specs.Prelude.{◌≡◌, [], ◌∷◌, ◌++◌, map, IfOk, OnOk};
 ghost use Rattle.proto_tree.specs.File.{method_tree, service_item_tree, trees};
 ghost use Rattle.proto_parts.specs.Views.{option_of};
 ghost use Rattle.proto_described.specs.Described.{level_named, method_described, method_options, methods_described, service_described};
@@ -71,21 +71,21 @@ fn method_descriptor(
     }
 }
 
-fn item_method(
+fn push_method(
     alloc: Global,
     scene: &Scene,
+    found: &mut Vec<MethodDescriptor>,
     item: &ServiceItem,
-) -> Result<Option<MethodDescriptor>, NoMemory>
-    ensures { IfOk result (λ d. map method_desc
-        (option_to_list d) ≡ methods_described scene.now (service_item_tree item.now)) }
+) -> Result<(), NoMemory>
+    ensures { OnOk result (map method_desc found.new.items ≡ map method_desc found.old.items
+        ++ methods_described scene.now (service_item_tree item.now)) }
 {
     match item {
-        ServiceItem::Method(method) => Ok(Some(method_descriptor(alloc, scene, method)?)),
-        _ => Ok(None),
+        ServiceItem::Method(method) => Ok(found.push(method_descriptor(alloc, scene, method)?)?),
+        _ => Ok(()),
     }
 }
 
-#[tactic(auto, using(crate::proofs::Levels::methods_joined))]
 fn method_descriptors(
     alloc: Global,
     scene: &Scene,
@@ -96,9 +96,7 @@ fn method_descriptors(
 {
     let mut descriptors = Vec::new(alloc);
     for item in items {
-        if let Some(descriptor) = item_method(alloc, scene, item)? {
-            descriptors.push(descriptor)?;
-        }
+        push_method(alloc, scene, &mut descriptors, item)?;
     }
     Ok(descriptors)
 }

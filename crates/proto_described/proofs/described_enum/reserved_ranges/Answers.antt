@@ -5,7 +5,12 @@ use Rattle.proto_tree.specs.declared.tree.Signed.{Signed}
 use Rattle.proto_numbers.specs.NumberFlaws.{enum_range_of}
 use Rattle.proto_described.specs.Described.{value_range}
 use Rattle.proto_json.proofs.Mapped.{map_both}
+use Rattle.proto_described.proofs.Levels.{pushed_turn}
 use Rattle.proto_described.proofs.described_enum.reserved_ranges.Goals as goal
+
+pub loop-range-preserved : goal.loop-range-preserved
+loop-range-preserved c =
+    pushed_turn value_range c.deref-range-items.result.now c.loop-range.range-index _ _ _ _ c.loop-range-test.true c.in_ok-push.ensures.items c.value_range.ensures c.loop-range.invariant
 
 pub returns : goal.returns
 returns c =

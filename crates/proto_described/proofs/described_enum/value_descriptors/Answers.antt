@@ -3,7 +3,13 @@ use Rattle.std.proofs.lemmas.List.{take_all}
 use Rattle.proto_tree.specs.declared.tree.Value.{Value}
 use Rattle.proto_described.specs.Described.{value_described}
 use Rattle.proto_json.proofs.Mapped.{map_both}
+use Rattle.proto_json.specs.Views.{enum_value_desc}
+use Rattle.proto_described.proofs.Levels.{mapped_turn}
 use Rattle.proto_described.proofs.described_enum.value_descriptors.Goals as goal
+
+pub loop-value-preserved : goal.loop-value-preserved
+loop-value-preserved c =
+    mapped_turn enum_value_desc (λ v. value_described c.args.scene.now v.now) c.args.values.now c.loop-value.value-index c.value-item.result _ _ _ _ c.loop-value-test.true c.value-item.is c.in_ok-push.ensures.items c.in_ok-value_descriptor.ensures c.loop-value.invariant
 
 pub returns : goal.returns
 returns c =

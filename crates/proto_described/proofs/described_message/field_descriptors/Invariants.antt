@@ -5,4 +5,4 @@ use Rattle.proto_json.specs.Views.{field_desc}
 use Rattle.proto_described.proofs.described_message.field_descriptors.Given as goal
 
 abbrev pub invariant-loop-field : goal.invariant-loop-field
-invariant-loop-field l = map field_desc l.descriptors.items ≡ map (field_described l.scene l.full) (map field_of (take l.field-index l.field-items))
+invariant-loop-field l = map field_desc l.descriptors.items ≡ map (λ f. field_described l.scene l.full (field_of f)) (take l.field-index l.field-items)

@@ -1,6 +1,5 @@
-use Rattle.std.proofs.Common.{◌∙◌, ap, map}
+use Rattle.std.proofs.Common.{◌∙◌, ap}
 use Rattle.proto_tree.specs.File.{member_tree, trees}
-use Rattle.proto_parts.specs.Scenes.{value}
 use Rattle.proto_json.specs.Descriptors.{MessageDesc}
 use Rattle.proto_described.specs.Described.{message_described}
 use Rattle.proto_json.specs.Views.{messages_desc}
@@ -13,10 +12,10 @@ returns c =
     ∙ ap (λ (m : MessageDesc). record { message = m; nested_type = messages_desc c.args.nested.items })
     (same_parts _ (message_described c.args.scene.now c.args.full.now c.args.name (trees member_tree c.args.members.now))
     (c.in_ok-from_str.ensures.ok ∙ c.text.ensures)
-    c.in_ok-field_descriptors.ensures
-    c.in_ok-enum_descriptors.ensures
-    c.in_ok-extensions.ensures
-    c.in_ok-oneof_descriptors.ensures
-    c.in_ok-reserved_numbers.ensures
-    (c.in_ok-strings.ensures ∙ ap (map (value c.args.scene.now)) (c.deref.ensures.value ∙ c.in_ok-reserved_names.ensures))
+    c.in_ok-field.ensures.fields
+    c.in_ok-field.ensures.enums
+    c.in_ok-extension_range.ensures.extensions
+    c.in_ok-field.ensures.oneofs
+    c.in_ok-extension_range.ensures.numbers
+    c.in_ok-extension_range.ensures.names
     c.in_ok-options_of_message.ensures)

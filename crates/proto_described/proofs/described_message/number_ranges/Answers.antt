@@ -3,7 +3,12 @@ use Rattle.std.proofs.lemmas.List.{take_all}
 use Rattle.proto_numbers.specs.NumberFlaws.{range_of}
 use Rattle.proto_described.specs.Described.{number_range}
 use Rattle.proto_json.proofs.Mapped.{map_both}
+use Rattle.proto_described.proofs.Levels.{pushed_turn}
 use Rattle.proto_described.proofs.described_message.number_ranges.Goals as goal
+
+pub loop-range-preserved : goal.loop-range-preserved
+loop-range-preserved c =
+    pushed_turn number_range c.deref-range-items.result.now c.loop-range.range-index _ _ _ _ c.loop-range-test.true c.in_ok-push.ensures.items c.number_range.ensures c.loop-range.invariant
 
 pub returns : goal.returns
 returns c =
