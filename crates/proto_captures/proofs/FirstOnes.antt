@@ -1,8 +1,8 @@
 -- The first of the references that are read in step with what they mean.
-use Rattle.std.proofs.Common.{◌≡◌, ℕ, suc, ◌<◌, Bool, true, List, [], ◌∷◌, length, drop, map, min, Option, Some, None, refl, sym, ap, subst, ◌∙◌, inl, inr, arith}
+use Rattle.std.proofs.Common.{◌≡◌, ℕ, suc, ◌+◌, ◌<◌, Bool, true, false, cond, List, [], ◌∷◌, length, get_or, drop, map, min, Option, Some, None, refl, sym, ap, subst, ◌∙◌, inl, inr, arith}
 use Rattle.std.specs.List.{AllPairs, Contains}
 use Rattle.std.proofs.lemmas.Bool.{both_ways, cases_Bool, cases_lt, cond-false, cond-true}
-use Rattle.std.proofs.lemmas.List.{drop_all}
+use Rattle.std.proofs.lemmas.List.{drop_all, drop_more}
 use Rattle.std.proofs.lemmas.Option.{none-some, same_Some}
 use Rattle.proto_text.proofs.Lists.{contains_cases, contains_head, contains_later, contains_map, from_map}
 use Rattle.proto_files.specs.FilesRead.{ReadOf}
@@ -14,6 +14,10 @@ use Rattle.proto_listing.specs.declared.listing.Use.{Use}
 use Rattle.proto_names.specs.declared.references.Meant.{Meant}
 use Rattle.proto_captures.specs.FirstCaptured.{first_of}
 
+-- what is left of a list begins with its next element
+pub front : {X : Type 0} (xs : List X) (i : ℕ) (x : X) → i < length xs → x ≡ get_or xs i x → drop i xs ≡ x ∷ drop (i + 1) xs
+front xs i x lt is = drop_more xs i x lt ∙ ap (λ (y : _). y ∷ drop (i + 1) xs) (sym is)
+
 none_left : (test : Use → Meant → Bool) (us : List Use) → first_of test us [] ≡ None
 none_left test [] = refl
 none_left test (u ∷ us) = refl
@@ -23,6 +27,21 @@ none_behind test us ms n e = elim (cases_lt (length us) (length ms)) [
   | inl l ↦ ap (λ z. first_of test z (drop n ms)) (drop_all n us (omega (arith, e, l)))
   | inr l ↦ ap (first_of test (drop n us)) (drop_all n ms (omega (arith, e, l))) ∙ none_left test (drop n us)
 ]
+
+module _ (test : Use → Meant → Bool) (us : List Use) (ms : List Meant) (n : ℕ) (u : Use) (m : Meant) (more_us : n < length us) (more_ms : n < length ms) (u_is : u ≡ get_or us n u) (m_is : m ≡ get_or ms n m) where
+  -- the pair that is next
+  next_pair : first_of test (drop n us) (drop n ms) ≡ cond (test u m) (Some m.token) (first_of test (drop (n + 1) us) (drop (n + 1) ms))
+  next_pair =
+      ap (λ z. first_of test z (drop n ms)) (front us n u more_us u_is)
+      ∙ ap (first_of test (u ∷ drop (n + 1) us)) (front ms n m more_ms m_is)
+
+  pub passed_over : test u m ≡ false → (k : ℕ) → k ≡ n + 1 → first_of test (drop n us) (drop n ms) ≡ first_of test (drop k us) (drop k ms)
+  passed_over e k is =
+      next_pair ∙ cond-false (test u m) (Some m.token) (first_of test (drop (n + 1) us) (drop (n + 1) ms)) e
+      ∙ ap (λ j. first_of test (drop j us) (drop j ms)) (sym is)
+
+  pub stops_here : test u m ≡ true → first_of test (drop n us) (drop n ms) ≡ Some m.token
+  stops_here e = next_pair ∙ cond-true (test u m) (Some m.token) (first_of test (drop (n + 1) us) (drop (n + 1) ms)) e
 
 -- ---- where each is decided
 

@@ -1,17 +1,35 @@
 -- The parts of the code's answer for one reference, put together.
-use Rattle.std.proofs.Common.{◌≡◌, ℕ, ◌-◌, Bool, true, false, not, ◌&&◌, List, [], ◌∷◌, length, map, sym, ap, ◌∙◌, arith}
+use Rattle.std.proofs.Common.{◌≡◌, ℕ, ◌+◌, ◌-◌, ◌<◌, Bool, true, false, not, ◌&&◌, ◌||◌, nat_le, List, [], ◌∷◌, length, get_or, drop, map, sym, ap, ◌∙◌, arith}
 use Rattle.std.specs.Prelude.{◌==◌, is_some}
 use Rattle.std.proofs.lemmas.Bool.{ne_eqb}
 use Rattle.proto_case.specs.Camel.{entry_name}
 use Rattle.proto_listing.specs.Listing.{path_of, read}
 use Rattle.proto_listing.specs.declared.listing.Listed.{Listed}
 use Rattle.proto_listing.specs.declared.listing.Use.{Use}
+use Rattle.proto_meaning.specs.Forest.{under}
 use Rattle.proto_meaning.specs.Skeleton.{name_of}
 use Rattle.proto_names.specs.Linking.{LinkOf}
 use Rattle.proto_captures.specs.Capturing.{bytes_before, captures_use, first_now, is_cons, shown_from}
 use Rattle.proto_captures.specs.NewTexts.{NewTexts, is_new_word}
 use Rattle.proto_captures.specs.Overtaking.{overtakes_use, sees_text}
 use Rattle.proto_captures.specs.ShownTexts.{below, shown_below}
+use Rattle.proto_captures.proofs.FirstOnes.{front}
+
+-- the front by one word more, and what is left of the scope
+module _ {X : Type 0} (view : X → List ℕ) (test : List ℕ → Bool) (least : ℕ) (xs : List X) (i : ℕ) (x : X) (before here : List ℕ) (more : i < length xs) (is : x ≡ get_or xs i x) (here_is : here ≡ under before (view x)) where
+  abbrev rest_shown : List ℕ → Bool
+  rest_shown z = shown_from test least z (map view (drop (i + 1) xs))
+
+  one_front : shown_from test least before (map view (drop i xs)) ≡ ((nat_le least (length here) && test here) || rest_shown here)
+  one_front =
+      ap (λ ys. shown_from test least before (map view ys)) (front xs i x more is)
+      ∙ ap (λ z. (nat_le least (length z) && test z) || rest_shown z) (sym here_is)
+
+  pub not_shown_here : (nat_le least (length here) && test here) ≡ false → shown_from test least before (map view (drop i xs)) ≡ rest_shown here
+  not_shown_here e = one_front ∙ ap (λ b. b || rest_shown here) e
+
+  pub shown_here : (nat_le least (length here) && test here) ≡ true → shown_from test least before (map view (drop i xs)) ≡ true
+  shown_here e = one_front ∙ ap (λ b. b || rest_shown here) e
 
 pub cons_is : {A B : Type 0} (f : A → B) (xs : List A) (b : Bool) → b ≡ (length xs == 0) → not b ≡ is_cons (map f xs)
 cons_is f [] b e = ap not e

@@ -1,13 +1,15 @@
 //! Whether a rename captures a reference: what its first word is then, and
 //! what it finds on the way to its hit.
 
-ghost use Rattle.std.specs.Prelude.{◌≡◌, ◌<◌, ◌≤◌, ℕ, [], length, get_or, map, IfOk, OnOk, string_bytes};
+ghost use Rattle.std.specs.Prelude.{◌≡◌, ◌<◌, ◌≤◌, ◌&&◌, ℕ, nat_le, [], length, get_or, map, IfOk, OnOk, string_bytes};
 ghost use Rattle.proto_captures.specs.Capturing.{bytes_before, captures_use, first_now, is_cons, shown_from, stands_first};
+ghost use Rattle.proto_captures.specs.FirstCaptured.{or_nothing};
 ghost use Rattle.proto_captures.specs.NewTexts.{texts_of};
 ghost use Rattle.proto_captures.specs.ShownTexts.{shown_below};
 ghost use Rattle.proto_listing.specs.Listing.{needs};
 ghost use Rattle.proto_listing.specs.declared.listing.Listed.{Listed as ListedOf};
 ghost use Rattle.proto_meaning.specs.Forest.{under};
+ghost use Rattle.proto_names.specs.Linking.{text_at};
 ghost use Rattle.proto_text.specs.Texts.{word_at};
 
 use crate::names::NewNames;
@@ -16,7 +18,7 @@ use crate::shown::{Looking, is_shown_below};
 use proto_faults::NoMemory;
 use proto_files::Words;
 use proto_listing::listing::{Listed, Use};
-use proto_names::Link;
+use proto_names::{Link, Meant};
 use proto_tree::Behind;
 use std::alloc::Global;
 
@@ -60,6 +62,36 @@ pub(crate) fn extend(name: &mut String, word: &str) -> Result<(), NoMemory>
     Ok(())
 }
 
+/// The text of what a reference means; empty where the link has no such name.
+pub(crate) fn meaning<'a>(link: &'a Link, meant: Meant) -> &'a str
+    ensures { result.now ≡ or_nothing (text_at link.now meant.row) }
+{
+    match link.name_of(meant.symbol()) {
+        Some(text) => text,
+        None => "",
+    }
+}
+
+/// Whether a front has at least so many bytes, and something is shown in it under the word.
+fn is_shown_in(
+    alloc: Global,
+    link: &Link,
+    names: &NewNames,
+    looking: Looking,
+    least: usize,
+    front: &str,
+    word: &str,
+) -> Result<bool, NoMemory>
+    ensures { IfOk result (λ b. b ≡ (nat_le least (length front.now)
+        && shown_below link.now looking.file looking.is_long
+        (texts_of names.now) front.now word.now)) }
+{
+    if front.len() < least {
+        return Ok(false);
+    }
+    is_shown_below(alloc, link, names, looking, front, word)
+}
+
 /// Whether in one of the fronts of a scope that have at least so many bytes,
 /// something is shown under the word.
 fn is_shown_from(
@@ -78,9 +110,7 @@ fn is_shown_from(
     let mut front = String::new(alloc);
     for part in scope {
         extend(&mut front, part.as_str())?;
-        if front.len() >= least
-            && is_shown_below(alloc, link, names, looking, front.as_str(), word)?
-        {
+        if is_shown_in(alloc, link, names, looking, least, front.as_str(), word)? {
             return Ok(true);
         }
     }

@@ -14,7 +14,7 @@ ghost use Rattle.proto_targets.specs.Aims.{IsAimOf, IsAimedAt};
 ghost use Rattle.proto_text.specs.Texts.{word_at};
 ghost use Rattle.proto_text.specs.Words.{is_run};
 
-use crate::capturing::is_captured;
+use crate::capturing::{is_captured, meaning};
 use crate::names::NewNames;
 use proto_faults::NoMemory;
 use proto_files::{Files, Words, are_read};
@@ -42,7 +42,7 @@ fn first_of<'a>(
         (word_at words.now) listing.now.declared.items) listing.now.used.items meant.now) }
 {
     for (used, meant) in listing.used.iter().zip(meant) {
-        let meaning = link.name_of(meant.symbol()).unwrap_or("");
+        let meaning = meaning(link, *meant);
         if is_captured(
             alloc,
             link,

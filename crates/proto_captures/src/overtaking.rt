@@ -1,6 +1,6 @@
 //! The first reference of a file that is overtaken where the file sees more.
 
-ghost use Rattle.std.specs.Prelude.{◌≡◌, ◌↔◌, ◌<◌, ◌≤◌, ◌||◌, ℕ, List, [], length, get_or, map, IfOk, OnOk, string_bytes};
+ghost use Rattle.std.specs.Prelude.{◌≡◌, ◌↔◌, ◌<◌, ◌≤◌, ◌&&◌, ◌||◌, ℕ, nat_le, List, [], length, get_or, map, IfOk, OnOk, string_bytes};
 ghost use Rattle.std.specs.HashSet.{contains_text};
 ghost use Rattle.std.specs.List.{list_any};
 ghost use Rattle.std.specs.Str.{bytes_eq};
@@ -17,7 +17,7 @@ ghost use Rattle.proto_meaning.specs.Names.{Workspace};
 ghost use Rattle.proto_names.specs.LinkOfFiles.{IsLinkOf};
 ghost use Rattle.proto_text.specs.Texts.{word_at};
 
-use crate::capturing::{bytes_before, extend};
+use crate::capturing::{bytes_before, extend, meaning};
 use crate::scope::scope_words;
 use crate::shown::{below, fits};
 use proto_faults::NoMemory;
@@ -100,6 +100,27 @@ fn is_seen(link: &Link, seen: &Seen, is_long: bool, name: &str) -> bool
     }
 }
 
+/// Whether a front has at least so many bytes, and something that fits is seen in it under the
+/// word.
+fn is_seen_in(
+    alloc: Global,
+    link: &Link,
+    seen: &Seen,
+    around: Around,
+    front: &str,
+    word: &str,
+) -> Result<bool, NoMemory>
+    ensures { IfOk result (λ b. b ≡ (nat_le around.entry.least (length front.now)
+        && sees_text link.now seen.now.marks.now (contains_text seen.now.packages)
+        around.entry.is_long (below front.now word.now))) }
+{
+    if front.len() < around.least {
+        return Ok(false);
+    }
+    let name = below(alloc, front, word)?;
+    Ok(is_seen(link, seen, around.is_long, name.as_str()))
+}
+
 /// Whether in one of the fronts of a scope that have at least so many bytes, something
 /// that fits is seen under the word.
 fn is_seen_from(
@@ -117,11 +138,8 @@ fn is_seen_from(
     let mut front = String::new(alloc);
     for part in around.scope {
         extend(&mut front, part.as_str())?;
-        if front.len() >= around.least {
-            let name = below(alloc, front.as_str(), word)?;
-            if is_seen(link, seen, around.is_long, name.as_str()) {
-                return Ok(true);
-            }
+        if is_seen_in(alloc, link, seen, around, front.as_str(), word)? {
+            return Ok(true);
         }
     }
     Ok(false)
@@ -174,7 +192,7 @@ fn first_in_list(
         (word_at words.now) listing.now.declared.items) listing.now.used.items meant.now) }
 {
     for (used, meant) in listing.used.iter().zip(meant) {
-        let meaning = link.name_of(meant.symbol()).unwrap_or("");
+        let meaning = meaning(link, *meant);
         if is_overtaken(alloc, link, seen, words, &listing.declared, used, meaning)? {
             return Ok(Some(meant.token()));
         }
