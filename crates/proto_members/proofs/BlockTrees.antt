@@ -1,5 +1,5 @@
 -- The messages, oneofs and enums of trees that stand one behind another, and of what stands in a file.
-use Rattle.std.proofs.Common.{◌≡◌, ℕ, false, None, List, [], ◌∷◌, ◌++◌, map, refl, sym, ap, ◌∙◌, append_assoc}
+use Rattle.std.proofs.Common.{◌≡◌, ℕ, false, List, [], ◌∷◌, ◌++◌, refl, sym, ap, ◌∙◌, append_assoc}
 use Rattle.std.specs.List.{filter}
 use Rattle.std.proofs.lemmas.Bool.{and_right}
 use Rattle.std.proofs.lemmas.List.{append-nil}
@@ -18,7 +18,7 @@ use Rattle.proto_tree.specs.declared.tree.ServiceItem.TheVariants as service_ite
 use Rattle.proto_tree.specs.declared.tree.Signature.{Signature}
 use Rattle.proto_tree.specs.File.{enum_item_tree, enum_tree, field_tree, member_tree, message_tree, method_by, method_item_tree, oneof_tree, service_item_tree, service_tree, trees}
 use Rattle.proto_tree.specs.Tree.{Tree, End, Leaf, Block, joined}
-use Rattle.proto_parts.specs.Parts.{BlockOf, blocks_in, fields_in, plain_field, reserved_names_in}
+use Rattle.proto_parts.specs.Parts.{BlockOf, blocks_in, fields_in, reserved_names_in}
 use Rattle.proto_parts.specs.Scenes.{Scene}
 use Rattle.proto_scenes.specs.Enums.{enum_block}
 use Rattle.proto_members.specs.Blocks.{holders_in, may_hold, message_block, oneof_block}
@@ -75,10 +75,6 @@ pub no_holders : (s : Braced ServiceItem) → holders_in (service_tree s) ≡ []
 no_holders s = alone (trees service_item_tree s.members.items) ∙ none_in service_item_tree service_item_none s.members.items
 
 -- ---- oneofs
-
-pub fields_of_oneof : (fs : List Field) → fields_in (trees field_tree fs) ≡ map (plain_field None) fs
-fields_of_oneof [] = refl
-fields_of_oneof (f ∷ fs) = ap (λ xs. plain_field None f ∷ xs) (fields_of_oneof fs)
 
 pub oneof_reserves_none : (fs : List Field) → reserved_names_in (trees field_tree fs) ≡ []
 oneof_reserves_none [] = refl

@@ -1,5 +1,5 @@
 -- Defaults that mean a value, told by the texts of a link.
-use Rattle.std.proofs.Common.{◌≡◌, ℕ, ◌<◌, ◌==◌, ◌&&◌, Bool, true, false, cond, if◌then◌else◌, List, [], ◌∷◌, ◌++◌, length, map, get_or, flat_map, Option, Some, None, option_map, refl, sym, ap, subst, ◌∙◌, inl, inr}
+use Rattle.std.proofs.Common.{◌≡◌, ℕ, ◌+◌, ◌<◌, ◌==◌, ◌&&◌, Bool, true, false, cond, if◌then◌else◌, List, [], ◌∷◌, ◌++◌, length, map, get_or, drop, flat_map, Option, Some, None, option_map, refl, sym, ap, subst, ◌∙◌, inl, inr}
 use Rattle.std.specs.List.{filter, find}
 use Rattle.std.specs.Option.{option_and_then}
 use Rattle.std.specs.Str.{bytes_eq}
@@ -39,6 +39,7 @@ use Rattle.proto_names.proofs.PlainNames.{names_are_plain}
 use Rattle.proto_members.specs.Blocks.{holders_in, may_hold}
 use Rattle.proto_members.specs.Defaults.{defaults_in, defaults_of, is_text, spelled, type_means}
 use Rattle.proto_members.specs.Members.{IsReadAs}
+use Rattle.proto_members.proofs.Turns.{listed_turn}
 
 -- ---- lists
 
@@ -49,6 +50,14 @@ flat_none (x ∷ xs) = flat_none xs
 flat_agree : {X Y : Type 0} (f g : X → List Y) (xs : List X) → ((x : X) → f x ≡ g x) → flat_map f xs ≡ flat_map g xs
 flat_agree f g [] h = refl
 flat_agree f g (x ∷ xs) h = ap (λ ys. ys ++ flat_map f xs) (h x) ∙ ap (λ ys. g x ++ ys) (flat_agree f g xs h)
+
+-- those of what one element more gives
+pub spelled_turn : {X Y : Type 0} (text : ℕ → List ℕ) (old : List ℕ) (part : Y → List ℕ) (view : X → Y) (xs : List X) (i : ℕ) (x : X) (found next whole : List ℕ) → i < length xs → x ≡ get_or xs i x
+    → next ≡ found ++ spelled text old (part (view x)) → found ++ spelled text old (flat_map part (map view (drop i xs))) ≡ whole
+    → next ++ spelled text old (flat_map part (map view (drop (i + 1) xs))) ≡ whole
+spelled_turn text old part view xs i x found next whole lt is new before =
+    listed_turn (λ ys. spelled text old (flat_map part (map view ys))) (λ y. spelled text old (part (view y)))
+    (λ y ys. flat_map-append (λ w. if bytes_eq (text w) old then w ∷ [] else []) (part (view y)) (flat_map part (map view ys))) xs i x found next whole lt is new before
 
 flat_flat : {X Y Z : Type 0} (g : Y → List Z) (f : X → List Y) (xs : List X) → flat_map g (flat_map f xs) ≡ flat_map (λ x. flat_map g (f x)) xs
 flat_flat g f [] = refl

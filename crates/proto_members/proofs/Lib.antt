@@ -6,3 +6,4 @@ mod JsonClashes
 mod MemberTests
 mod OneScene
 mod ReservedNames
+mod Turns

@@ -27,7 +27,6 @@ fn push_message<'a>(found: &mut Vec<BlockAt<'a>>, message: &'a Message) -> Resul
 }
 
 #[cycle(blocks)]
-#[tactic(auto, using(crate::proofs::BlockTrees::holders_joined))]
 fn push_members<'a>(found: &mut Vec<BlockAt<'a>>, members: &'a [Member]) -> Result<(), NoMemory>
     ensures { OnOk result (map block_of found.new.items
         ≡ map block_of found.old.items ++ holders_in (trees member_tree members.now)) }
@@ -68,7 +67,6 @@ fn push_item<'a>(found: &mut Vec<BlockAt<'a>>, item: &'a Item) -> Result<(), NoM
 }
 
 /// The messages, oneofs and enums of a file, each before those in it.
-#[tactic(auto, using(crate::proofs::BlockTrees::holders_joined))]
 pub(crate) fn blocks_of<'a>(alloc: Global, file: &'a File) -> Result<Vec<BlockAt<'a>>, NoMemory>
     ensures { IfOk result (λ found. map block_of found.items ≡ holders_in (tree_of_file file.now)) }
 {

@@ -11,7 +11,7 @@ ghost use Rattle.proto_parts.specs.Options.{is_named};
 ghost use Rattle.proto_parts.specs.Scenes.{text};
 ghost use Rattle.proto_parts.specs.Views.{field_of, option_of};
 ghost use Rattle.proto_checks_laws.specs.Renamed.{constant_tokens};
-ghost use Rattle.proto_rename_laws.specs.Defaults.{default_words, fields_of_file, renamed_default};
+ghost use Rattle.proto_rename_laws.specs.Defaults.{fields_of_file, renamed_default};
 ghost use Rattle.proto_members.specs.Blocks.{block_of};
 ghost use Rattle.proto_members.specs.Defaults.{asked_defaults, asked_type, defaults_in, is_text, spelled, text_meant};
 
@@ -95,35 +95,41 @@ fn default_word(scene: &Scene, option: OptionAt) -> Option<u32>
     constant_word(option.value)
 }
 
-/// The words that are a field's defaults.
-fn default_words(alloc: Global, scene: &Scene, field: FieldAt) -> Result<Vec<u32>, NoMemory>
-    ensures { IfOk result (λ words. words.items
-        ≡ default_words (text scene.now) (field_of field.entry)) }
-{
-    let options = options_between(alloc, field.settings)?;
-    let mut words = Vec::new(alloc);
-    for option in &options {
-        if let Some(word) = default_word(scene, *option) {
-            words.push(word)?;
-        }
-    }
-    Ok(words)
-}
-
-/// Adds those of the words that have the text.
-fn push_spelled(
+/// Adds the word of an option, if it is a default with the text.
+fn push_default(
     found: &mut Vec<u32>,
     scene: &Scene,
-    words: &[u32],
+    option: OptionAt,
     old: &str,
 ) -> Result<(), NoMemory>
-    ensures { OnOk result (found.new.items ≡ found.old.items
-        ++ spelled (text scene.now) old.now words.now) }
+    ensures { OnOk result (found.new.items ≡ found.old.items ++ spelled (text scene.now) old.now
+        (if is_named (text scene.now) (codes "default") (option_of option.entry)
+        then constant_tokens (option_of option.entry).value
+        else [])) }
 {
-    for word in words {
-        if scene.text(*word) == old {
-            found.push(*word)?;
-        }
+    let Some(word) = default_word(scene, option) else {
+        return Ok(());
+    };
+    if scene.text(word) == old {
+        found.push(word)?;
+    }
+    Ok(())
+}
+
+/// Adds the defaults among the options that have the text.
+fn push_defaults(
+    found: &mut Vec<u32>,
+    scene: &Scene,
+    options: &[OptionAt],
+    old: &str,
+) -> Result<(), NoMemory>
+    ensures { OnOk result (found.new.items ≡ found.old.items ++ spelled (text scene.now) old.now
+        (flat_map (λ o. if is_named (text scene.now) (codes "default") o
+        then constant_tokens o.value
+        else []) (map option_of options.now))) }
+{
+    for option in options {
+        push_default(found, scene, *option, old)?;
     }
     Ok(())
 }
@@ -143,8 +149,8 @@ fn push_field(
     if !is_asked(asked, field.kind) {
         return Ok(());
     }
-    let words = default_words(alloc, scene, field)?;
-    push_spelled(found, scene, &words, asked.old)
+    let options = options_between(alloc, field.settings)?;
+    push_defaults(found, scene, &options, asked.old)
 }
 
 fn push_fields(

@@ -2,12 +2,13 @@
 
 ghost use Rattle.std.specs.Prelude.{◌≡◌, ◌++◌, List, ℕ, true, false, find, map, option_map, IfOk};
 ghost use Rattle.std.specs.String.{string_bytes};
+ghost use Rattle.proto_tree.specs.File.{tree_of_file};
 ghost use Rattle.proto_files.specs.FilesRead.{AreRead, ReadOf};
 ghost use Rattle.proto_meaning.specs.Joined.{joined};
 ghost use Rattle.proto_meaning.specs.declared.kind.Kind.TheVariants.{Value};
 ghost use Rattle.proto_rename_laws.specs.Targets.{Target};
 ghost use Rattle.proto_targets.specs.Aims.{IsAimOf, IsAimedAt};
-ghost use Rattle.proto_members.specs.Blocks.{block_of};
+ghost use Rattle.proto_members.specs.Blocks.{block_of, holders_in};
 ghost use Rattle.proto_members.specs.Members.{holds_value, name_token};
 
 use crate::blocks::{BlockAt, blocks_of};
@@ -17,6 +18,7 @@ use proto_files::{Files, Words, are_read};
 use proto_meaning::Kind;
 use proto_parts::values;
 use proto_targets::Aim;
+use proto_tree::File;
 use std::alloc::Global;
 
 fn is_value(kind: Kind) -> bool
@@ -60,6 +62,15 @@ fn enum_of_value(alloc: Global, blocks: &[BlockAt], token: u32) -> Result<Option
     Ok(None)
 }
 
+/// The same of the blocks of a file.
+fn enum_in(alloc: Global, file: &File, token: u32) -> Result<Option<u32>, NoMemory>
+    ensures { IfOk result (λ o. o ≡ option_map (λ b. name_token b.header)
+        (find (λ b. holds_value token b.header b.within) (holders_in (tree_of_file file.now)))) }
+{
+    let blocks = blocks_of(alloc, file)?;
+    enum_of_value(alloc, &blocks, token)
+}
+
 /// What stands before the last word of a name.
 fn before_word<'a>(name: &'a str, word: &str) -> &'a str
     ensures { (front : List ℕ) → name.now ≡ front ++ word.now → result.now ≡ front }
@@ -93,8 +104,7 @@ pub fn enum_name(alloc: Global, files: &Files, aim: Aim) -> Result<Option<String
     }
     let place = aim.file as usize;
     let words = Words::new(files, place);
-    let blocks = blocks_of(alloc, files.tree(place))?;
-    match enum_of_value(alloc, &blocks, aim.token)? {
+    match enum_in(alloc, files.tree(place), aim.token)? {
         Some(token) => {
             let name = beside(alloc, aim.name, words.get(aim.token), words.get(token))?;
             Ok(Some(name))

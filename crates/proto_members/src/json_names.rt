@@ -8,7 +8,7 @@ ghost use Rattle.proto_rename_laws.specs.Cases.{Clashes};
 ghost use Rattle.proto_rename_laws.specs.Targets.{Target};
 ghost use Rattle.proto_targets.specs.Aims.{IsAimOf, IsAimedAt};
 ghost use Rattle.proto_members.specs.Blocks.{block_of};
-ghost use Rattle.proto_members.specs.Members.{clash_in, fields_clash, is_made, is_other, is_unwritten};
+ghost use Rattle.proto_members.specs.Members.{clash_in, fields_clash, is_made, is_other};
 
 use crate::blocks::{BlockAt, blocks_of};
 use crate::members::oneof_fields;
@@ -20,15 +20,6 @@ use proto_parts::{FieldAt, Scene, fields_of, json_name, options_between, text_op
 use proto_targets::Aim;
 use std::alloc::Global;
 
-/// Whether no JSON name is written for the field.
-fn is_unwritten(alloc: Global, scene: &Scene, field: FieldAt) -> Result<bool, NoMemory>
-    ensures { IfOk result (λ b. b ≡ is_unwritten scene.now (field_of field.entry)) }
-{
-    let options = options_between(alloc, field.settings)?;
-    let written = text_option(alloc, scene, &options, "json_name")?;
-    Ok(written.is_none())
-}
-
 /// Whether it is the field of the name token, and its JSON name is made of its word.
 fn is_made(alloc: Global, scene: &Scene, field: FieldAt, token: u32) -> Result<bool, NoMemory>
     ensures { IfOk result (λ b. b ≡ is_made scene.now token (field_of field.entry)) }
@@ -36,7 +27,9 @@ fn is_made(alloc: Global, scene: &Scene, field: FieldAt, token: u32) -> Result<b
     if field.name != token {
         return Ok(false);
     }
-    is_unwritten(alloc, scene, field)
+    let options = options_between(alloc, field.settings)?;
+    let written = text_option(alloc, scene, &options, "json_name")?;
+    Ok(written.is_none())
 }
 
 fn has_made(alloc: Global, scene: &Scene, fields: &[FieldAt], token: u32) -> Result<bool, NoMemory>

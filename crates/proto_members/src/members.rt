@@ -50,7 +50,6 @@ fn field_at(field: &Field) -> FieldAt<'_>
 }
 
 /// The fields of a oneof, in order.
-#[tactic(auto, using(crate::proofs::BlockTrees::fields_of_oneof))]
 pub(crate) fn oneof_fields<'a>(
     alloc: Global,
     members: &'a [Field],
