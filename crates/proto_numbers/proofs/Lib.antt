@@ -3,3 +3,4 @@ pub mod CappedNumbers
 pub mod CappedRanges
 pub mod FlawLists
 pub mod IndexLemmas
+mod Turns
