@@ -1,6 +1,6 @@
 -- Public for the crates above. Files after one of them was replaced, and files that are told by their bytes.
-use Rattle.std.proofs.Common.{◌≡◌, ℕ, Bool, true, false, cond, List, [], ◌∷◌, Option, Some, None, refl, sym, ap, ◌∙◌, subst}
-use Rattle.std.specs.Prelude.{IsSome, is_some, option_map}
+use Rattle.std.proofs.Common.{◌≡◌, ℕ, Bool, true, false, cond, List, [], ◌∷◌, Some, None, refl, sym, ap, ◌∙◌, subst}
+use Rattle.std.specs.Prelude.{IsSome, is_some}
 use Rattle.std.specs.Str.{bytes_eq}
 use Rattle.std.specs.List.{AllByRecursion}
 use Rattle.std.specs.List.Sorted.{IsStrictlySortedBy}
@@ -9,7 +9,7 @@ use Rattle.std.specs.Ordering.{nat_cmp}
 use Rattle.std.specs.declared.cmp.Ordering.TheVariants.{Less}
 use Rattle.std.proofs.lemmas.Slice.Eq.{bytes_eq-Decides}
 use Rattle.proto_files.specs.GivenFiles.{FileOf, paths_of}
-use Rattle.proto_store.specs.Stores.{AreInPathOrder, Held, IsListed, bytes_at, with_bytes, with_file, with_journal}
+use Rattle.proto_store.specs.Stores.{AreInPathOrder, bytes_at, with_bytes}
 use Rattle.proto_store.proofs.PathOrder.{differs_if_less, equal_itself}
 
 -- the paths stay
@@ -21,10 +21,6 @@ paths_of-with_bytes path bytes (file ∷ files) = go (paths_of-with_bytes path b
         → paths_of (cond b (record file { bytes = bytes } ∷ files) (file ∷ with_bytes path bytes files)) ≡ file.path ∷ paths_of files
     go rest true = refl
     go rest false = ap (λ l. file.path ∷ l) rest
-
--- and so does their order
-pub order-with_bytes : (path bytes : List ℕ) (files : List FileOf) → AreInPathOrder files → AreInPathOrder (with_bytes path bytes files)
-order-with_bytes path bytes files order = subst (λ l. IsStrictlySortedBy (slice_cmp nat_cmp) l) (sym (paths_of-with_bytes path bytes files)) order
 
 -- a path that is listed has the new bytes
 pub bytes_at-with_bytes : (path bytes : List ℕ) (files : List FileOf) → IsSome (bytes_at path files) → bytes_at path (with_bytes path bytes files) ≡ Some bytes
@@ -60,15 +56,6 @@ with_bytes-absent path bytes (file ∷ files) none = go (with_bytes-absent path 
     go rest true n = cc
     go rest false n = ap (λ l. file ∷ l) (rest n)
 
--- what stands at any path after a replace
-pub bytes_at-replaced : (path bytes other : List ℕ) (files : List FileOf) → IsSome (bytes_at path files)
-    → bytes_at other (with_bytes path bytes files) ≡ cond (bytes_eq other path) (Some bytes) (bytes_at other files)
-bytes_at-replaced path bytes other files listed = go (bytes_eq other path) refl
-  where
-    go : (b : Bool) → bytes_eq other path ≡ b → bytes_at other (with_bytes path bytes files) ≡ cond b (Some bytes) (bytes_at other files)
-    go true e = ap (λ p. bytes_at p (with_bytes path bytes files)) ((bytes_eq-Decides other path).0 e) ∙ bytes_at-with_bytes path bytes files listed
-    go false e = bytes_at-with_bytes-other path bytes other files e
-
 -- the same paths are listed as before
 pub is_some-with_bytes : (path bytes other : List ℕ) (files : List FileOf) → is_some (bytes_at other (with_bytes path bytes files)) ≡ is_some (bytes_at other files)
 is_some-with_bytes path bytes other [] = refl
@@ -83,15 +70,6 @@ is_some-with_bytes path bytes other (file ∷ files) = go (is_some-with_bytes pa
         → is_some (bytes_at other (cond b (record file { bytes = bytes } ∷ files) (file ∷ with_bytes path bytes files))) ≡ is_some (bytes_at other (file ∷ files))
     go rest true = at (bytes_eq other file.path) bytes file.bytes files files refl
     go rest false = at (bytes_eq other file.path) file.bytes file.bytes (with_bytes path bytes files) files rest
-
--- what is listed in a store stays listed where a file or the journal of it is replaced
-pub listed-with_file : (held : Option Held) (path bytes other : List ℕ) → IsListed held other → IsListed (option_map (with_file path bytes) held) other
-listed-with_file None path bytes other listed = tt
-listed-with_file (Some held) path bytes other listed = is_some-with_bytes path bytes other held.files ∙ listed
-
-pub listed-with_journal : (held : Option Held) (bytes other : List ℕ) → IsListed held other → IsListed (option_map (with_journal bytes) held) other
-listed-with_journal None bytes other listed = tt
-listed-with_journal (Some held) bytes other listed = listed
 
 head_of : (x y : List ℕ) (xs ys : List (List ℕ)) → x ∷ xs ≡ y ∷ ys → x ≡ y
 head_of x y xs ys e = cc

@@ -1,5 +1,5 @@
 -- What a store of files holds, lists, reads and replaces (the choice of this program).
-use Rattle.std.specs.Prelude.{◌≡◌, ℕ, ◌+◌, List, [], ◌∷◌, IsSome, MatchResult, Some, None, Option, Result, if◌then◌else◌, option_map}
+use Rattle.std.specs.Prelude.{◌≡◌, ℕ, ◌+◌, List, [], ◌∷◌, IsSome, MatchResult, Some, None, Option, Result, if◌then◌else◌}
 use Rattle.std.specs.List.Sorted.{IsPermutation, IsStrictlySortedBy}
 use Rattle.std.specs.Cmp.Lexicographic.{slice_cmp}
 use Rattle.std.specs.Ordering.{nat_cmp}
@@ -41,10 +41,6 @@ with_file path bytes held = record held { files = with_bytes path bytes held.fil
 -- the journal gets the bytes, and the files stay
 abbrev pub with_journal : Text → Held → Held
 with_journal bytes held = record held { journal = bytes }
-
--- the files of a store, where they are known
-abbrev pub files_held : Option Held → Option (List FileOf)
-files_held held = option_map (λ h. h.files) held
 
 -- the paths are those of the files, each once; of unknown files nothing is said, here and below
 abbrev pub ListsPaths : Option Held → List Path → Type 0

@@ -137,19 +137,9 @@ impl<'a, R: Files + AllocGlobal> FolderStore<'a, R> {
     fn names_in(&self, folder: &str) -> io::Result<Vec<u8>>
         ensures { self.now.root.now ≡ [] → IsErr result }
     {
-        let mut names = Vec::new(self.rt.alloc());
         let mut path = self.full_path(folder)?;
         path.push('/')?;
-        let mut reader = self.rt.open_dir(path.as_str())?;
-        let mut buffer = [0u8; 4096];
-        for _ in 0..u64::MAX {
-            let count = reader.read(&mut buffer)?;
-            if count == 0 {
-                break;
-            }
-            names.extend_from_slice(&buffer[..count])?;
-        }
-        Ok(names)
+        bytes_up_to(self.rt.alloc(), self.rt.open_dir(path.as_str()), usize::MAX)
     }
 
     // Notes a name of the folder, if it is that of a
@@ -241,23 +231,13 @@ impl<'a, R: Files + AllocGlobal> FolderStore<'a, R> {
         ensures { self.now.root.now ≡ [] → IsErr result }
     {
         let path = self.journal_path()?;
-        let mut bytes = Vec::new(self.rt.alloc());
-        if regular_file(self.rt, path.as_str())?.is_none() {
-            return Ok(bytes);
-        }
-        let mut reader = fs::File::open(self.rt, path.as_str())?;
-        let mut buffer = [0u8; 65536];
-        for _ in 0..u64::MAX {
-            let room = (JOURNAL_BYTES + 1)
-                .saturating_sub(bytes.len())
-                .min(buffer.len());
-            let count = reader.read(&mut buffer[..room])?;
-            if count == 0 {
-                break;
+        match regular_file(self.rt, path.as_str())? {
+            Some(_) => {
+                let opened = fs::File::open(self.rt, path.as_str());
+                bytes_up_to(self.rt.alloc(), opened, JOURNAL_BYTES + 1)
             }
-            bytes.extend_from_slice(&buffer[..count])?;
+            None => Ok(Vec::new(self.rt.alloc())),
         }
-        Ok(bytes)
     }
 
     fn put_journal(&self, bytes: &[u8]) -> io::Result<()>
@@ -280,6 +260,31 @@ fn joined(alloc: Global, folder: &str, path: &str) -> io::Result<String> {
     }
     joined.push_str(path)?;
     Ok(joined)
+}
+
+// What a file or folder has, up to this many bytes.
+fn bytes_up_to<S: Read + Drop>(
+    alloc: Global,
+    opened: io::Result<S>,
+    limit: usize,
+) -> io::Result<Vec<u8>> {
+    let mut source = opened?;
+    let mut bytes = Vec::new(alloc);
+    read_up_to(&mut source, limit, &mut bytes)?;
+    Ok(bytes)
+}
+
+fn read_up_to<S: Read>(source: &mut S, limit: usize, bytes: &mut Vec<u8>) -> io::Result<()> {
+    let mut buffer = [0u8; 65536];
+    for _ in 0..u64::MAX {
+        let room = limit.saturating_sub(bytes.len()).min(buffer.len());
+        let count = source.read(&mut buffer[..room])?;
+        if count == 0 {
+            break;
+        }
+        bytes.extend_from_slice(&buffer[..count])?;
+    }
+    Ok(())
 }
 
 impl<R: Files + AllocGlobal> Store for FolderStore<'_, R> {
