@@ -3,6 +3,7 @@
 ghost use Rattle.std.specs.Prelude.{◌≡◌, ◌<◌, ◌++◌, List, length, map, IfOk, OnOk};
 ghost use Rattle.proto_files.specs.FilesRead.{ReadOf, AreRead};
 ghost use Rattle.proto_names.specs.LinkOfFiles.{IsLinkOf};
+ghost use Rattle.proto_block_rules.specs.BlockFinds.{all_messages};
 ghost use Rattle.proto_findings.specs.Listings.{IsListingOf, found_in};
 ghost use Rattle.proto_findings.specs.Views.{finding_of, found_of};
 ghost use Rattle.proto_lint.specs.Findings.{file_finds, findings};
@@ -49,6 +50,20 @@ fn add_findings(
     Ok(())
 }
 
+/// The messages of all methods of a workspace.
+fn messages_of<'a>(
+    alloc: Global,
+    files: &'a Files,
+    link: &'a Link,
+) -> Result<Messages<'a>, NoMemory>
+    requires { IsLinkOf files.now link.now }
+    ensures { IfOk result (λ m. (reads : List ReadOf)
+        → AreRead files.now reads → m ≡ all_messages files.now reads) }
+{
+    let all = all_messages(alloc, files, link)?;
+    Messages::new(alloc, all)
+}
+
 impl<'a> Linter<'a> {
     /// Looks up what the rules need to know of all files.
     fn new(
@@ -63,13 +78,17 @@ impl<'a> Linter<'a> {
         ensures rules { IfOk result (λ l. l.rules.now ≡ rules.now) }
     {
         are_read(files);
+        let messages = messages_of(alloc, files, link)?;
+        let imports = Imports::new(alloc, files)?;
+        // The heads come last: they are the dearest to let go.
+        let heads = Heads::new(alloc, files)?;
         Ok(Linter {
             files,
             link,
             rules,
-            heads: Heads::new(alloc, files)?,
-            imports: Imports::new(alloc, files)?,
-            messages: Messages::new(alloc, all_messages(alloc, files, link)?)?,
+            heads,
+            imports,
+            messages,
         })
     }
 
@@ -132,6 +151,8 @@ pub fn lint(
     ensures { IfOk result (λ found. (reads : List ReadOf) → AreRead files.now reads
         → IsListingOf (findings rules.now.chosen files.now reads) (map finding_of found.items)) }
 {
-    let found = Linter::new(alloc, files, link, rules)?.findings(alloc)?;
-    Ok(listed(found))
+    let linter = Linter::new(alloc, files, link, rules)?;
+    let found = linter.findings(alloc);
+    drop(linter);
+    Ok(listed(found?))
 }
