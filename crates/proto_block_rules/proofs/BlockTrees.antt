@@ -46,9 +46,8 @@ module _ (w : Walk) where
   finds_joined scope t u = ap (flat_map one) (blocks_joined r scope t u) ∙ flat_map-append one (blocks_in r scope t) (blocks_in r scope u)
 
   -- item by item
-  pub finds_of_trees : {A : Type 0} (view : A → Tree) (scope : List ℕ) (xs : List A) → walk_finds w scope (trees view xs) ≡ flat_map (λ x. walk_finds w scope (view x)) xs
-  finds_of_trees view scope [] = refl
-  finds_of_trees view scope (x ∷ xs) = finds_joined scope (view x) (trees view xs) ∙ ap (λ (fs : List Found). walk_finds w scope (view x) ++ fs) (finds_of_trees view scope xs)
+  pub finds_of_items : {A : Type 0} (view : A → Tree) (scope : List ℕ) (x : A) (xs : List A) → walk_finds w scope (trees view (x ∷ xs)) ≡ walk_finds w scope (view x) ++ walk_finds w scope (trees view xs)
+  finds_of_items view scope x xs = finds_joined scope (view x) (trees view xs)
 
   -- one block: its own, and those in it
   finds_of_block : (scope : List ℕ) (h : Header) (i : ℕ) (within : Tree) (j : ℕ)

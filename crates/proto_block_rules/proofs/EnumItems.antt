@@ -1,5 +1,5 @@
 -- The values of an enum, item by item.
-use Rattle.std.proofs.Common.{◌≡◌, ℕ, suc, ◌+◌, ◌<◌, ◌≤◌, Bool, true, List, [], ◌∷◌, ◌++◌, length, get_or, drop, map, refl, sym, ap, ◌∙◌, append_assoc, drop-cons, add-one}
+use Rattle.std.proofs.Common.{◌≡◌, ℕ, ◌+◌, ◌<◌, ◌≤◌, Bool, true, List, [], ◌∷◌, ◌++◌, length, get_or, drop, map, sym, ap, ◌∙◌, append_assoc}
 use Rattle.std.specs.List.{flat_map}
 use Rattle.std.proofs.lemmas.Bool.{cond-true}
 use Rattle.std.proofs.lemmas.Grind.{flat_map-append}
@@ -8,29 +8,22 @@ use Rattle.proto_tree.specs.declared.tree.EnumItem.{EnumItem}
 use Rattle.proto_tree.specs.declared.tree.EnumItem.TheVariants as enum_item
 use Rattle.proto_tree.specs.declared.tree.Value.{Value}
 use Rattle.proto_tree.specs.File.{enum_item_tree, trees}
-use Rattle.proto_tree.specs.Tree.{Tree, End, Leaf, Block, joined}
+use Rattle.proto_tree.specs.Tree.{Tree, joined}
 use Rattle.proto_parts.specs.Parts.{statement_values, statements, values_in}
 use Rattle.proto_findings.specs.declared.rule.Rule.{Rule}
 use Rattle.proto_findings.specs.Placed.{found_at, found_by, unless_word}
 use Rattle.proto_findings.specs.Readings.{Reading}
 use Rattle.proto_findings.specs.Rules.{is_chosen}
 use Rattle.proto_block_rules.specs.NameRules.{first_not_zero, is_zero}
-
-statements_joined : (t u : Tree) → statements (joined t u) ≡ statements t ++ statements u
-statements_joined End u = refl
-statements_joined (Leaf s rest) u = ap (λ ss. s ∷ ss) (statements_joined rest u)
-statements_joined (Block h i within j rest) u = statements_joined rest u
+use Rattle.proto_block_rules.proofs.Turns.{front, statements_joined}
 
 values_joined : (t u : Tree) → values_in (joined t u) ≡ values_in t ++ values_in u
 values_joined t u = ap (flat_map statement_values) (statements_joined t u) ∙ flat_map-append statement_values (statements t) (statements u)
 
-item_front : (items : List EnumItem) (i : ℕ) (item : EnumItem) → i < length items → item ≡ get_or items i item → drop i items ≡ item ∷ drop (i + 1) items
-item_front items i item lt is = drop-cons items i item lt ∙ ap (λ (x : EnumItem). x ∷ drop (suc i) items) (sym is) ∙ ap (λ (j : ℕ). item ∷ drop j items) (sym (add-one i))
-
 values_front : (items : List EnumItem) (i : ℕ) (item : EnumItem) → i < length items → item ≡ get_or items i item
     → values_in (trees enum_item_tree (drop i items)) ≡ values_in (enum_item_tree item) ++ values_in (trees enum_item_tree (drop (i + 1) items))
 values_front items i item lt is =
-    ap (λ (xs : List EnumItem). values_in (trees enum_item_tree xs)) (item_front items i item lt is)
+    ap (λ (xs : List EnumItem). values_in (trees enum_item_tree xs)) (front items i item lt is)
     ∙ values_joined (enum_item_tree item) (trees enum_item_tree (drop (i + 1) items))
 
 -- what is found at the values of one item more

@@ -3,4 +3,6 @@ mod EnumItems
 mod FileMessages
 mod Joins
 mod OuterMessages
+mod Steps
+mod Turns
 mod Twice

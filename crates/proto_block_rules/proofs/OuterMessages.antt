@@ -94,6 +94,5 @@ module _ (r : Reading) where
   outer_joined (Block h i within j rest) u =
       ap (λ (ms : List (List ℕ)). block_messages r h within ++ ms) (outer_joined rest u) ∙ sym (append_assoc (block_messages r h within) (outer_messages r rest) (outer_messages r u))
 
-  pub outer_of_trees : {A : Type 0} (view : A → Tree) (xs : List A) → outer_messages r (trees view xs) ≡ flat_map (λ x. outer_messages r (view x)) xs
-  outer_of_trees view [] = refl
-  outer_of_trees view (x ∷ xs) = outer_joined (view x) (trees view xs) ∙ ap (λ (ms : List (List ℕ)). outer_messages r (view x) ++ ms) (outer_of_trees view xs)
+  pub outer_of_items : {A : Type 0} (view : A → Tree) (x : A) (xs : List A) → outer_messages r (trees view (x ∷ xs)) ≡ outer_messages r (view x) ++ outer_messages r (trees view xs)
+  outer_of_items view x xs = outer_joined (view x) (trees view xs)

@@ -12,8 +12,9 @@ ghost use Rattle.proto_findings.specs.declared.rule.Rule.TheVariants as rule;
 ghost use Rattle.proto_findings.specs.Placed.{found_at, found_by, unless_word};
 ghost use Rattle.proto_findings.specs.Readings.{reading_of, text};
 ghost use Rattle.proto_findings.specs.Views.{found_of};
-ghost use Rattle.proto_block_rules.specs.NameRules.{allowed_alias, enum_finds, enum_first_value_zero, enum_no_allow_alias, enum_pascal_case, enum_value_prefix, enum_value_upper_snake_case, enum_zero_value_suffix, is_true, is_zero, value_prefix};
+ghost use Rattle.proto_block_rules.specs.NameRules.{allowed_alias, enum_finds, enum_first_value_zero, enum_no_allow_alias, enum_value_prefix, enum_value_upper_snake_case, enum_zero_value_suffix, is_true, is_zero, value_prefix};
 
+use crate::names::add_name;
 use proto_case::{is_pascal, is_upper_snake, upper};
 use proto_faults::NoMemory;
 use proto_findings::{Found, Reading, Rule, RuleSet, add_below_unless, add_unless, below};
@@ -107,26 +108,6 @@ fn add_zero_suffixes(
 }
 
 // ---- names
-
-fn add_enum_name(
-    alloc: Global,
-    found: &mut Vec<Found>,
-    rules: &RuleSet,
-    reading: &Reading,
-    scope: &str,
-    name: u32,
-) -> Result<(), NoMemory>
-    ensures { OnOk result (map found_of found.new.items ≡ map found_of found.old.items
-        ++ found_by rules.now.chosen (reading_of reading.now) rule.EnumPascalCase
-        (enum_pascal_case (reading_of reading.now) scope.now name)) }
-{
-    let rule = Rule::EnumPascalCase;
-    if !rules.has(rule) {
-        return Ok(());
-    }
-    let passes = is_pascal(reading.text(name));
-    add_below_unless(alloc, found, reading, rule, passes, scope, name)
-}
 
 fn add_value_name(
     alloc: Global,
@@ -357,7 +338,11 @@ pub(crate) fn add_enum(
     let items = names.members.as_slice();
     add_first_value(alloc, found, rules, reading, scope, items)?;
     add_aliases(alloc, found, rules, reading, scope, names)?;
-    add_enum_name(alloc, found, rules, reading, scope, names.name)?;
+    let rule = Rule::EnumPascalCase;
+    let passes = is_pascal(reading.text(names.name));
+    add_name(
+        alloc, found, rules, reading, rule, passes, scope, names.name,
+    )?;
     add_prefixes(alloc, found, rules, reading, scope, names)?;
     add_value_names(alloc, found, rules, reading, scope, items)?;
     add_zero_suffixes(alloc, found, rules, reading, scope, items)

@@ -6,6 +6,7 @@ mod enums;
 mod messages;
 mod method_types;
 mod methods;
+mod names;
 mod services;
 mod shared;
 mod walk;

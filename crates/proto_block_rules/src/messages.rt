@@ -8,34 +8,15 @@ ghost use Rattle.proto_findings.specs.declared.rule.Rule.TheVariants as rule;
 ghost use Rattle.proto_findings.specs.Placed.{found_at, found_by, unless_word};
 ghost use Rattle.proto_findings.specs.Readings.{reading_of};
 ghost use Rattle.proto_findings.specs.Views.{found_of};
-ghost use Rattle.proto_block_rules.specs.NameRules.{field_lower_snake_case, message_finds, message_pascal_case, oneof_finds};
+ghost use Rattle.proto_block_rules.specs.NameRules.{field_lower_snake_case, message_finds, oneof_finds};
 
+use crate::names::add_name;
 use proto_case::{is_lower_snake, is_pascal};
 use proto_faults::NoMemory;
 use proto_findings::{Found, Reading, Rule, RuleSet, add_below_unless, below};
 use proto_parts::{FieldAt, fields_of};
 use proto_tree::{Message, Oneof};
 use std::alloc::Global;
-
-fn add_message_name(
-    alloc: Global,
-    found: &mut Vec<Found>,
-    rules: &RuleSet,
-    reading: &Reading,
-    scope: &str,
-    name: u32,
-) -> Result<(), NoMemory>
-    ensures { OnOk result (map found_of found.new.items ≡ map found_of found.old.items
-        ++ found_by rules.now.chosen (reading_of reading.now) rule.MessagePascalCase
-        (message_pascal_case (reading_of reading.now) scope.now name)) }
-{
-    let rule = Rule::MessagePascalCase;
-    if !rules.has(rule) {
-        return Ok(());
-    }
-    let passes = is_pascal(reading.text(name));
-    add_below_unless(alloc, found, reading, rule, passes, scope, name)
-}
 
 // The fields of a message with this full name.
 fn add_each_field(
@@ -92,7 +73,18 @@ pub(crate) fn add_message(
         ++ message_finds rules.now.chosen (reading_of reading.now) scope.now message.now.name
         (trees member_tree message.now.members.items)) }
 {
-    add_message_name(alloc, found, rules, reading, scope, message.name)?;
+    let rule = Rule::MessagePascalCase;
+    let passes = is_pascal(reading.text(message.name));
+    add_name(
+        alloc,
+        found,
+        rules,
+        reading,
+        rule,
+        passes,
+        scope,
+        message.name,
+    )?;
     add_field_names(alloc, found, rules, reading, scope, message)
 }
 
@@ -109,9 +101,8 @@ pub(crate) fn add_oneof(
         ++ oneof_finds rules.now.chosen (reading_of reading.now) scope.now oneof.now.name) }
 {
     let rule = Rule::OneofLowerSnakeCase;
-    if !rules.has(rule) {
-        return Ok(());
-    }
     let passes = is_lower_snake(reading.text(oneof.name));
-    add_below_unless(alloc, found, reading, rule, passes, scope, oneof.name)
+    add_name(
+        alloc, found, rules, reading, rule, passes, scope, oneof.name,
+    )
 }

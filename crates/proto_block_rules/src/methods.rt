@@ -1,17 +1,16 @@
 //! The rules of methods.
 
-ghost use Rattle.std.specs.Prelude.{◌≡◌, ◌++◌, map, OnOk};
+ghost use Rattle.std.specs.Prelude.{◌≡◌, ◌++◌, ◌||◌, codes, map, OnOk};
 ghost use Rattle.std.specs.Str.{bytes_eq};
-ghost use Rattle.proto_findings.specs.declared.rule.Rule.TheVariants as rule;
-ghost use Rattle.proto_findings.specs.Placed.{found_by};
-ghost use Rattle.proto_findings.specs.Readings.{reading_of};
+ghost use Rattle.proto_findings.specs.Readings.{reading_of, text};
 ghost use Rattle.proto_findings.specs.Views.{found_of};
-ghost use Rattle.proto_block_rules.specs.Methods.{is_standard, method_finds, rpc_no_client_streaming, rpc_no_server_streaming, rpc_pascal_case, rpc_request_response_unique, rpc_request_standard_name, rpc_response_standard_name, type_meant};
+ghost use Rattle.proto_block_rules.specs.Methods.{is_shared, is_standard, method_finds, type_meant};
 
+use crate::names::add_name;
 use crate::shared::Messages;
 use proto_case::is_pascal;
 use proto_faults::NoMemory;
-use proto_findings::{Found, Reading, Rule, RuleSet, add_below_unless, last_part};
+use proto_findings::{Found, Reading, Rule, RuleSet, last_part};
 use proto_tree::{MethodType, Signature};
 use std::alloc::Global;
 
@@ -26,68 +25,6 @@ fn type_meant<'a>(reading: &Reading<'a>, kind: &MethodType) -> &'a str
     ensures { result.now ≡ type_meant (reading_of reading.now) kind.now }
 {
     reading.meant(&kind.reference)
-}
-
-// ---- names and streams
-
-fn add_method_name(
-    alloc: Global,
-    found: &mut Vec<Found>,
-    rules: &RuleSet,
-    reading: &Reading,
-    service: &str,
-    method: &Signature,
-) -> Result<(), NoMemory>
-    ensures { OnOk result (map found_of found.new.items ≡ map found_of found.old.items
-        ++ found_by rules.now.chosen (reading_of reading.now) rule.RpcPascalCase
-        (rpc_pascal_case (reading_of reading.now) service.now method.now)) }
-{
-    let rule = Rule::RpcPascalCase;
-    if !rules.has(rule) {
-        return Ok(());
-    }
-    let passes = is_pascal(reading.text(method.name));
-    add_below_unless(alloc, found, reading, rule, passes, service, method.name)
-}
-
-fn add_client_stream(
-    alloc: Global,
-    found: &mut Vec<Found>,
-    rules: &RuleSet,
-    reading: &Reading,
-    service: &str,
-    method: &Signature,
-) -> Result<(), NoMemory>
-    ensures { OnOk result (map found_of found.new.items ≡ map found_of found.old.items
-        ++ found_by rules.now.chosen (reading_of reading.now) rule.RpcNoClientStreaming
-        (rpc_no_client_streaming (reading_of reading.now) service.now method.now)) }
-{
-    let rule = Rule::RpcNoClientStreaming;
-    if !rules.has(rule) {
-        return Ok(());
-    }
-    let passes = method.input.stream.is_none();
-    add_below_unless(alloc, found, reading, rule, passes, service, method.name)
-}
-
-fn add_server_stream(
-    alloc: Global,
-    found: &mut Vec<Found>,
-    rules: &RuleSet,
-    reading: &Reading,
-    service: &str,
-    method: &Signature,
-) -> Result<(), NoMemory>
-    ensures { OnOk result (map found_of found.new.items ≡ map found_of found.old.items
-        ++ found_by rules.now.chosen (reading_of reading.now) rule.RpcNoServerStreaming
-        (rpc_no_server_streaming (reading_of reading.now) service.now method.now)) }
-{
-    let rule = Rule::RpcNoServerStreaming;
-    if !rules.has(rule) {
-        return Ok(());
-    }
-    let passes = method.output.stream.is_none();
-    add_below_unless(alloc, found, reading, rule, passes, service, method.name)
 }
 
 // ---- names of inputs and outputs
@@ -122,90 +59,46 @@ fn is_standard(service: &str, method: &str, suffix: &str, name: &str) -> bool
     is_joined(word, method, suffix) || is_joined_of_three(word, service, method, suffix)
 }
 
-fn add_request_name(
-    alloc: Global,
-    found: &mut Vec<Found>,
-    rules: &RuleSet,
-    reading: &Reading,
-    service: &ServiceName,
-    method: &Signature,
-) -> Result<(), NoMemory>
-    ensures { OnOk result (map found_of found.new.items ≡ map found_of found.old.items
-        ++ found_by rules.now.chosen (reading_of reading.now) rule.RpcRequestStandardName
-        (rpc_request_standard_name
-        (reading_of reading.now) service.now.full.now service.now.token method.now)) }
+// Whether the message that a method of the service takes has a standard name.
+fn is_request_standard(reading: &Reading, service: u32, method: &Signature) -> bool
+    ensures { result ≡ is_standard (text (reading_of reading.now) service)
+        (text (reading_of reading.now) method.now.name) (codes "Request")
+        (type_meant (reading_of reading.now) method.now.input) }
 {
-    if !rules.has(Rule::RpcRequestStandardName) {
-        return Ok(());
-    }
-    let word = reading.text(service.token);
     let name = type_meant(reading, &method.input);
-    let passes = is_standard(word, reading.text(method.name), "Request", name);
-    add_below_unless(
-        alloc,
-        found,
-        reading,
-        Rule::RpcRequestStandardName,
-        passes,
-        service.full,
-        method.name,
+    is_standard(
+        reading.text(service),
+        reading.text(method.name),
+        "Request",
+        name,
     )
 }
 
-fn add_response_name(
-    alloc: Global,
-    found: &mut Vec<Found>,
-    rules: &RuleSet,
-    reading: &Reading,
-    service: &ServiceName,
-    method: &Signature,
-) -> Result<(), NoMemory>
-    ensures { OnOk result (map found_of found.new.items ≡ map found_of found.old.items
-        ++ found_by rules.now.chosen (reading_of reading.now) rule.RpcResponseStandardName
-        (rpc_response_standard_name
-        (reading_of reading.now) service.now.full.now service.now.token method.now)) }
+// Whether the message that a method of the service answers has a standard name.
+fn is_response_standard(reading: &Reading, service: u32, method: &Signature) -> bool
+    ensures { result ≡ is_standard (text (reading_of reading.now) service)
+        (text (reading_of reading.now) method.now.name) (codes "Response")
+        (type_meant (reading_of reading.now) method.now.output) }
 {
-    if !rules.has(Rule::RpcResponseStandardName) {
-        return Ok(());
-    }
-    let word = reading.text(service.token);
     let name = type_meant(reading, &method.output);
-    let passes = is_standard(word, reading.text(method.name), "Response", name);
-    add_below_unless(
-        alloc,
-        found,
-        reading,
-        Rule::RpcResponseStandardName,
-        passes,
-        service.full,
-        method.name,
+    is_standard(
+        reading.text(service),
+        reading.text(method.name),
+        "Response",
+        name,
     )
 }
 
 // ---- messages of one method alone
 
-fn add_shared(
-    alloc: Global,
-    found: &mut Vec<Found>,
-    rules: &RuleSet,
-    reading: &Reading,
-    messages: &Messages,
-    service: &str,
-    method: &Signature,
-) -> Result<(), NoMemory>
-    ensures { OnOk result (map found_of found.new.items ≡ map found_of found.old.items
-        ++ found_by rules.now.chosen (reading_of reading.now) rule.RpcRequestResponseUnique
-        (rpc_request_response_unique
-        (reading_of reading.now) messages.now service.now method.now)) }
+fn has_shared(reading: &Reading, messages: &Messages, method: &Signature) -> bool
+    ensures { result ≡
+        (is_shared messages.now (type_meant (reading_of reading.now) method.now.input)
+        || is_shared messages.now (type_meant (reading_of reading.now) method.now.output)) }
 {
-    let rule = Rule::RpcRequestResponseUnique;
-    if !rules.has(rule) {
-        return Ok(());
-    }
     let input = type_meant(reading, &method.input);
     let output = type_meant(reading, &method.output);
-    let passes = !(messages.is_shared(input) || messages.is_shared(output));
-    add_below_unless(alloc, found, reading, rule, passes, service, method.name)
+    messages.is_shared(input) || messages.is_shared(output)
 }
 
 // ---- all of them
@@ -225,10 +118,24 @@ pub(crate) fn add_method(
         ++ method_finds rules.now.chosen
         (reading_of reading.now) messages.now service.now.full.now service.now.token method.now) }
 {
-    add_client_stream(alloc, found, rules, reading, service.full, method)?;
-    add_server_stream(alloc, found, rules, reading, service.full, method)?;
-    add_method_name(alloc, found, rules, reading, service.full, method)?;
-    add_shared(alloc, found, rules, reading, messages, service.full, method)?;
-    add_request_name(alloc, found, rules, reading, service, method)?;
-    add_response_name(alloc, found, rules, reading, service, method)
+    let name = method.name;
+    let full = service.full;
+    let rule = Rule::RpcNoClientStreaming;
+    let passes = method.input.stream.is_none();
+    add_name(alloc, found, rules, reading, rule, passes, full, name)?;
+    let rule = Rule::RpcNoServerStreaming;
+    let passes = method.output.stream.is_none();
+    add_name(alloc, found, rules, reading, rule, passes, full, name)?;
+    let rule = Rule::RpcPascalCase;
+    let passes = is_pascal(reading.text(name));
+    add_name(alloc, found, rules, reading, rule, passes, full, name)?;
+    let rule = Rule::RpcRequestResponseUnique;
+    let passes = !has_shared(reading, messages, method);
+    add_name(alloc, found, rules, reading, rule, passes, full, name)?;
+    let rule = Rule::RpcRequestStandardName;
+    let passes = is_request_standard(reading, service.token, method);
+    add_name(alloc, found, rules, reading, rule, passes, full, name)?;
+    let rule = Rule::RpcResponseStandardName;
+    let passes = is_response_standard(reading, service.token, method);
+    add_name(alloc, found, rules, reading, rule, passes, full, name)
 }

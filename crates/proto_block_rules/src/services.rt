@@ -3,65 +3,24 @@
 ghost use Rattle.std.specs.Prelude.{◌≡◌, ◌++◌, nat_eq, codes, flat_map, map, OnOk};
 ghost use Rattle.std.specs.List.{ends_with};
 ghost use Rattle.proto_tree.specs.File.{service_item_tree, trees};
-ghost use Rattle.proto_findings.specs.declared.rule.Rule.TheVariants as rule;
-ghost use Rattle.proto_findings.specs.Placed.{found_by};
 ghost use Rattle.proto_findings.specs.Readings.{reading_of};
 ghost use Rattle.proto_findings.specs.Views.{found_of};
 ghost use Rattle.proto_block_rules.specs.Methods.{method_finds, methods_finds, signatures_in};
-ghost use Rattle.proto_block_rules.specs.NameRules.{service_finds, service_pascal_case, service_suffix};
+ghost use Rattle.proto_block_rules.specs.NameRules.{service_finds};
 
 use crate::methods::{ServiceName, add_method};
+use crate::names::add_name;
 use crate::shared::Messages;
 use proto_case::is_pascal;
 use proto_faults::NoMemory;
-use proto_findings::{Found, Reading, Rule, RuleSet, add_below_unless, below};
+use proto_findings::{Found, Reading, Rule, RuleSet, below};
 use proto_tree::{Service, ServiceItem};
 use std::alloc::Global;
-
-fn add_service_name(
-    alloc: Global,
-    found: &mut Vec<Found>,
-    rules: &RuleSet,
-    reading: &Reading,
-    scope: &str,
-    name: u32,
-) -> Result<(), NoMemory>
-    ensures { OnOk result (map found_of found.new.items ≡ map found_of found.old.items
-        ++ found_by rules.now.chosen (reading_of reading.now) rule.ServicePascalCase
-        (service_pascal_case (reading_of reading.now) scope.now name)) }
-{
-    let rule = Rule::ServicePascalCase;
-    if !rules.has(rule) {
-        return Ok(());
-    }
-    let passes = is_pascal(reading.text(name));
-    add_below_unless(alloc, found, reading, rule, passes, scope, name)
-}
 
 fn has_service_suffix(word: &str) -> bool
     ensures { result ≡ ends_with nat_eq word.now (codes "Service") }
 {
     word.ends_with("Service")
-}
-
-fn add_service_suffix(
-    alloc: Global,
-    found: &mut Vec<Found>,
-    rules: &RuleSet,
-    reading: &Reading,
-    scope: &str,
-    name: u32,
-) -> Result<(), NoMemory>
-    ensures { OnOk result (map found_of found.new.items ≡ map found_of found.old.items
-        ++ found_by rules.now.chosen (reading_of reading.now) rule.ServiceSuffix
-        (service_suffix (reading_of reading.now) scope.now name)) }
-{
-    let rule = Rule::ServiceSuffix;
-    if !rules.has(rule) {
-        return Ok(());
-    }
-    let passes = has_service_suffix(reading.text(name));
-    add_below_unless(alloc, found, reading, rule, passes, scope, name)
 }
 
 // What the rules of methods find at an item of a service.
@@ -158,7 +117,12 @@ pub(crate) fn add_service(
         ++ methods_finds rules.now.chosen (reading_of reading.now) messages.now scope.now
         service.now.name (trees service_item_tree service.now.members.items))) }
 {
-    add_service_name(alloc, found, rules, reading, scope, service.name)?;
-    add_service_suffix(alloc, found, rules, reading, scope, service.name)?;
+    let name = service.name;
+    let rule = Rule::ServicePascalCase;
+    let passes = is_pascal(reading.text(name));
+    add_name(alloc, found, rules, reading, rule, passes, scope, name)?;
+    let rule = Rule::ServiceSuffix;
+    let passes = has_service_suffix(reading.text(name));
+    add_name(alloc, found, rules, reading, rule, passes, scope, name)?;
     add_methods(alloc, found, rules, reading, messages, scope, service)
 }

@@ -1,4 +1,4 @@
-use Rattle.std.proofs.Common.{◌≡◌, ◌++◌, take, map, flat_map}
+use Rattle.std.proofs.Common.{◌≡◌, ◌++◌, drop, map, flat_map}
 use Rattle.proto_parts.specs.Views.{field_of}
 use Rattle.proto_case.specs.Cases.{is_lower_snake}
 use Rattle.proto_findings.specs.declared.rule.Rule.TheVariants as rule
@@ -8,4 +8,4 @@ use Rattle.proto_findings.specs.Views.{found_of}
 use Rattle.proto_block_rules.proofs.messages.add_each_field.Given as goal
 
 abbrev pub invariant-loop-field : goal.invariant-loop-field
-invariant-loop-field l = map found_of l.found.items ≡ map found_of l.initial.found.items ++ map (found_at (reading_of l.reading) rule.FieldLowerSnakeCase) (flat_map (λ f. unless_word (reading_of l.reading) is_lower_snake l.message f.name) (map field_of (take l.field-index l.fields)))
+invariant-loop-field l = map found_of l.found.items ++ map (found_at (reading_of l.reading) rule.FieldLowerSnakeCase) (flat_map (λ f. unless_word (reading_of l.reading) is_lower_snake l.message f.name) (map field_of (drop l.field-index l.fields))) ≡ map found_of l.initial.found.items ++ map (found_at (reading_of l.reading) rule.FieldLowerSnakeCase) (flat_map (λ f. unless_word (reading_of l.reading) is_lower_snake l.message f.name) (map field_of l.fields))

@@ -1,18 +1,29 @@
-use Rattle.std.proofs.Common.{Bor, ℕ, List, ◌++◌, map, flat_map, ◌∙◌, ap, sym}
-use Rattle.std.proofs.lemmas.List.{take_all}
+use Rattle.std.proofs.Common.{Bor, ℕ, List, ◌++◌, map, ◌∙◌, ap, refl}
 use Rattle.proto_tree.specs.declared.tree.Item.{Item}
 use Rattle.proto_tree.specs.File.{item_tree, trees}
-use Rattle.proto_findings.specs.Readings.{reading_of}
+use Rattle.proto_findings.specs.Readings.{Reading, reading_of}
 use Rattle.proto_block_rules.specs.Walks.{outer_messages}
-use Rattle.proto_block_rules.proofs.OuterMessages.{outer_of_trees}
+use Rattle.proto_block_rules.proofs.OuterMessages.{outer_of_items}
+use Rattle.proto_block_rules.proofs.Turns.{turn, turned}
 use Rattle.proto_block_rules.proofs.method_types.add_file_messages.Goals as goal
+
+abbrev seen : List (Bor (List ℕ)) → List (List ℕ)
+seen names = map (λ s. s.now) names
+
+abbrev told : Reading → List Item → List (List ℕ)
+told r items = outer_messages r (trees item_tree items)
+
+pub loop-item-preserved : goal.loop-item-preserved
+loop-item-preserved c =
+    let r = reading_of c.args.reading.now in
+    let items = c.deref-item-items.result.now in
+    turn (told r) (λ x. outer_messages r (item_tree x)) (outer_of_items r item_tree) items c.loop-item.item-index c.item-item.result
+    (seen c.loop-item.all.items) (seen c.add_item_messages.new.all.items) (seen c.args.all.now.items ++ told r items) c.loop-item-test.true c.item-item.is c.in_ok-add_item_messages.ensures c.loop-item.invariant
 
 pub returns : goal.returns
 returns c =
-    let reading = reading_of c.args.reading.now in
-    let all = map (λ (s : Bor (List ℕ)). s.now) c.args.all.now.items in
-    let items = c.deref-item-items in
-    c.loop-item.invariant
-    ∙ ap (λ (is : List Item). all ++ flat_map (λ i. outer_messages reading (item_tree i)) is) (take_all c.loop-item.item-index items.result.now c.loop-item-test.false)
-    ∙ ap (λ (ms : List (List ℕ)). all ++ ms) (sym (outer_of_trees reading item_tree items.result.now))
-    ∙ ap (λ (is : List Item). all ++ outer_messages reading (trees item_tree is)) items.ensures.value
+    let r = reading_of c.args.reading.now in
+    let items = c.deref-item-items.result.now in
+    let old = seen c.args.all.now.items in
+    turned (told r) refl items c.loop-item.item-index (seen c.loop-item.all.items) (old ++ told r items) c.loop-item-test.false c.loop-item.invariant
+    ∙ ap (λ (is : List Item). old ++ told r is) c.deref-item-items.ensures.value

@@ -5,4 +5,4 @@ use Rattle.proto_block_rules.specs.Methods.{messages_of, signatures_in}
 use Rattle.proto_block_rules.proofs.shared.add_messages.Given as goal
 
 abbrev pub invariant-loop-item : goal.invariant-loop-item
-invariant-loop-item l = map (λ s. s.now) l.all.items ++ messages_of (reading_of l.reading) (signatures_in (trees service_item_tree (drop l.item-index l.service.members.items))) ≡ map (λ s. s.now) l.initial.all.items ++ messages_of (reading_of l.reading) (signatures_in (trees service_item_tree l.service.members.items))
+invariant-loop-item l = map (λ s. s.now) l.all.items ++ messages_of (reading_of l.reading) (signatures_in (trees service_item_tree (drop l.item-index l.item-items))) ≡ map (λ s. s.now) l.fn.all.items ++ messages_of (reading_of l.reading) (signatures_in (trees service_item_tree l.item-items))

@@ -1,21 +1,33 @@
-use Rattle.std.proofs.Common.{◌++◌, List, map, flat_map, ◌∙◌, ap, sym, arith}
-use Rattle.std.proofs.lemmas.List.{take_all}
+use Rattle.std.proofs.Common.{ℕ, ◌++◌, List, map, ◌∙◌, refl, ap, sym, arith}
 use Rattle.std.proofs.lemmas.Result.{on_ok_weaker}
 use Rattle.proto_tree.specs.declared.tree.Member.{Member}
-use Rattle.proto_tree.specs.File.{member_tree}
+use Rattle.proto_tree.specs.File.{member_tree, trees}
 use Rattle.proto_tree.proofs.Nodes.{member_tree-Enum, member_tree-Oneof}
 use Rattle.proto_findings.specs.Placed.{Found}
 use Rattle.proto_findings.specs.Views.{found_of}
+use Rattle.proto_block_rules.specs.declared.walk.Walk.{Walk}
 use Rattle.proto_block_rules.specs.Walks.{walk_finds}
-use Rattle.proto_block_rules.proofs.BlockTrees.{finds_of_enum, finds_of_oneof, finds_of_trees}
+use Rattle.proto_block_rules.proofs.BlockTrees.{finds_of_enum, finds_of_items, finds_of_oneof}
+use Rattle.proto_block_rules.proofs.Turns.{turn, turned}
 use Rattle.proto_block_rules.proofs.walk.+members.Goals as goal
+
+abbrev told : Walk → List ℕ → List Member → List Found
+told walk scope members = walk_finds walk scope (trees member_tree members)
+
+pub add_members-loop-member-preserved : goal.add_members-loop-member-preserved
+add_members-loop-member-preserved t c =
+    let walk = c.args.walk.now in
+    let scope = c.args.scope.now in
+    let members = c.args.members.now in
+    turn (told walk scope) (λ m. walk_finds walk scope (member_tree m)) (finds_of_items walk member_tree scope) members c.loop-member.member-index c.member-item.result
+    (map found_of c.loop-member.found.items) (map found_of c.add_member.new.found.items) (map found_of c.args.found.now.items ++ told walk scope members)
+    c.loop-member-test.true c.member-item.is c.in_ok-add_member.ensures c.loop-member.invariant
 
 pub add_members-returns : goal.add_members-returns
 add_members-returns t c =
-    let found = map found_of c.args.found.now.items in
-    c.loop-member.invariant
-    ∙ ap (λ (ms : List Member). found ++ flat_map (λ m. walk_finds c.args.walk.now c.args.scope.now (member_tree m)) ms) (take_all c.loop-member.member-index c.args.members.now (omega arith))
-    ∙ ap (λ (fs : List Found). found ++ fs) (sym (finds_of_trees c.args.walk.now member_tree c.args.scope.now c.args.members.now))
+    let walk = c.args.walk.now in
+    let scope = c.args.scope.now in
+    turned (told walk scope) refl c.args.members.now c.loop-member.member-index (map found_of c.loop-member.found.items) (map found_of c.args.found.now.items ++ told walk scope c.args.members.now) c.loop-member-test.false c.loop-member.invariant
 
 pub add_message_block-add_members-requires : goal.add_message_block-add_members-requires
 add_message_block-add_members-requires t c = (rw c.deref-2.ensures.value (omega arith), tt)

@@ -1,11 +1,11 @@
-use Rattle.std.proofs.Common.{◌≡◌, ◌+◌, ◌*◌, ◌++◌, map, take, flat_map}
-use Rattle.proto_tree.specs.File.{member_tree}
+use Rattle.std.proofs.Common.{◌≡◌, ◌+◌, ◌*◌, ◌++◌, map, drop}
+use Rattle.proto_tree.specs.File.{member_tree, trees}
 use Rattle.proto_findings.specs.Views.{found_of}
 use Rattle.proto_block_rules.specs.Walks.{walk_finds}
 use Rattle.proto_block_rules.proofs.walk.+members.Given as goal
 
 abbrev pub invariant-add_members-loop-member : goal.invariant-add_members-loop-member
-invariant-add_members-loop-member l = map found_of l.found.items ≡ map found_of l.initial.found.items ++ flat_map (λ m. walk_finds l.walk l.scope (member_tree m)) (take l.member-index l.members)
+invariant-add_members-loop-member l = map found_of l.found.items ++ walk_finds l.walk l.scope (trees member_tree (drop l.member-index l.members)) ≡ map found_of l.initial.found.items ++ walk_finds l.walk l.scope (trees member_tree l.members)
 
 abbrev pub decreases-add_message_block : goal.decreases-add_message_block
 decreases-add_message_block l = 3 * goal.size-add_message_block l + 2
