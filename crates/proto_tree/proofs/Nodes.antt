@@ -14,7 +14,7 @@ use Rattle.proto_tree.specs.declared.context.Context.TheVariants as context
 use Rattle.proto_tree.specs.declared.context.Kind.{Kind}
 use Rattle.proto_tree.specs.declared.context.Kind.TheVariants as kind
 use Rattle.proto_tree.specs.Flat.{Mark, one, Fit, flat_statement, flat_header, flat_piece}
-use Rattle.proto_tree.specs.Tree.{Tree, End, Leaf, Block, flat, IsWellFormed, Spells, kind_of, statement_kind, header_kind, allows, after, inside, last_of, joined, all_joined}
+use Rattle.proto_tree.specs.Tree.{Tree, End, Leaf, Block, flat, IsWellFormed, kind_of, statement_kind, header_kind, allows, after, inside, last_of, joined, all_joined}
 use Rattle.proto_tree.specs.Walk.{moved, Walk, any_piece_in, piece_in, IsStuck}
 use Rattle.proto_tree.specs.declared.tree.Block.{Block as Braced}
 use Rattle.proto_tree.specs.declared.tree.Field.{Field}
@@ -226,12 +226,6 @@ last_push c d f view xs ys x e l same = ap (last_of c) (ap (trees view) same ∙
 
 pub outer_stays : (c d : Context) (t : Tree) → last_of c t ≡ d → IsOuter c → IsOuter d
 outer_stays c d t e o = ap (λ x. allows x kind.Close) (sym e) ∙ last_outer t c o
-
-pub read_all : (tokens rest : List Lexeme) (t : Tree) → IsRead context.Start tokens t rest → rest ≡ [] → Spells t tokens
-read_all tokens rest t h e = record {
-  well_formed = h.well_formed;
-  fits = subst (λ s. Fit (flat t) s) (sym (h.parts ∙ ap (λ (r : List Lexeme). h.text ++ r) e ∙ append-nil h.text)) h.fits;
-}
 
 -- ---- a nested message
 

@@ -1,17 +1,14 @@
 -- A file has a tree, or one fault.
-use Rattle.std.proofs.Common.{◌≡◌, ℕ, ◌+◌, ◌<◌, List, refl, sym, ap, subst, ◌∙◌, ◌⊎◌, inl, inr, arith}
+use Rattle.std.proofs.Common.{◌≡◌, ℕ, ◌+◌, ◌<◌, List, refl, sym, ap, ◌∙◌, ◌⊎◌, inl, inr, arith}
 use Rattle.std.specs.Prelude.{Result, Ok, Err, IfOk, IfErr, IsErrAnd, MatchResult}
 use Rattle.std.proofs.lemmas.Bool.{cases_lt}
 use Rattle.proto_text.specs.declared.lexer.Token.{Token}
-use Rattle.proto_text.specs.Tokens.{AreTokens}
 use Rattle.proto_tree.specs.declared.class.Lexeme.{Lexeme}
 use Rattle.proto_tree.specs.declared.tree.File.{File}
-use Rattle.proto_tree.specs.declared.files.Unread.TheVariants as unread
 use Rattle.proto_tree.specs.declared.parsing.ParseFault.{ParseFault}
 use Rattle.proto_tree.specs.declared.parsing.ParseFault.TheVariants as fault
-use Rattle.proto_tree.specs.Answer.{IsUnread}
 use Rattle.proto_tree.specs.File.{tree_of_file}
-use Rattle.proto_tree.specs.Tree.{Tree, Spells}
+use Rattle.proto_tree.specs.Tree.{Tree}
 use Rattle.proto_tree.specs.Place.{IsPlace, IsShallow, IsTooDeep}
 use Rattle.proto_tree.specs.Laws.{OneTree}
 use Rattle.proto_tree.proofs.Faults.{one_tree}
@@ -92,19 +89,7 @@ parsed_only_fault text tokens (Err e) h f k = elim (fault_or_memory text tokens 
   | inr g ↦ inl (one_fault text tokens e f g k)
 ]
 
--- ---- from the tokens as the grammar sees them
-
-pub read_tree : (text : List ℕ) (tokens : List Token) (ls : List Lexeme) (f : File) → AreTokens text tokens → ls ≡ classed text tokens → Spells (tree_of_file f) ls × IsShallow ls → ((t : Tree) → Spells t ls → t ≡ tree_of_file f) → IsParsed text tokens (Ok f)
-read_tree text tokens ls f are e found only = (
-  record { tokens_are = are; spells = subst (λ s. Spells (tree_of_file f) s) e found.0; shallow = subst (λ s. IsShallow s) e found.1 },
-  λ t h. only t (subst (λ s. Spells t s) (sym e) h),
-)
-
-pub read_syntax : (text : List ℕ) (tokens : List Token) (ls : List Lexeme) (k offset : ℕ) → ls ≡ classed text tokens → IsUnread ls (unread.Syntax k) → offset ≡ place_at text tokens k → IsParsed text tokens (Err (fault.Syntax offset))
-read_syntax text tokens ls k offset e h same = let g = subst (λ s. IsUnread s (unread.Syntax k)) e h in record { shallow = g.0; no_tree = g.1; at = k; place = g.2; offset_is = same }
-
-pub read_deep : (text : List ℕ) (tokens : List Token) (ls : List Lexeme) (k offset : ℕ) → ls ≡ classed text tokens → IsUnread ls (unread.TooDeep k) → offset ≡ place_at text tokens k → IsParsed text tokens (Err (fault.TooDeep offset))
-read_deep text tokens ls k offset e h same = record { at = k; place = subst (λ s. IsTooDeep s k) e h; offset_is = same }
+-- ---- one tree
 
 pub one_reading : OneTree
 one_reading text tokens a b r s = one_tree a b (classed text tokens) r.spells s.spells

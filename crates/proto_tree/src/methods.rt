@@ -1,12 +1,12 @@
 //! Reading methods.
 
-ghost use Rattle.std.specs.Prelude.{◌≡◌};
-ghost use Rattle.proto_tree.specs.Reading.{Gives, method_type_at, signature_at, ending_at, method_piece, method_at};
+ghost use Rattle.std.specs.Prelude.{◌≡◌, true};
+ghost use Rattle.proto_tree.specs.Reading.{Gives, starts, method_type_at, signature_at, ending_at, method_piece, method_at};
 
 use crate::class::{Class, Lexeme, Want};
 use crate::names::reference;
 use crate::piece::{Ending, Header, Piece, Statement};
-use crate::reading::{Stop, one, option, starts, take};
+use crate::reading::{Stop, first, one, option, starts, take};
 use crate::tree::{MethodType, Signature};
 use std::alloc::Global;
 
@@ -15,7 +15,7 @@ fn method_type(alloc: Global, rest: &[Lexeme]) -> Result<(MethodType, &[Lexeme])
     ensures { Gives (λ x. (x.0, x.1.now)) result (method_type_at rest.now) }
 {
     let (open, rest) = one(rest, Class::LeftParenthesis)?;
-    let (stream, rest) = option(rest, Want::One(Class::Stream))?;
+    let (stream, rest) = option(rest, Want::One(Class::Stream));
     let (reference, rest) = reference(alloc, rest)?;
     let (close, rest) = one(rest, Class::RightParenthesis)?;
     Ok((
@@ -31,9 +31,10 @@ fn method_type(alloc: Global, rest: &[Lexeme]) -> Result<(MethodType, &[Lexeme])
 
 #[tactic(auto, unfolding(crate::specs::Reading::signature_at))]
 fn signature(alloc: Global, rest: &[Lexeme]) -> Result<(Signature, &[Lexeme]), Stop>
+    requires { starts (Want.One Class.Rpc) rest.now ≡ true }
     ensures { Gives (λ x. (x.0, x.1.now)) result (signature_at rest.now) }
 {
-    let (keyword, rest) = one(rest, Class::Rpc)?;
+    let (keyword, rest) = first(rest, Want::One(Class::Rpc));
     let (name, rest) = take(rest, Want::Name)?;
     let (input, rest) = method_type(alloc, rest)?;
     let (returns, rest) = one(rest, Class::Returns)?;
@@ -55,7 +56,7 @@ fn ending(rest: &[Lexeme]) -> Result<(Ending, &[Lexeme]), Stop>
     ensures { Gives (λ x. (x.0, x.1.now)) result (ending_at rest.now) }
 {
     if starts(rest, Want::One(Class::Semicolon)) {
-        let (at, rest) = one(rest, Class::Semicolon)?;
+        let (at, rest) = first(rest, Want::One(Class::Semicolon));
         return Ok((Ending::Semicolon(at), rest));
     }
     let (at, rest) = one(rest, Class::Open)?;
@@ -74,6 +75,7 @@ fn ended(signature: Signature, ending: Ending) -> Piece
 /// A method that ends in a `;`, or the beginning of one with a block.
 #[tactic(auto, unfolding(crate::specs::Reading::method_at))]
 pub fn method(alloc: Global, rest: &[Lexeme]) -> Result<(Piece, &[Lexeme]), Stop>
+    requires { starts (Want.One Class.Rpc) rest.now ≡ true }
     ensures { Gives (λ x. (x.0, x.1.now)) result (method_at rest.now) }
 {
     let (signature, rest) = signature(alloc, rest)?;

@@ -3,7 +3,7 @@
 ghost use Rattle.proto_tree.specs.Reading.{Gives, dotted_at, named_at, package_name_at, reference_at, type_at};
 
 use crate::class::{Class, Lexeme, Want};
-use crate::reading::{Stop, one, separated, starts};
+use crate::reading::{Stop, first, separated, starts};
 use crate::tree::{Dotted, FieldType, Reference};
 use std::alloc::Global;
 
@@ -34,7 +34,7 @@ pub fn reference(alloc: Global, rest: &[Lexeme]) -> Result<(Reference, &[Lexeme]
     ensures { Gives (λ x. (x.0, x.1.now)) result (reference_at rest.now) }
 {
     if starts(rest, Want::One(Class::Dot)) {
-        let (dot, rest) = one(rest, Class::Dot)?;
+        let (dot, rest) = first(rest, Want::One(Class::Dot));
         let (words, rest) = dotted(alloc, rest)?;
         return Ok((
             Reference {
@@ -54,7 +54,7 @@ pub fn field_type(alloc: Global, rest: &[Lexeme]) -> Result<(FieldType, &[Lexeme
     ensures { Gives (λ x. (x.0, x.1.now)) result (type_at rest.now) }
 {
     if starts(rest, Want::One(Class::Scalar)) {
-        let (word, rest) = one(rest, Class::Scalar)?;
+        let (word, rest) = first(rest, Want::One(Class::Scalar));
         return Ok((FieldType::Scalar(word), rest));
     }
     let (words, rest) = reference(alloc, rest)?;

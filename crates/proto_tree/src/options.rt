@@ -1,12 +1,13 @@
 //! Reading options and their values.
 
-ghost use Rattle.proto_tree.specs.Reading.{Gives, stated, token, many, behind_at, separated_at, signed_at, joined_at, constant_at, setting_at, settings_at, maybe_settings, option_at};
+ghost use Rattle.std.specs.Prelude.{◌≡◌, true};
+ghost use Rattle.proto_tree.specs.Reading.{Gives, starts, stated, token, many, signed_at, joined_at, constant_at, setting_at, settings_at, maybe_settings, option_at};
 
 use crate::class::{Class, Lexeme, Want};
 use crate::list::Sequence;
 use crate::piece::{Piece, Statement};
-use crate::reading::{Stop, one, option, starts, take, three};
-use crate::tree::{Behind, Constant, Joined, Option_, Separated, Setting, Settings, Signed};
+use crate::reading::{Listed, Stop, first, one, option, separated, starts, take, three};
+use crate::tree::{Constant, Joined, Option_, Setting, Settings, Signed};
 use std::alloc::Global;
 
 /// A number, with a `-` before it where there is one.
@@ -14,7 +15,7 @@ use std::alloc::Global;
 pub fn signed(rest: &[Lexeme]) -> Result<(Signed, &[Lexeme]), Stop>
     ensures { Gives (λ x. (x.0, x.1.now)) result (signed_at rest.now) }
 {
-    let (minus, rest) = option(rest, Want::One(Class::Minus))?;
+    let (minus, rest) = option(rest, Want::One(Class::Minus));
     let (number, rest) = one(rest, Class::Number)?;
     Ok((Signed { minus, number }, rest))
 }
@@ -28,7 +29,7 @@ fn more_texts(alloc: Global, tokens: &[Lexeme]) -> Result<(Sequence<u32>, &[Lexe
         if !starts(rest, Want::Text) {
             return Ok((items, rest));
         }
-        let (item, after) = take(rest, Want::Text)?;
+        let (item, after) = first(rest, Want::Text);
         items.push(item)?;
         rest = after;
     }
@@ -37,9 +38,10 @@ fn more_texts(alloc: Global, tokens: &[Lexeme]) -> Result<(Sequence<u32>, &[Lexe
 
 #[tactic(auto, unfolding(crate::specs::Reading::joined_at))]
 fn joined(alloc: Global, rest: &[Lexeme]) -> Result<(Joined, &[Lexeme]), Stop>
+    requires { starts Want.Text rest.now ≡ true }
     ensures { Gives (λ x. (x.0, x.1.now)) result (joined_at rest.now) }
 {
-    let (first, rest) = take(rest, Want::Text)?;
+    let (first, rest) = first(rest, Want::Text);
     let (more, rest) = more_texts(alloc, rest)?;
     Ok((Joined { first, rest: more }, rest))
 }
@@ -50,7 +52,7 @@ fn constant(alloc: Global, rest: &[Lexeme]) -> Result<(Constant, &[Lexeme]), Sto
     ensures { Gives (λ x. (x.0, x.1.now)) result (constant_at rest.now) }
 {
     if starts(rest, Want::Constant) {
-        let (word, rest) = take(rest, Want::Constant)?;
+        let (word, rest) = first(rest, Want::Constant);
         return Ok((Constant::Word(word), rest));
     }
     if starts(rest, Want::Text) {
@@ -78,63 +80,29 @@ fn setting(alloc: Global, rest: &[Lexeme]) -> Result<(Setting, &[Lexeme]), Stop>
     ))
 }
 
-#[tactic(auto, unfolding(crate::specs::Reading::behind_at))]
-fn next_setting(alloc: Global, rest: &[Lexeme]) -> Result<(Behind<Setting>, &[Lexeme]), Stop>
-    ensures { Gives (λ x. (x.0, x.1.now)) result (behind_at Class.Comma setting_at rest.now) }
-{
-    let (separator, rest) = one(rest, Class::Comma)?;
-    let (item, rest) = setting(alloc, rest)?;
-    Ok((Behind { separator, item }, rest))
-}
+impl Listed for Setting {
+    ghost use Rattle.proto_tree.specs.Reading.{setting_at};
 
-fn more_settings(
-    alloc: Global,
-    tokens: &[Lexeme],
-) -> Result<(Sequence<Behind<Setting>>, &[Lexeme]), Stop>
-    ensures { Gives (λ x. (x.0, x.1.now)) result
-        (many (Want.One Class.Comma) (behind_at Class.Comma setting_at) tokens.now) }
-{
-    let mut items = Sequence::new(alloc);
-    let mut rest = tokens;
-    for _ in 0..tokens.len() {
-        if !starts(rest, Want::One(Class::Comma)) {
-            return Ok((items, rest));
-        }
-        let (item, after) = next_setting(alloc, rest)?;
-        items.push(item)?;
-        rest = after;
+    ghost item_at = { λ w. setting_at };
+
+    fn item(alloc: Global, rest: &[Lexeme], _want: Want) -> Result<(Self, &[Lexeme]), Stop> {
+        setting(alloc, rest)
     }
-    Ok((items, rest))
-}
-
-#[tactic(auto, unfolding(crate::specs::Reading::from_at))]
-fn setting_list(alloc: Global, rest: &[Lexeme]) -> Result<(Separated<Setting>, &[Lexeme]), Stop>
-    ensures { Gives (λ x. (x.0, x.1.now)) result (separated_at Class.Comma setting_at rest.now) }
-{
-    let (first, rest) = setting(alloc, rest)?;
-    let (more, rest) = more_settings(alloc, rest)?;
-    Ok((Separated { first, rest: more }, rest))
-}
-
-#[tactic(auto, unfolding(crate::specs::Reading::settings_at))]
-fn bracketed(alloc: Global, rest: &[Lexeme]) -> Result<(Settings, &[Lexeme]), Stop>
-    ensures { Gives (λ x. (x.0, x.1.now)) result (settings_at rest.now) }
-{
-    let (open, rest) = one(rest, Class::LeftBracket)?;
-    let (list, rest) = setting_list(alloc, rest)?;
-    let (close, rest) = one(rest, Class::RightBracket)?;
-    Ok((Settings { open, list, close }, rest))
 }
 
 /// The settings of a field or a value, where it has some.
+#[tactic(auto, unfolding(crate::specs::Reading::settings_at))]
 pub fn settings(alloc: Global, rest: &[Lexeme]) -> Result<(Option<Settings>, &[Lexeme]), Stop>
     ensures { Gives (λ x. (x.0, x.1.now)) result (maybe_settings rest.now) }
 {
-    if starts(rest, Want::One(Class::LeftBracket)) {
-        let (found, rest) = bracketed(alloc, rest)?;
-        return Ok((Some(found), rest));
+    if !starts(rest, Want::One(Class::LeftBracket)) {
+        return Ok((None, rest));
     }
-    Ok((None, rest))
+    let (open, rest) = first(rest, Want::One(Class::LeftBracket));
+    let name = Want::OptionName;
+    let (list, rest) = separated(alloc, rest, Class::Comma, name, name)?;
+    let (close, rest) = one(rest, Class::RightBracket)?;
+    Ok((Some(Settings { open, list, close }), rest))
 }
 
 /// `option name = value;`

@@ -1,7 +1,7 @@
 //! Reading a piece: a statement, or what begins or ends a block.
 
-ghost use Rattle.std.specs.Prelude.{◌≡◌};
-ghost use Rattle.proto_tree.specs.Reading.{Gives, header_of, opened, close_at, empty_at, enum_piece_at, piece_at};
+ghost use Rattle.std.specs.Prelude.{◌≡◌, true};
+ghost use Rattle.proto_tree.specs.Reading.{Gives, starts, stated, one_token, reserved_at, header_of, opened, close_at, empty_at, enum_piece_at, piece_at};
 ghost use Rattle.proto_tree.specs.Walk.{any_piece_in};
 
 use crate::class::{Class, Lexeme, Want};
@@ -10,7 +10,7 @@ use crate::methods::method;
 use crate::options::option_statement;
 use crate::piece::{Header, Heading, Piece, Statement};
 use crate::ranges::{extensions, reserved};
-use crate::reading::{Stop, one, starts, three};
+use crate::reading::{Stop, first, starts, three};
 use crate::statements::{field, import, map_field, package, syntax, value};
 use std::alloc::Global;
 
@@ -37,16 +37,18 @@ fn opening(rest: &[Lexeme], class: Class) -> Result<(Piece, &[Lexeme]), Stop>
 }
 
 fn close(rest: &[Lexeme]) -> Result<(Piece, &[Lexeme]), Stop>
+    requires { starts (Want.One Class.Close) rest.now ≡ true }
     ensures { Gives (λ x. (x.0, x.1.now)) result (close_at rest.now) }
 {
-    let (at, rest) = one(rest, Class::Close)?;
+    let (at, rest) = first(rest, Want::One(Class::Close));
     Ok((Piece::Close(at), rest))
 }
 
 fn empty(rest: &[Lexeme]) -> Result<(Piece, &[Lexeme]), Stop>
+    requires { starts (Want.One Class.Semicolon) rest.now ≡ true }
     ensures { Gives (λ x. (x.0, x.1.now)) result (empty_at rest.now) }
 {
-    let (at, rest) = one(rest, Class::Semicolon)?;
+    let (at, rest) = first(rest, Want::One(Class::Semicolon));
     Ok((Piece::Statement(Statement::Empty(at)), rest))
 }
 
@@ -70,54 +72,39 @@ fn enum_piece(alloc: Global, rest: &[Lexeme]) -> Result<(Piece, &[Lexeme]), Stop
     value(alloc, rest)
 }
 
+fn reserved_piece(alloc: Global, rest: &[Lexeme]) -> Result<(Piece, &[Lexeme]), Stop>
+    requires { starts (Want.One Class.Reserved) rest.now ≡ true }
+    ensures { Gives (λ x. (x.0, x.1.now)) result
+        (stated Statement.Reserved (reserved_at (one_token Class.Number)) rest.now) }
+{
+    let (reserved, rest) = reserved(alloc, rest)?;
+    Ok((Piece::Statement(Statement::Reserved(reserved)), rest))
+}
+
 #[tactic(auto, unfolding(crate::specs::Reading::piece_at))]
 fn piece(alloc: Global, rest: &[Lexeme]) -> Result<(Piece, &[Lexeme]), Stop>
     ensures { Gives (λ x. (x.0, x.1.now)) result (piece_at rest.now) }
 {
-    if starts(rest, Want::One(Class::Close)) {
-        return close(rest);
+    match rest {
+        [first, ..] => match first.class {
+            Class::Close => close(rest),
+            Class::Semicolon => empty(rest),
+            Class::Message => opening(rest, Class::Message),
+            Class::Oneof => opening(rest, Class::Oneof),
+            Class::Enum => opening(rest, Class::Enum),
+            Class::Service => opening(rest, Class::Service),
+            Class::Syntax => syntax(rest),
+            Class::Import => import(rest),
+            Class::Package => package(alloc, rest),
+            Class::Option => option_statement(alloc, rest),
+            Class::Map => map_field(alloc, rest),
+            Class::Reserved => reserved_piece(alloc, rest),
+            Class::Extensions => extensions(alloc, rest),
+            Class::Rpc => method(alloc, rest),
+            _ => field(alloc, rest),
+        },
+        [] => field(alloc, rest),
     }
-    if starts(rest, Want::One(Class::Semicolon)) {
-        return empty(rest);
-    }
-    if starts(rest, Want::One(Class::Message)) {
-        return opening(rest, Class::Message);
-    }
-    if starts(rest, Want::One(Class::Oneof)) {
-        return opening(rest, Class::Oneof);
-    }
-    if starts(rest, Want::One(Class::Enum)) {
-        return opening(rest, Class::Enum);
-    }
-    if starts(rest, Want::One(Class::Service)) {
-        return opening(rest, Class::Service);
-    }
-    if starts(rest, Want::One(Class::Syntax)) {
-        return syntax(rest);
-    }
-    if starts(rest, Want::One(Class::Import)) {
-        return import(rest);
-    }
-    if starts(rest, Want::One(Class::Package)) {
-        return package(alloc, rest);
-    }
-    if starts(rest, Want::One(Class::Option)) {
-        return option_statement(alloc, rest);
-    }
-    if starts(rest, Want::One(Class::Map)) {
-        return map_field(alloc, rest);
-    }
-    if starts(rest, Want::One(Class::Reserved)) {
-        let (reserved, rest) = reserved(alloc, rest)?;
-        return Ok((Piece::Statement(Statement::Reserved(reserved)), rest));
-    }
-    if starts(rest, Want::One(Class::Extensions)) {
-        return extensions(alloc, rest);
-    }
-    if starts(rest, Want::One(Class::Rpc)) {
-        return method(alloc, rest);
-    }
-    field(alloc, rest)
 }
 
 /// A piece, read as the context asks.

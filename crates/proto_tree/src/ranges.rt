@@ -1,19 +1,17 @@
 //! Reading ranges and reserved names of messages and enums.
 
-ghost use Rattle.proto_tree.specs.Reading.{Gives, stated, maybe, many, behind_at, range_end_at, up_to_at, range_at, ranges_at, reserved_list_at, reserved_at, extensions_at};
+ghost use Rattle.std.specs.Prelude.{◌≡◌, true};
+ghost use Rattle.proto_tree.specs.Reading.{Gives, starts, stated, maybe, range_end_at, up_to_at, range_at, ranges_at, reserved_list_at, reserved_at, extensions_at};
 
 use crate::class::{Class, Lexeme, Want};
-use crate::list::Sequence;
 use crate::options::signed;
 use crate::piece::{Piece, Statement};
-use crate::reading::{Stop, one, separated, starts};
-use crate::tree::{
-    Behind, Extensions, Range, RangeEnd, Reserved, ReservedList, Separated, Signed, UpTo,
-};
+use crate::reading::{Listed, Stop, first, one, separated, starts};
+use crate::tree::{Extensions, Range, RangeEnd, Reserved, ReservedList, Separated, Signed, UpTo};
 use std::alloc::Global;
 
-/// A number of a range: those of a message have no sign, those of an enum may have one.
-pub trait RangeNumber: Drop {
+/// A number: those of a message have no sign, those of an enum may have one.
+pub trait Numeral: Drop {
     ghost use Rattle.proto_tree.specs.Reading.{Reader, Gives};
 
     /// How it is read.
@@ -24,7 +22,7 @@ pub trait RangeNumber: Drop {
         ensures { Gives (λ x. (x.0, x.1.now)) result (number_at rest.now) };
 }
 
-impl RangeNumber for u32 {
+impl Numeral for u32 {
     ghost use Rattle.proto_tree.specs.Reading.{one_token};
     ghost use Rattle.proto_tree.specs.declared.class.Class.TheVariants as class;
 
@@ -35,7 +33,7 @@ impl RangeNumber for u32 {
     }
 }
 
-impl RangeNumber for Signed {
+impl Numeral for Signed {
     ghost use Rattle.proto_tree.specs.Reading.{signed_at};
 
     ghost number_at = { signed_at };
@@ -46,11 +44,11 @@ impl RangeNumber for Signed {
 }
 
 #[tactic(auto, unfolding(crate::specs::Reading::range_end_at))]
-fn range_end<N: RangeNumber>(rest: &[Lexeme]) -> Result<(RangeEnd<N>, &[Lexeme]), Stop>
+fn range_end<N: Numeral>(rest: &[Lexeme]) -> Result<(RangeEnd<N>, &[Lexeme]), Stop>
     ensures { Gives (λ x. (x.0, x.1.now)) result (range_end_at N.number_at rest.now) }
 {
     if starts(rest, Want::One(Class::Max)) {
-        let (at, rest) = one(rest, Class::Max)?;
+        let (at, rest) = first(rest, Want::One(Class::Max));
         return Ok((RangeEnd::Max(at), rest));
     }
     let (number, rest) = N::number(rest)?;
@@ -58,79 +56,49 @@ fn range_end<N: RangeNumber>(rest: &[Lexeme]) -> Result<(RangeEnd<N>, &[Lexeme])
 }
 
 #[tactic(auto, unfolding(crate::specs::Reading::up_to_at))]
-fn up_to<N: RangeNumber>(rest: &[Lexeme]) -> Result<(UpTo<N>, &[Lexeme]), Stop>
-    ensures { Gives (λ x. (x.0, x.1.now)) result (up_to_at N.number_at rest.now) }
-{
-    let (to, rest) = one(rest, Class::To)?;
-    let (end, rest) = range_end(rest)?;
-    Ok((UpTo { to, end }, rest))
-}
-
-fn up_to_option<N: RangeNumber>(rest: &[Lexeme]) -> Result<(Option<UpTo<N>>, &[Lexeme]), Stop>
+fn up_to<N: Numeral>(rest: &[Lexeme]) -> Result<(Option<UpTo<N>>, &[Lexeme]), Stop>
     ensures { Gives (λ x. (x.0, x.1.now)) result
         (maybe (Want.One Class.To) (up_to_at N.number_at) rest.now) }
 {
-    if starts(rest, Want::One(Class::To)) {
-        let (found, rest) = up_to(rest)?;
-        return Ok((Some(found), rest));
+    if !starts(rest, Want::One(Class::To)) {
+        return Ok((None, rest));
     }
-    Ok((None, rest))
+    let (to, rest) = first(rest, Want::One(Class::To));
+    let (end, rest) = range_end(rest)?;
+    Ok((Some(UpTo { to, end }), rest))
 }
 
 #[tactic(auto, unfolding(crate::specs::Reading::range_at))]
-fn range<N: RangeNumber>(rest: &[Lexeme]) -> Result<(Range<N>, &[Lexeme]), Stop>
+fn range<N: Numeral>(rest: &[Lexeme]) -> Result<(Range<N>, &[Lexeme]), Stop>
     ensures { Gives (λ x. (x.0, x.1.now)) result (range_at N.number_at rest.now) }
 {
     let (first, rest) = N::number(rest)?;
-    let (up_to, rest) = up_to_option(rest)?;
+    let (up_to, rest) = up_to(rest)?;
     Ok((Range { first, up_to }, rest))
 }
 
-#[tactic(auto, unfolding(crate::specs::Reading::behind_at))]
-fn next_range<N: RangeNumber>(rest: &[Lexeme]) -> Result<(Behind<Range<N>>, &[Lexeme]), Stop>
-    ensures { Gives (λ x. (x.0, x.1.now)) result
-        (behind_at Class.Comma (range_at N.number_at) rest.now) }
-{
-    let (separator, rest) = one(rest, Class::Comma)?;
-    let (item, rest) = range(rest)?;
-    Ok((Behind { separator, item }, rest))
-}
+impl<N: Numeral> Listed for Range<N> {
+    ghost use Rattle.proto_tree.specs.Reading.{range_at};
 
-fn more_ranges<N: RangeNumber>(
-    alloc: Global,
-    tokens: &[Lexeme],
-) -> Result<(Sequence<Behind<Range<N>>>, &[Lexeme]), Stop>
-    ensures { Gives (λ x. (x.0, x.1.now)) result
-        (many (Want.One Class.Comma)
-        (behind_at Class.Comma (range_at N.number_at)) tokens.now) }
-{
-    let mut items = Sequence::new(alloc);
-    let mut rest = tokens;
-    for _ in 0..tokens.len() {
-        if !starts(rest, Want::One(Class::Comma)) {
-            return Ok((items, rest));
-        }
-        let (item, after) = next_range(rest)?;
-        items.push(item)?;
-        rest = after;
+    ghost item_at = { λ w. range_at N.number_at };
+
+    fn item(_alloc: Global, rest: &[Lexeme], _want: Want) -> Result<(Self, &[Lexeme]), Stop> {
+        range(rest)
     }
-    Ok((items, rest))
 }
 
-#[tactic(auto, unfolding(crate::specs::Reading::from_at))]
-fn ranges<N: RangeNumber>(
+fn ranges<N: Numeral>(
     alloc: Global,
     rest: &[Lexeme],
 ) -> Result<(Separated<Range<N>>, &[Lexeme]), Stop>
     ensures { Gives (λ x. (x.0, x.1.now)) result (ranges_at N.number_at rest.now) }
 {
-    let (first, rest) = range(rest)?;
-    let (more, rest) = more_ranges(alloc, rest)?;
-    Ok((Separated { first, rest: more }, rest))
+    let number = Want::One(Class::Number);
+    separated(alloc, rest, Class::Comma, number, number)
 }
 
 #[tactic(auto, unfolding(crate::specs::Reading::reserved_list_at))]
-fn reserved_list<N: RangeNumber>(
+fn reserved_list<N: Numeral>(
     alloc: Global,
     rest: &[Lexeme],
 ) -> Result<(ReservedList<N>, &[Lexeme]), Stop>
@@ -147,13 +115,14 @@ fn reserved_list<N: RangeNumber>(
 
 /// `reserved 1, 3 to max;` or `reserved "a", "b";`
 #[tactic(auto, unfolding(crate::specs::Reading::reserved_at))]
-pub fn reserved<N: RangeNumber>(
+pub fn reserved<N: Numeral>(
     alloc: Global,
     rest: &[Lexeme],
 ) -> Result<(Reserved<N>, &[Lexeme]), Stop>
+    requires { starts (Want.One Class.Reserved) rest.now ≡ true }
     ensures { Gives (λ x. (x.0, x.1.now)) result (reserved_at N.number_at rest.now) }
 {
-    let (keyword, rest) = one(rest, Class::Reserved)?;
+    let (keyword, rest) = first(rest, Want::One(Class::Reserved));
     let (list, rest) = reserved_list(alloc, rest)?;
     let (semicolon, rest) = one(rest, Class::Semicolon)?;
     Ok((
@@ -169,10 +138,11 @@ pub fn reserved<N: RangeNumber>(
 /// `extensions 100 to max;`
 #[tactic(auto, unfolding(crate::specs::Reading::extensions_at))]
 pub fn extensions(alloc: Global, rest: &[Lexeme]) -> Result<(Piece, &[Lexeme]), Stop>
+    requires { starts (Want.One Class.Extensions) rest.now ≡ true }
     ensures { Gives (λ x. (x.0, x.1.now)) result
         (stated Statement.Extensions extensions_at rest.now) }
 {
-    let (keyword, rest) = one(rest, Class::Extensions)?;
+    let (keyword, rest) = first(rest, Want::One(Class::Extensions));
     let (ranges, rest) = ranges(alloc, rest)?;
     let (semicolon, rest) = one(rest, Class::Semicolon)?;
     let extensions = Extensions {

@@ -1,6 +1,6 @@
 //! Reading tokens from the left.
 
-ghost use Rattle.std.specs.Prelude.{◌≡◌};
+ghost use Rattle.std.specs.Prelude.{◌≡◌, true, Some};
 ghost use Rattle.proto_tree.specs.Reading.{Gives, token, ◌then◌, starts, maybe_token, many, behind_at, from_at};
 
 use crate::class::{Class, Lexeme, Want};
@@ -78,34 +78,62 @@ pub fn starts(rest: &[Lexeme], want: Want) -> bool
     }
 }
 
+/// The first token, which was seen to be what is wanted, and the tokens behind it.
+#[tactic(auto, unfolding(crate::specs::Reading::token))]
+pub fn first(rest: &[Lexeme], want: Want) -> (u32, &[Lexeme])
+    requires { starts want rest.now ≡ true }
+    ensures { token want rest.now ≡ Some (result.0, result.1.now) }
+{
+    // The contract alone asks for it.
+    let _ = want;
+    match rest {
+        [first, rest @ ..] => (first.at, rest),
+        [] => (0, rest),
+    }
+}
+
 /// A token that may be left out.
-pub fn option(rest: &[Lexeme], want: Want) -> Result<(Option<u32>, &[Lexeme]), Stop>
-    ensures { Gives (λ x. (x.0, x.1.now)) result (maybe_token want rest.now) }
+pub fn option(rest: &[Lexeme], want: Want) -> (Option<u32>, &[Lexeme])
+    ensures { maybe_token want rest.now ≡ Some (result.0, result.1.now) }
 {
     if starts(rest, want) {
-        let (at, rest) = take(rest, want)?;
-        return Ok((Some(at), rest));
+        let (at, rest) = first(rest, want);
+        return (Some(at), rest);
     }
-    Ok((None, rest))
+    (None, rest)
 }
 
-#[tactic(auto, unfolding(crate::specs::Reading::behind_at))]
-fn behind(rest: &[Lexeme], separator: Class, want: Want) -> Result<(Behind<u32>, &[Lexeme]), Stop>
-    ensures { Gives (λ x. (x.0, x.1.now)) result (behind_at separator (token want) rest.now) }
-{
-    let (separator, rest) = one(rest, separator)?;
-    let (item, rest) = take(rest, want)?;
-    Ok((Behind { separator, item }, rest))
+/// What stands in a list, with separators between each two.
+pub trait Listed: Drop {
+    ghost use Rattle.proto_tree.specs.declared.class.Want.{Want};
+    ghost use Rattle.proto_tree.specs.Reading.{Reader, Gives};
+
+    /// How one is read that begins with what is wanted.
+    ghost item_at: { Want → Reader Self };
+
+    /// One that begins with what is wanted, and the tokens behind it.
+    fn item(alloc: Global, rest: &[Lexeme], want: Want) -> Result<(Self, &[Lexeme]), Stop>
+        ensures { Gives (λ x. (x.0, x.1.now)) result (item_at want rest.now) };
 }
 
-fn more_tokens(
+impl Listed for u32 {
+    ghost use Rattle.proto_tree.specs.Reading.{token};
+
+    ghost item_at = { token };
+
+    fn item(_alloc: Global, rest: &[Lexeme], want: Want) -> Result<(Self, &[Lexeme]), Stop> {
+        take(rest, want)
+    }
+}
+
+fn more_items<T: Listed>(
     alloc: Global,
     tokens: &[Lexeme],
     separator: Class,
     want: Want,
-) -> Result<(Sequence<Behind<u32>>, &[Lexeme]), Stop>
+) -> Result<(Sequence<Behind<T>>, &[Lexeme]), Stop>
     ensures { Gives (λ x. (x.0, x.1.now)) result
-        (many (Want.One separator) (behind_at separator (token want)) tokens.now) }
+        (many (Want.One separator) (behind_at separator (T.item_at want)) tokens.now) }
 {
     let mut items = Sequence::new(alloc);
     let mut rest = tokens;
@@ -113,26 +141,27 @@ fn more_tokens(
         if !starts(rest, Want::One(separator)) {
             return Ok((items, rest));
         }
-        let (item, after) = behind(rest, separator, want)?;
-        items.push(item)?;
+        let (separator, after) = first(rest, Want::One(separator));
+        let (item, after) = T::item(alloc, after, want)?;
+        items.push(Behind { separator, item })?;
         rest = after;
     }
     Ok((items, rest))
 }
 
-/// Tokens with separators between them, of which the first may want something else.
+/// A list with separators, whose first item may begin with something else.
 #[tactic(auto, unfolding(crate::specs::Reading::from_at))]
-pub fn separated(
+pub fn separated<T: Listed>(
     alloc: Global,
     rest: &[Lexeme],
     separator: Class,
     first: Want,
     want: Want,
-) -> Result<(Separated<u32>, &[Lexeme]), Stop>
+) -> Result<(Separated<T>, &[Lexeme]), Stop>
     ensures { Gives (λ x. (x.0, x.1.now)) result
-        (from_at separator (token first) (token want) rest.now) }
+        (from_at separator (T.item_at first) (T.item_at want) rest.now) }
 {
-    let (first, rest) = take(rest, first)?;
-    let (more, rest) = more_tokens(alloc, rest, separator, want)?;
+    let (first, rest) = T::item(alloc, rest, first)?;
+    let (more, rest) = more_items(alloc, rest, separator, want)?;
     Ok((Separated { first, rest: more }, rest))
 }

@@ -1,24 +1,28 @@
 //! Reading the statements of a file, a message and an enum.
 
-ghost use Rattle.proto_tree.specs.Reading.{Gives, stated, syntax_at, import_at, package_at, field_at, map_field_at, numbered_at, value_at};
+ghost use Rattle.std.specs.Prelude.{◌≡◌, true};
+ghost use Rattle.proto_tree.specs.Reading.{Gives, starts, stated, syntax_at, import_at, package_at, field_at, map_field_at, value_at, token, one_token, maybe_settings, ◌then◌};
 
 use crate::class::{Class, Lexeme, Want};
 use crate::names::{field_type, package_name};
-use crate::options::{settings, signed};
+use crate::options::settings;
 use crate::piece::{Piece, Statement};
-use crate::reading::{Stop, one, option, take, three};
-use crate::tree::{Field, Import, MapField, Package, Settings, Syntax, Value};
+use crate::ranges::Numeral;
+use crate::reading::{Stop, first, one, option, take, three};
+use crate::tree::{Field, Import, MapField, Package, Settings, Signed, Syntax, Value};
 use std::alloc::Global;
 
 /// `syntax = "proto3";`
 #[tactic(auto, unfolding(crate::specs::Reading::syntax_at))]
 pub fn syntax(rest: &[Lexeme]) -> Result<(Piece, &[Lexeme]), Stop>
+    requires { starts (Want.One Class.Syntax) rest.now ≡ true }
     ensures { Gives (λ x. (x.0, x.1.now)) result (stated Statement.Syntax syntax_at rest.now) }
 {
     let equals = Want::One(Class::Equals);
     let text = Want::One(Class::ProtoText);
-    let ((keyword, equals, text), rest) = three(rest, Want::One(Class::Syntax), equals, text)?;
-    let (semicolon, rest) = one(rest, Class::Semicolon)?;
+    let semicolon = Want::One(Class::Semicolon);
+    let (keyword, rest) = first(rest, Want::One(Class::Syntax));
+    let ((equals, text, semicolon), rest) = three(rest, equals, text, semicolon)?;
     let syntax = Syntax {
         keyword,
         equals,
@@ -31,10 +35,11 @@ pub fn syntax(rest: &[Lexeme]) -> Result<(Piece, &[Lexeme]), Stop>
 /// `import public "path";`
 #[tactic(auto, unfolding(crate::specs::Reading::import_at))]
 pub fn import(rest: &[Lexeme]) -> Result<(Piece, &[Lexeme]), Stop>
+    requires { starts (Want.One Class.Import) rest.now ≡ true }
     ensures { Gives (λ x. (x.0, x.1.now)) result (stated Statement.Import import_at rest.now) }
 {
-    let (keyword, rest) = one(rest, Class::Import)?;
-    let (public, rest) = option(rest, Want::One(Class::Public))?;
+    let (keyword, rest) = first(rest, Want::One(Class::Import));
+    let (public, rest) = option(rest, Want::One(Class::Public));
     let (path, rest) = take(rest, Want::Text)?;
     let (semicolon, rest) = one(rest, Class::Semicolon)?;
     let import = Import {
@@ -49,9 +54,10 @@ pub fn import(rest: &[Lexeme]) -> Result<(Piece, &[Lexeme]), Stop>
 /// `package a.b;`
 #[tactic(auto, unfolding(crate::specs::Reading::package_at))]
 pub fn package(alloc: Global, rest: &[Lexeme]) -> Result<(Piece, &[Lexeme]), Stop>
+    requires { starts (Want.One Class.Package) rest.now ≡ true }
     ensures { Gives (λ x. (x.0, x.1.now)) result (stated Statement.Package package_at rest.now) }
 {
-    let (keyword, rest) = one(rest, Class::Package)?;
+    let (keyword, rest) = first(rest, Want::One(Class::Package));
     let (name, rest) = package_name(alloc, rest)?;
     let (semicolon, rest) = one(rest, Class::Semicolon)?;
     let package = Package {
@@ -62,25 +68,33 @@ pub fn package(alloc: Global, rest: &[Lexeme]) -> Result<(Piece, &[Lexeme]), Sto
     Ok((Piece::Statement(Statement::Package(package)), rest))
 }
 
-/// What stands behind the type of a field, its name first.
+/// What stands behind the type of a field, its name first, or what a value is.
 #[derive(Drop)]
-struct NumberAndSettings {
+struct NumberAndSettings<N: Drop> {
     name: u32,
     equals: u32,
-    number: u32,
+    number: N,
     settings: Option<Settings>,
     semicolon: u32,
 }
 
-fn numbered(alloc: Global, rest: &[Lexeme]) -> Result<(NumberAndSettings, &[Lexeme]), Stop>
+fn numbered<N: Numeral>(
+    alloc: Global,
+    rest: &[Lexeme],
+    name: Want,
+) -> Result<(NumberAndSettings<N>, &[Lexeme]), Stop>
     ensures { Gives (λ x. (
       (x.0.name, (x.0.equals, (x.0.number, (x.0.settings, x.0.semicolon)))),
       x.1.now,
-    )) result (numbered_at rest.now) }
+    )) result ((token name
+        then one_token Class.Equals
+        then N.number_at
+        then maybe_settings
+        then one_token Class.Semicolon) rest.now) }
 {
-    let equals = Want::One(Class::Equals);
-    let number = Want::One(Class::Number);
-    let ((name, equals, number), rest) = three(rest, Want::Name, equals, number)?;
+    let (name, rest) = take(rest, name)?;
+    let (equals, rest) = one(rest, Class::Equals)?;
+    let (number, rest) = N::number(rest)?;
     let (settings, rest) = settings(alloc, rest)?;
     let (semicolon, rest) = one(rest, Class::Semicolon)?;
     Ok((
@@ -100,9 +114,9 @@ fn numbered(alloc: Global, rest: &[Lexeme]) -> Result<(NumberAndSettings, &[Lexe
 pub fn field(alloc: Global, rest: &[Lexeme]) -> Result<(Piece, &[Lexeme]), Stop>
     ensures { Gives (λ x. (x.0, x.1.now)) result (stated Statement.Field field_at rest.now) }
 {
-    let (label, rest) = option(rest, Want::Label)?;
+    let (label, rest) = option(rest, Want::Label);
     let (kind, rest) = field_type(alloc, rest)?;
-    let (numbered, rest) = numbered(alloc, rest)?;
+    let (numbered, rest) = numbered::<u32>(alloc, rest, Want::Name)?;
     let field = Field {
         label,
         kind,
@@ -118,15 +132,17 @@ pub fn field(alloc: Global, rest: &[Lexeme]) -> Result<(Piece, &[Lexeme]), Stop>
 /// `map<key, Type> name = 1 [settings];`
 #[tactic(auto, unfolding(crate::specs::Reading::map_field_at))]
 pub fn map_field(alloc: Global, rest: &[Lexeme]) -> Result<(Piece, &[Lexeme]), Stop>
+    requires { starts (Want.One Class.Map) rest.now ≡ true }
     ensures { Gives (λ x. (x.0, x.1.now)) result (stated Statement.MapField map_field_at rest.now) }
 {
     let less = Want::One(Class::Less);
     let scalar = Want::One(Class::Scalar);
-    let ((keyword, open, key), rest) = three(rest, Want::One(Class::Map), less, scalar)?;
-    let (comma, rest) = one(rest, Class::Comma)?;
+    let comma = Want::One(Class::Comma);
+    let (keyword, rest) = first(rest, Want::One(Class::Map));
+    let ((open, key, comma), rest) = three(rest, less, scalar, comma)?;
     let (value, rest) = field_type(alloc, rest)?;
     let (close, rest) = one(rest, Class::Greater)?;
-    let (numbered, rest) = numbered(alloc, rest)?;
+    let (numbered, rest) = numbered::<u32>(alloc, rest, Want::Name)?;
     let field = MapField {
         keyword,
         open,
@@ -148,17 +164,13 @@ pub fn map_field(alloc: Global, rest: &[Lexeme]) -> Result<(Piece, &[Lexeme]), S
 pub fn value(alloc: Global, rest: &[Lexeme]) -> Result<(Piece, &[Lexeme]), Stop>
     ensures { Gives (λ x. (x.0, x.1.now)) result (stated Statement.Value value_at rest.now) }
 {
-    let (name, rest) = take(rest, Want::ValueName)?;
-    let (equals, rest) = one(rest, Class::Equals)?;
-    let (number, rest) = signed(rest)?;
-    let (settings, rest) = settings(alloc, rest)?;
-    let (semicolon, rest) = one(rest, Class::Semicolon)?;
+    let (numbered, rest) = numbered::<Signed>(alloc, rest, Want::ValueName)?;
     let value = Value {
-        name,
-        equals,
-        number,
-        settings,
-        semicolon,
+        name: numbered.name,
+        equals: numbered.equals,
+        number: numbered.number,
+        settings: numbered.settings,
+        semicolon: numbered.semicolon,
     };
     Ok((Piece::Statement(Statement::Value(value)), rest))
 }

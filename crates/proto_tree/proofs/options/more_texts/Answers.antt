@@ -8,4 +8,4 @@ loop-init c = rw c.new-items.ensures (so_far_start want.Text (token want.Text) c
 
 pub loop-preserved : goal.loop-preserved
 loop-preserved c =
-    rw c.in_ok-push.ensures.grown (so_far_goes_on c.in_ok-item.item c.in_ok-item.after.now c.loop.invariant c.loop-test.true c.if-not-starts.ensures c.in_ok-item.ensures)
+    rw c.in_ok-push.ensures.grown (so_far_goes_on c.first-item.result.0 c.first-item.result.1.now c.loop.invariant c.loop-test.true c.if-not-starts.ensures c.first-item.ensures)
