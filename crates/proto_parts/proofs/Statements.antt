@@ -1,8 +1,8 @@
 -- The parts of trees that stand one behind another.
-use Rattle.std.proofs.Common.{◌≡◌, ℕ, suc, ◌+◌, ◌<◌, ◌||◌, List, [], ◌∷◌, ◌++◌, length, get_or, drop, map, None, Some, refl, sym, ap, ◌∙◌, append_assoc, drop-cons, add-one, arith}
+use Rattle.std.proofs.Common.{◌≡◌, ℕ, suc, ◌+◌, ◌<◌, ◌≤◌, ◌||◌, List, [], ◌∷◌, ◌++◌, length, get_or, drop, map, None, Some, refl, sym, ap, ◌∙◌, append_assoc, drop-cons, add-one, arith}
 use Rattle.std.specs.List.{flat_map, list_any}
 use Rattle.std.proofs.lemmas.Grind.{flat_map-append}
-use Rattle.std.proofs.lemmas.List.{map-append}
+use Rattle.std.proofs.lemmas.List.{append-nil, drop_all, map-append}
 use Rattle.std.proofs.lemmas.List.Folds.{list_any-append}
 use Rattle.proto_tree.specs.declared.piece.Statement.{Statement}
 use Rattle.proto_tree.specs.declared.piece.Header.TheVariants as header
@@ -31,6 +31,11 @@ listed_turn listed part by xs i x d found next whole lt is new before =
     ∙ ap (λ ps. found ++ ps) (sym (by x rest))
     ∙ ap (λ (ys : List _). found ++ listed ys) (sym parted) ∙ before
 
+-- and with none left
+pub all_listed : {X A : Type 0} (listed : List X → List A) → listed [] ≡ [] → (xs : List X) (i : ℕ) (found whole : List A) → length xs ≤ i → found ++ listed (drop i xs) ≡ whole → found ≡ whole
+all_listed listed none xs i found whole le before =
+    sym (append-nil found) ∙ ap (λ ys. found ++ ys) (sym none) ∙ ap (λ (ys : List _). found ++ listed ys) (sym (drop_all i xs le)) ∙ before
+
 -- the parts of one element more
 pub parts_turn : {X A : Type 0} (part : Statement → List A) (tree : X → Tree) (xs : List X) (i : ℕ) (x : X) (found next whole : List A) → i < length xs → x ≡ get_or xs i x
     → next ≡ found ++ flat_map part (statements (tree x)) → found ++ flat_map part (statements (trees tree (drop i xs))) ≡ whole
@@ -38,9 +43,19 @@ pub parts_turn : {X A : Type 0} (part : Statement → List A) (tree : X → Tree
 parts_turn part tree xs i x found next whole lt is new before =
     listed_turn (λ ys. flat_map part (statements (trees tree ys))) (λ y. flat_map part (statements (tree y))) (λ y ys. parts_joined part (tree y) (trees tree ys)) xs i x x found next whole lt is new before
 
+-- and of all
+pub all_parts : {X A : Type 0} (part : Statement → List A) (tree : X → Tree) (xs : List X) (i : ℕ) (found whole : List A) → length xs ≤ i
+    → found ++ flat_map part (statements (trees tree (drop i xs))) ≡ whole → found ≡ whole
+all_parts part tree = all_listed (λ ys. flat_map part (statements (trees tree ys))) refl
+
 -- what is read of a list with one element more
 pub pushed : {X A : Type 0} (read : X → A) (xs ys : List X) (x : X) → ys ≡ xs ++ x ∷ [] → map read ys ≡ map read xs ++ read x ∷ []
 pushed read xs ys x is = ap (map read) is ∙ map-append read xs (x ∷ [])
+
+-- with one element more, and what is behind it
+pub pushed_before : {X A : Type 0} (read : X → A) (xs ys : List X) (x : X) (behind rest : List A) → ys ≡ xs ++ x ∷ [] → behind ≡ rest → map read ys ++ behind ≡ map read xs ++ (read x ∷ rest)
+pushed_before read xs ys x behind rest is same =
+    ap (λ ps. ps ++ behind) (pushed read xs ys x is) ∙ append_assoc (map read xs) (read x ∷ []) behind ∙ ap (λ ps. map read xs ++ (read x ∷ ps)) same
 
 pub fields_joined : (n : ℕ) (t u : Tree) → fields_from n (joined t u) ≡ fields_from n t ++ fields_from (n + oneof_count t) u
 fields_joined n End u = ap (λ (k : ℕ). fields_from k u) (omega arith)
