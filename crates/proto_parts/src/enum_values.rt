@@ -4,6 +4,7 @@ ghost use Rattle.std.specs.Prelude.{◌≡◌, ◌++◌, map, IfOk, OnOk};
 ghost use Rattle.proto_tree.specs.File.{enum_item_tree, trees};
 ghost use Rattle.proto_parts.specs.Parts.{values_in};
 
+use crate::separated::push;
 use proto_faults::NoMemory;
 use proto_tree::{EnumItem, Value};
 use std::alloc::Global;
@@ -13,7 +14,7 @@ fn push_value<'a>(found: &mut Vec<&'a Value>, item: &'a EnumItem) -> Result<(), 
         ≡ map (λ v. v.now) found.old.items ++ values_in (enum_item_tree item.now)) }
 {
     match item {
-        EnumItem::Value(value) => Ok(found.push(value)?),
+        EnumItem::Value(value) => push(found, value),
         _ => Ok(()),
     }
 }

@@ -5,6 +5,7 @@ ghost use Rattle.proto_tree.specs.File.{field_tree, member_tree, trees};
 ghost use Rattle.proto_parts.specs.Parts.{fields_from, fields_in, map_field, oneof_count, option_of_setting, plain_field, separated, settings_of, statement_fields, statements};
 ghost use Rattle.proto_parts.specs.Views.{field_of, option_of};
 
+use crate::separated::push;
 use proto_faults::NoMemory;
 use proto_tree::{Constant, Field, FieldType, MapField, Member, Separated, Setting, Settings};
 use std::alloc::Global;
@@ -46,9 +47,9 @@ fn options_listed<'a>(
         ≡ map option_of_setting (separated list.now)) }
 {
     let mut options = Vec::new(alloc);
-    options.push(option_at(&list.first))?;
+    push(&mut options, option_at(&list.first))?;
     for behind in list.rest.as_slice() {
-        options.push(option_at(&behind.item))?;
+        push(&mut options, option_at(&behind.item))?;
     }
     Ok(options)
 }
@@ -89,8 +90,7 @@ fn push_field<'a>(
     ensures { OnOk result (map field_of found.new.items
         ≡ map field_of found.old.items ++ (plain_field oneof field.now ∷ [])) }
 {
-    found.push(plain_field(oneof, field))?;
-    Ok(())
+    push(found, plain_field(oneof, field))
 }
 
 fn map_field(field: &MapField) -> FieldAt<'_>
@@ -111,8 +111,7 @@ fn push_map_field<'a>(found: &mut Vec<FieldAt<'a>>, field: &'a MapField) -> Resu
     ensures { OnOk result (map field_of found.new.items
         ≡ map field_of found.old.items ++ (map_field field.now ∷ [])) }
 {
-    found.push(map_field(field))?;
-    Ok(())
+    push(found, map_field(field))
 }
 
 fn push_oneof<'a>(

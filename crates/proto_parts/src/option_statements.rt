@@ -6,6 +6,7 @@ ghost use Rattle.proto_parts.specs.Parts.{options_in};
 ghost use Rattle.proto_parts.specs.Views.{option_of};
 
 use crate::fields::OptionAt;
+use crate::separated::push;
 use proto_faults::NoMemory;
 use proto_tree::{EnumItem, File, Item, Member, MethodItem, Option_, ServiceItem};
 use std::alloc::Global;
@@ -14,11 +15,13 @@ fn push_option<'a>(found: &mut Vec<OptionAt<'a>>, option: &'a Option_) -> Result
     ensures { OnOk result (map option_of found.new.items ≡ map option_of found.old.items
         ++ (record { name = option.now.name; value = option.now.value } ∷ [])) }
 {
-    found.push(OptionAt {
-        name: option.name,
-        value: &option.value,
-    })?;
-    Ok(())
+    push(
+        found,
+        OptionAt {
+            name: option.name,
+            value: &option.value,
+        },
+    )
 }
 
 fn push_message_option<'a>(

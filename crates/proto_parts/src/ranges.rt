@@ -4,7 +4,7 @@ ghost use Rattle.std.specs.Prelude.{◌≡◌, ◌&&◌, ◌++◌, int_le, map, 
 ghost use Rattle.proto_tree.specs.File.{enum_item_tree, member_tree, trees};
 ghost use Rattle.proto_parts.specs.Parts.{closed_ranges, enum_ranges, extension_ranges, extension_words, ranges_of, reserved_ranges, statements};
 
-use crate::separated::push_separated;
+use crate::separated::{push, push_separated};
 use proto_faults::NoMemory;
 use proto_tree::{EnumItem, Member, Range, ReservedList, Signed};
 use std::alloc::Global;
@@ -127,7 +127,7 @@ fn push_extension_word(found: &mut Vec<u32>, member: &Member) -> Result<(), NoMe
         ++ flat_map extension_words (statements (member_tree member.now))) }
 {
     match member {
-        Member::Extensions(extensions) => Ok(found.push(extensions.keyword)?),
+        Member::Extensions(extensions) => push(found, extensions.keyword),
         _ => Ok(()),
     }
 }
