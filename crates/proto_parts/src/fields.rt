@@ -39,19 +39,18 @@ fn option_at(setting: &Setting) -> OptionAt<'_>
     }
 }
 
-fn options_listed<'a>(
-    alloc: Global,
+fn push_settings<'a>(
+    options: &mut Vec<OptionAt<'a>>,
     list: &'a Separated<Setting>,
-) -> Result<Vec<OptionAt<'a>>, NoMemory>
-    ensures { IfOk result (λ options. map option_of options.items
-        ≡ map option_of_setting (separated list.now)) }
+) -> Result<(), NoMemory>
+    ensures { OnOk result (map option_of options.new.items
+        ≡ map option_of options.old.items ++ map option_of_setting (separated list.now)) }
 {
-    let mut options = Vec::new(alloc);
-    push(&mut options, option_at(&list.first))?;
+    push(options, option_at(&list.first))?;
     for behind in list.rest.as_slice() {
-        push(&mut options, option_at(&behind.item))?;
+        push(options, option_at(&behind.item))?;
     }
-    Ok(options)
+    Ok(())
 }
 
 /// The options between brackets, in order.
@@ -62,10 +61,11 @@ pub fn options_between<'a>(
     ensures { IfOk result (λ options. map option_of options.items
         ≡ settings_of (option_map (λ s. s.now) settings.entry)) }
 {
-    match settings {
-        Some(settings) => options_listed(alloc, &settings.list),
-        None => Ok(Vec::new(alloc)),
+    let mut options = Vec::new(alloc);
+    if let Some(settings) = settings {
+        push_settings(&mut options, &settings.list)?;
     }
+    Ok(options)
 }
 
 fn plain_field(oneof: Option<usize>, field: &Field) -> FieldAt<'_>

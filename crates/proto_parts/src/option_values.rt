@@ -1,6 +1,6 @@
 //! What options say.
 
-ghost use Rattle.std.specs.Prelude.{◌≡◌, ◌∷◌, find, flat_map, map, option_map, IfOk};
+ghost use Rattle.std.specs.Prelude.{◌≡◌, ◌∷◌, ◌++◌, find, flat_map, map, option_map, IfOk, OnOk};
 ghost use Rattle.std.specs.String.{string_bytes};
 ghost use Rattle.proto_parts.specs.Options.{is_allowed, is_named, idempotency_levels, is_of_kind, is_word_of, optimize_modes, text_of, text_option, truth_named, truth_of, truth_option, word_of, word_option};
 ghost use Rattle.proto_parts.specs.Scenes.{text, value};
@@ -38,7 +38,10 @@ fn truth_named(word: &str) -> Option<bool>
 pub fn truth(scene: &Scene, value: &Constant) -> Option<bool>
     ensures { result ≡ truth_of (text scene.now) value.now }
 {
-    truth_named(word(scene, value)?)
+    match word(scene, value) {
+        Some(word) => truth_named(word),
+        None => None,
+    }
 }
 
 /// The first option of a name; none where there is none.
@@ -94,13 +97,22 @@ pub fn is_allowed(scene: &Scene, element: Element, option: OptionAt) -> bool
 
 // ---- texts
 
+fn push_string(alloc: Global, scene: &Scene, text: &mut String, token: u32) -> Result<(), NoMemory>
+    ensures { OnOk result (string_bytes text.new
+        ≡ string_bytes text.old ++ value scene.now token) }
+{
+    let string = scene.string(alloc, token)?;
+    text.push_str(string.as_str())?;
+    Ok(())
+}
+
 fn joined_text(alloc: Global, scene: &Scene, joined: &Joined) -> Result<String, NoMemory>
     ensures { IfOk result (λ text. string_bytes text
         ≡ flat_map (value scene.now) (joined.now.first ∷ joined.now.rest)) }
 {
     let mut text = scene.string(alloc, joined.first)?;
     for token in joined.rest.as_slice() {
-        text.push_str(scene.string(alloc, *token)?.as_str())?;
+        push_string(alloc, scene, &mut text, *token)?;
     }
     Ok(text)
 }
@@ -126,7 +138,10 @@ pub fn text_value(
 pub fn truth_option(scene: &Scene, options: &[OptionAt], name: &str) -> Option<bool>
     ensures { result ≡ truth_option (text scene.now) name.now (map option_of options.now) }
 {
-    truth(scene, option_named(scene, options, name)?.value)
+    match option_named(scene, options, name) {
+        Some(option) => truth(scene, option.value),
+        None => None,
+    }
 }
 
 /// The word of the first option of the name.
@@ -134,7 +149,10 @@ pub fn word_option<'a>(scene: &Scene<'a>, options: &[OptionAt], name: &str) -> O
     ensures { option_map (λ w. w.now) result
         ≡ word_option (text scene.now) name.now (map option_of options.now) }
 {
-    word(scene, option_named(scene, options, name)?.value)
+    match option_named(scene, options, name) {
+        Some(option) => word(scene, option.value),
+        None => None,
+    }
 }
 
 /// The text of the first option of the name.

@@ -1,7 +1,7 @@
-use Rattle.std.proofs.Common.{◌≡◌, ◌∷◌, take, flat_map}
+use Rattle.std.proofs.Common.{◌≡◌, ◌++◌, ◌∷◌, drop, flat_map}
 use Rattle.std.specs.String.{string_bytes}
 use Rattle.proto_parts.specs.Scenes.{value}
 use Rattle.proto_parts.proofs.option_values.joined_text.Given as goal
 
 abbrev pub invariant-loop-token : goal.invariant-loop-token
-invariant-loop-token l = string_bytes l.text ≡ flat_map (value l.scene) (l.joined.first ∷ take l.token-index l.token-items)
+invariant-loop-token l = string_bytes l.text ++ flat_map (value l.scene) (drop l.token-index l.token-items) ≡ flat_map (value l.scene) (l.joined.first ∷ l.joined.rest)

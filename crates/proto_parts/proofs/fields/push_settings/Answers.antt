@@ -2,7 +2,7 @@ use Rattle.std.proofs.Common.{[], ◌∷◌, ◌++◌, map, refl, ap, ◌∙◌,
 use Rattle.proto_parts.specs.Parts.{option_of_setting}
 use Rattle.proto_parts.specs.Views.{option_of}
 use Rattle.proto_parts.proofs.Statements.{all_listed, listed_turn, pushed}
-use Rattle.proto_parts.proofs.fields.options_listed.Goals as goal
+use Rattle.proto_parts.proofs.fields.push_settings.Goals as goal
 
 pub loop-behind-preserved : goal.loop-behind-preserved
 loop-behind-preserved c = listed_turn (λ bs. map option_of_setting (map (λ b. b.item) bs)) (λ b. option_of_setting b.item ∷ []) (λ x xs. refl) c.as_slice-behind-items.result.now c.loop-behind.behind-index c.behind-item.result _ _ _ _ c.loop-behind-test.true c.behind-item.is
