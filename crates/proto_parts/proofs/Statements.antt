@@ -1,13 +1,14 @@
 -- The parts of trees that stand one behind another.
-use Rattle.std.proofs.Common.{◌≡◌, ℕ, suc, ◌+◌, ◌<◌, ◌≤◌, ◌||◌, List, [], ◌∷◌, ◌++◌, length, get_or, drop, map, None, Some, refl, sym, ap, ◌∙◌, append_assoc, drop-cons, add-one, arith}
+use Rattle.std.proofs.Common.{◌≡◌, ℕ, suc, ◌+◌, ◌<◌, ◌≤◌, ◌||◌, true, false, List, [], ◌∷◌, ◌++◌, length, get_or, drop, map, None, Some, refl, sym, ap, ◌∙◌, append_assoc, drop-cons, add-one, arith}
 use Rattle.std.specs.List.{flat_map, list_any}
 use Rattle.std.proofs.lemmas.Grind.{flat_map-append}
-use Rattle.std.proofs.lemmas.List.{append-nil, drop_all, map-append}
+use Rattle.std.proofs.lemmas.List.{append-nil, drop_all, drop_more, map-append}
 use Rattle.std.proofs.lemmas.List.Folds.{list_any-append}
 use Rattle.proto_tree.specs.declared.piece.Statement.{Statement}
 use Rattle.proto_tree.specs.declared.piece.Header.TheVariants as header
+use Rattle.proto_tree.specs.declared.tree.Item.{Item}
 use Rattle.proto_tree.specs.declared.tree.Member.{Member}
-use Rattle.proto_tree.specs.File.{member_tree, trees}
+use Rattle.proto_tree.specs.File.{item_tree, member_tree, trees}
 use Rattle.proto_tree.specs.Tree.{Tree, End, Leaf, Block, joined}
 use Rattle.proto_parts.specs.Parts.{FieldOf, statements, fields_from, statement_fields, oneof_count}
 use Rattle.proto_parts.specs.Scenes.{is_proto3, is_proto3_statement}
@@ -83,3 +84,17 @@ fields_turn ms i n k m found next whole lt is count new before =
 
 pub is_proto3_joined : (value : ℕ → List ℕ) (t u : Tree) → is_proto3 value (joined t u) ≡ is_proto3 value t || is_proto3 value u
 is_proto3_joined value t u = ap (list_any (is_proto3_statement value)) (statements_joined t u) ∙ list_any-append (is_proto3_statement value) (statements t) (statements u)
+
+-- whether a file is proto3, by what is left of it and by the next of its items
+module _ (value : ℕ → List ℕ) (items : List Item) (i : ℕ) (item : Item) (lt : i < length items) (is : item ≡ get_or items i item) where
+  abbrev rest : Tree
+  rest = trees item_tree (drop (i + 1) items)
+
+  next_proto3 : is_proto3 value (trees item_tree (drop i items)) ≡ is_proto3 value (item_tree item) || is_proto3 value rest
+  next_proto3 = ap (λ (ys : List Item). is_proto3 value (trees item_tree ys)) (drop_more items i item lt ∙ ap (λ (y : Item). y ∷ drop (i + 1) items) (sym is)) ∙ is_proto3_joined value (item_tree item) rest
+
+  pub not_proto3_here : is_proto3 value (item_tree item) ≡ false → is_proto3 value rest ≡ is_proto3 value (trees item_tree (drop i items))
+  not_proto3_here e = sym (next_proto3 ∙ ap (λ b. b || is_proto3 value rest) e)
+
+  pub proto3_here : is_proto3 value (item_tree item) ≡ true → true ≡ is_proto3 value (trees item_tree (drop i items))
+  proto3_here e = sym (next_proto3 ∙ ap (λ b. b || is_proto3 value rest) e)

@@ -49,7 +49,6 @@ fn item_says_proto3(words: &Words, item: &Item) -> bool
 
 /// Whether a file is proto3, by the texts of its tokens and its tree. One without a syntax
 /// statement is proto2.
-#[tactic(auto, using(crate::proofs::Statements::is_proto3_joined))]
 pub fn is_proto3(words: &Words, file: &File) -> bool
     ensures { result ≡ is_proto3 (value_in words.now) (tree_of_file file.now) }
 {
