@@ -1,6 +1,6 @@
 -- The parts of trees that stand one behind another.
-use Rattle.std.proofs.Common.{◌≡◌, ℕ, suc, ◌+◌, ◌<◌, ◌≤◌, ◌||◌, true, false, List, [], ◌∷◌, ◌++◌, length, get_or, drop, map, None, Some, refl, sym, ap, ◌∙◌, append_assoc, drop-cons, add-one, arith}
-use Rattle.std.specs.List.{flat_map, list_any}
+use Rattle.std.proofs.Common.{◌≡◌, ℕ, suc, ◌+◌, ◌<◌, ◌≤◌, ◌||◌, Bool, true, false, cond, List, [], ◌∷◌, ◌++◌, length, get_or, drop, map, None, Some, refl, sym, ap, ◌∙◌, append_assoc, drop-cons, add-one, arith}
+use Rattle.std.specs.List.{find, flat_map, list_any}
 use Rattle.std.proofs.lemmas.Grind.{flat_map-append}
 use Rattle.std.proofs.lemmas.List.{append-nil, drop_all, drop_more, map-append}
 use Rattle.std.proofs.lemmas.List.Folds.{list_any-append}
@@ -98,3 +98,14 @@ module _ (value : ℕ → List ℕ) (items : List Item) (i : ℕ) (item : Item) 
 
   pub proto3_here : is_proto3 value (item_tree item) ≡ true → true ≡ is_proto3 value (trees item_tree (drop i items))
   proto3_here e = sym (next_proto3 ∙ ap (λ b. b || is_proto3 value rest) e)
+
+-- what is found in what is left of a list, by its next element
+module _ {X Y : Type 0} (test : Y → Bool) (view : X → Y) (xs : List X) (i : ℕ) (x : X) (lt : i < length xs) (is : x ≡ get_or xs i x) where
+  next_found : find test (map view (drop i xs)) ≡ cond (test (view x)) (Some (view x)) (find test (map view (drop (i + 1) xs)))
+  next_found = ap (λ (ys : List X). find test (map view ys)) (drop_more xs i x lt ∙ ap (λ (y : X). y ∷ drop (i + 1) xs) (sym is))
+
+  pub not_found_here : test (view x) ≡ false → find test (map view (drop i xs)) ≡ find test (map view (drop (i + 1) xs))
+  not_found_here e = next_found ∙ ap (λ b. cond b (Some (view x)) (find test (map view (drop (i + 1) xs)))) e
+
+  pub found_here : test (view x) ≡ true → find test (map view (drop i xs)) ≡ Some (view x)
+  found_here e = next_found ∙ ap (λ b. cond b (Some (view x)) (find test (map view (drop (i + 1) xs)))) e
