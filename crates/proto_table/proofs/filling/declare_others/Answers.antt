@@ -3,6 +3,7 @@ use Rattle.std.proofs.lemmas.List.{length-map, map-set, set-set}
 use Rattle.std.proofs.lemmas.Result.{err_from_is_err_and}
 use Rattle.proto_table.specs.Spelled.{all_named, named_in, AreSpelled}
 use Rattle.proto_table.specs.Filling.{AreInFront, AreRowsOf, Holds, StopsIn, others_in, packages_in}
+use Rattle.proto_table.proofs.Filled.{not_ok}
 use Rattle.proto_table.proofs.Passes.{item_at, others_next, rows_file, rows_last, spelled_at, stops_least, within_map}
 use Rattle.proto_table.proofs.filling.declare_others.Goals as goal
 
@@ -83,3 +84,18 @@ pub returns-clause-rows : goal.returns-clause-rows
 returns-clause-rows c =
     let n = length-map c.args.files.now (λ v. v.items) in
     rows_last c.loop-file.names (map (λ v. v.items) c.args.files.now) (map (λ v. v.items) c.loop-file.rows.items) c.loop-file.file (let t = c.loop-file-test.false in omega (arith, t, n)) c.loop-file.invariant.rows
+
+pub returns-in_err-filled-clause-table : goal.returns-in_err-filled-clause-table
+returns-in_err-filled-clause-table c = not_ok _ _ c.from_residual.result c.from_residual.ensures.1
+
+pub returns-in_err-filled-clause-held : goal.returns-in_err-filled-clause-held
+returns-in_err-filled-clause-held c = not_ok _ _ c.from_residual.result c.from_residual.ensures.1
+
+pub returns-in_err-filled-clause-rows : goal.returns-in_err-filled-clause-rows
+returns-in_err-filled-clause-rows c = not_ok _ _ c.from_residual.result c.from_residual.ensures.1
+
+pub fill-requires-clause-table : goal.fill-requires-clause-table
+fill-requires-clause-table c = c.loop-file.invariant.table
+
+pub returns-clause-table : goal.returns-clause-table
+returns-clause-table c = c.loop-file.invariant.table

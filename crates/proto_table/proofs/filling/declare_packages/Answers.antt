@@ -1,8 +1,9 @@
-use Rattle.std.proofs.Common.{[], ◌∷◌, ◌++◌, ◌+◌, length, get_or, map, take, drop, sym, ◌∙◌, ap, subst}
+use Rattle.std.proofs.Common.{[], ◌∷◌, ◌++◌, ◌+◌, length, get_or, map, take, drop, sym, ◌∙◌, ap, subst, arith}
 use Rattle.std.proofs.lemmas.List.{map-append}
 use Rattle.std.proofs.lemmas.Result.{err_from_is_err_and}
 use Rattle.proto_table.specs.Spelled.{all_named, named_in, AreSpelled}
 use Rattle.proto_table.specs.Filling.{AreInFront, ArePackageRows, AreRowsOf, Holds, packages_in}
+use Rattle.proto_table.proofs.Filled.{no_rows, not_ok}
 use Rattle.proto_table.proofs.Passes.{item_at, package_rows_more, packages_next, packages_pass, spelled_at, within_map}
 use Rattle.proto_table.proofs.filling.declare_packages.Goals as goal
 
@@ -48,3 +49,33 @@ loop-file-preserved c =
           (subst (λ z. AreInFront z (get_or (map (λ v. v.items) c.args.files.now) c.loop-file.file [])) (sym c.in_ok-filled.ensures.count) front)
           (subst (λ z. AreRowsOf c.in_ok-filled.filled.0 (named_in c.loop-file.file z) c.in_ok-filled.filled.1.items) e c.in_ok-filled.ensures.rows));
     }
+
+pub returns-in_err-filled-clause-table : goal.returns-in_err-filled-clause-table
+returns-in_err-filled-clause-table c = not_ok _ _ c.from_residual.result c.from_residual.ensures.1
+
+pub returns-in_err-filled-clause-held : goal.returns-in_err-filled-clause-held
+returns-in_err-filled-clause-held c = not_ok _ _ c.from_residual.result c.from_residual.ensures.1
+
+pub returns-in_err-filled-clause-rows : goal.returns-in_err-filled-clause-rows
+returns-in_err-filled-clause-rows c = not_ok _ _ c.from_residual.result c.from_residual.ensures.1
+
+pub returns-in_err-push-clause-table : goal.returns-in_err-push-clause-table
+returns-in_err-push-clause-table c = not_ok _ _ c.from_residual-in_err-push.result c.from_residual-in_err-push.ensures.1
+
+pub returns-in_err-push-clause-held : goal.returns-in_err-push-clause-held
+returns-in_err-push-clause-held c = not_ok _ _ c.from_residual-in_err-push.result c.from_residual-in_err-push.ensures.1
+
+pub returns-in_err-push-clause-rows : goal.returns-in_err-push-clause-rows
+returns-in_err-push-clause-rows c = not_ok _ _ c.from_residual-in_err-push.result c.from_residual-in_err-push.ensures.1
+
+pub fill-requires-clause-table : goal.fill-requires-clause-table
+fill-requires-clause-table c = c.loop-file.invariant.table
+
+pub fill-requires-clause-end : goal.fill-requires-clause-end
+fill-requires-clause-end c = (subst (AreInFront c.package_count.result) (c.deref-in-loop-file.ensures.value ∙ sym c.deref.ensures.value) c.package_count.ensures).within
+
+pub fill-requires-clause-start : goal.fill-requires-clause-start
+fill-requires-clause-start c = omega (arith, ap length c.new-own.ensures.items)
+
+pub fill-requires-clause-rows : goal.fill-requires-clause-rows
+fill-requires-clause-rows c = no_rows c.loop-file.names (named_in c.loop-file.file c.deref.result.now) c.new-own.result.items c.new-own.ensures.items

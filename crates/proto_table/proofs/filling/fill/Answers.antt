@@ -4,7 +4,7 @@ use Rattle.std.proofs.lemmas.Result.{err_from_is_err_and}
 use Rattle.proto_meaning.specs.Forest.{under, front}
 use Rattle.proto_table.specs.Tables.{names_of}
 use Rattle.proto_table.specs.Filling.{AreRowsOf, declaration_of, Holds, IsClashAt, number_above, StopsIn}
-use Rattle.proto_table.proofs.Filled.{rows_within, rows_next, held_next, stops_here, kept_both}
+use Rattle.proto_table.proofs.Filled.{not_ok, rows_within, rows_next, held_next, stops_here, kept_both}
 use Rattle.proto_table.proofs.filling.fill.Goals as goal
 
 pub declare_one-requires-clause-within : goal.declare_one-requires-clause-within
@@ -56,3 +56,45 @@ returns-clause-held c = λ ds held. (
     let a : c.loop-k.k ≤ c.args.end = c.loop-k.auto.k-end (omega (arith, s, len)) in
     let e : c.loop-k.k ≡ c.args.end = let b = c.loop-k-test.false in omega (arith, a, b) in
     subst (λ z. Holds c.loop-k.names (ds ++ drop (length c.args.rows.items) (take z (named_in c.args.file c.args.spelled.now)))) e (c.loop-k.invariant.held ds held))
+
+pub returns-in_err-row-clause-table : goal.returns-in_err-row-clause-table
+returns-in_err-row-clause-table c = not_ok _ _ c.from_residual.result c.from_residual.ensures.1
+
+pub returns-in_err-row-clause-kept : goal.returns-in_err-row-clause-kept
+returns-in_err-row-clause-kept c = not_ok _ _ c.from_residual.result c.from_residual.ensures.1
+
+pub returns-in_err-row-clause-count : goal.returns-in_err-row-clause-count
+returns-in_err-row-clause-count c = not_ok _ _ c.from_residual.result c.from_residual.ensures.1
+
+pub returns-in_err-row-clause-rows : goal.returns-in_err-row-clause-rows
+returns-in_err-row-clause-rows c = not_ok _ _ c.from_residual.result c.from_residual.ensures.1
+
+pub returns-in_err-row-clause-held : goal.returns-in_err-row-clause-held
+returns-in_err-row-clause-held c = not_ok _ _ c.from_residual.result c.from_residual.ensures.1
+
+pub returns-in_err-push-clause-table : goal.returns-in_err-push-clause-table
+returns-in_err-push-clause-table c = not_ok _ _ c.from_residual-in_err-push.result c.from_residual-in_err-push.ensures.1
+
+pub returns-in_err-push-clause-kept : goal.returns-in_err-push-clause-kept
+returns-in_err-push-clause-kept c = not_ok _ _ c.from_residual-in_err-push.result c.from_residual-in_err-push.ensures.1
+
+pub returns-in_err-push-clause-count : goal.returns-in_err-push-clause-count
+returns-in_err-push-clause-count c = not_ok _ _ c.from_residual-in_err-push.result c.from_residual-in_err-push.ensures.1
+
+pub returns-in_err-push-clause-rows : goal.returns-in_err-push-clause-rows
+returns-in_err-push-clause-rows c = not_ok _ _ c.from_residual-in_err-push.result c.from_residual-in_err-push.ensures.1
+
+pub returns-in_err-push-clause-held : goal.returns-in_err-push-clause-held
+returns-in_err-push-clause-held c = not_ok _ _ c.from_residual-in_err-push.result c.from_residual-in_err-push.ensures.1
+
+pub declare_one-requires-clause-table : goal.declare_one-requires-clause-table
+declare_one-requires-clause-table c = c.loop-k.invariant.table
+
+pub returns-clause-table : goal.returns-clause-table
+returns-clause-table c = c.loop-k.invariant.table
+
+pub returns-clause-kept : goal.returns-clause-kept
+returns-clause-kept c = c.loop-k.invariant.kept
+
+pub returns-clause-rows : goal.returns-clause-rows
+returns-clause-rows c = c.loop-k.invariant.rows
