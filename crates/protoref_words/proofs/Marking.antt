@@ -1,9 +1,13 @@
 -- The words as they are handed to `clap`, one by one.
-use Rattle.std.proofs.Common.{◌≡◌, ◌∙◌, ℕ, zero, suc, ◌+◌, ◌<◌, ◌≤◌, ◌==◌, Bool, true, false, ◌&&◌, ◌||◌, List, [], ◌∷◌, ◌++◌, map, take, length, slice_index_or, String, string_bytes, refl, sym, ap, ap₂, subst, arith}
+use Rattle.std.proofs.Common.{◌≡◌, ◌∙◌, ℕ, zero, suc, ◌+◌, ◌<◌, ◌≤◌, ◌==◌, Bool, true, false, ◌&&◌, ◌||◌, List, [], ◌∷◌, ◌++◌, map, take, length, slice_index_or, Result, Ok, Err, String, string_bytes, refl, sym, ap, ap₂, subst, arith, IsErrAnd}
+use Rattle.std.specs.Prelude.{MatchResult}
 use Rattle.std.specs.declared.alloc.Global.{Global}
 use Rattle.std.proofs.lemmas.List.{append_assoc, length-map, length-take-le, map-append, take_more}
 use Rattle.proto_faults.specs.Texts.{Text}
 use Rattle.protoref_words.specs.Marked.{begins_dashed, is_bad_at, mark, marked, marks}
+use Rattle.protoref_words.specs.Requests.{IsFaultOf}
+use Rattle.protoref_words.specs.declared.request.WordsFault.{WordsFault}
+use Rattle.protoref_words.specs.declared.request.WordsFault.TheVariants as fault
 
 marked_more : (xs : List Text) (w : Text) → marked (xs ++ w ∷ []) ≡ marked xs ++ marks (length xs) w
 marked_more [] w = refl
@@ -60,3 +64,10 @@ mapped (w ∷ ws) (suc i) d lt = mapped ws i d (omega arith)
 pub bad_word : (ws : Words) (i : ℕ) (w : String Global) → i < length ws → w ≡ slice_index_or ws i w → is_bad_at i (string_bytes w) ≡ true → begins_dashed (bytes ws) ≡ true
 bad_word ws i w lt is e =
     bad_here (bytes ws) i (string_bytes w) (rw length-map lt) (ap (is_bad_at i) (mapped ws i w lt ∙ ap string_bytes (sym is)) ∙ e)
+
+-- the fault of one word is that of all
+pub fault_here : {T : Type 0} (P : T → Type 0) (ws : Words) (i : ℕ) (w : String Global) (f : WordsFault) (r : Result T WordsFault) → i < length ws → w ≡ slice_index_or ws i w
+    → IsErrAnd r (λ e. e ≡ f) → IsFaultOf (is_bad_at i (string_bytes w)) f → MatchResult r P (IsFaultOf (begins_dashed (bytes ws)))
+fault_here P ws i w f (Ok x) lt is same bad = absurd same
+fault_here P ws i w fault.BadCommandLine (Err g) lt is same bad = subst (IsFaultOf (begins_dashed (bytes ws))) (sym same) (bad_word ws i w lt is bad)
+fault_here P ws i w fault.NoMemory (Err g) lt is same bad = subst (IsFaultOf (begins_dashed (bytes ws))) (sym same) tt

@@ -1,7 +1,8 @@
-use Rattle.std.proofs.Common.{ap, ◌∙◌, sym, ◌++◌}
+use Rattle.std.proofs.Common.{ap, ◌∙◌, sym, subst, ◌++◌}
 use Rattle.clap.specs.Walk.{texts}
 use Rattle.protoref_words.specs.Marked.{is_bad_at, marks}
-use Rattle.protoref_words.proofs.Marking.{handed_more, plain_more}
+use Rattle.protoref_words.specs.Requests.{IsFaultOf}
+use Rattle.protoref_words.proofs.Marking.{fault_here, handed_more, plain_more}
 use Rattle.protoref_words.proofs.command_line.marked_words.Goals as goal
 
 pub loop-index-preserved : goal.loop-index-preserved
@@ -14,3 +15,10 @@ loop-index-preserved c =
           (c.in_ok-put_marked.ensures.0 ∙ ap (λ v. texts c.loop-index.marked.items ++ marks i v) c.as_str.ensures.value);
       plain = plain_more ws i w c.loop-index-test.true c.index-words-index.is c.loop-index.invariant.plain (sym (ap (is_bad_at i) c.as_str.ensures.value) ∙ c.in_ok-put_marked.ensures.1);
     }
+
+pub returns-in_err-put_marked : goal.returns-in_err-put_marked
+returns-in_err-put_marked c =
+    let i = c.loop-index.index in
+    let f = c.in_err-put_marked.field-0.0 in
+    fault_here _ c.args.words.now i c.index-words-index.result f c.from_residual.result c.loop-index-test.true c.index-words-index.is c.from_residual.ensures.1
+    (subst (λ v. IsFaultOf (is_bad_at i v) f) c.as_str.ensures.value c.in_err-put_marked.ensures)
