@@ -51,6 +51,32 @@ fn change_in<'a>(
     change_of_file(alloc, files, file, &places, to)
 }
 
+/// The changes of all files, in their order, with what a value's defaults are asked by.
+fn changes_with<'a>(
+    alloc: Global,
+    files: &Files,
+    link: &'a Link,
+    aim: Aim,
+    enum_name: Option<&'a str>,
+    old: &'a str,
+    to: &str,
+) -> Result<Vec<Change>, RewordFault>
+    requires link { IsLinkOf files.now link.now }
+    requires linked { HasNoFault (LinkFaults files.now) }
+    requires aim { IsAimOf files.now aim }
+    requires value { IsValueOf files.now aim (option_map (λ x. x.now) enum_name) old.now }
+    ensures ok { IfOk result (λ changes.
+        AreChangesOf files.now aim.entry to.now (map change_of changes.items)) }
+    ensures err { IfErr result (IsChangesFault files.now aim.entry to.now) }
+{
+    let mut changes = Vec::new(alloc);
+    for file in 0..files.len() {
+        let change = change_in(alloc, files, link, aim, enum_name, old, file as u32, to)?;
+        push_some(&mut changes, change)?;
+    }
+    Ok(changes)
+}
+
 /// The changes of all files, in their order; refused where a file
 /// would have more than 1,048,576 bytes.
 pub(crate) fn changes(
@@ -69,12 +95,6 @@ pub(crate) fn changes(
     ensures err { IfErr result (IsChangesFault files.now aim.entry to.now) }
 {
     let enum_name = enum_name(alloc, files, aim)?;
-    let enum_name = enum_name.as_deref();
     let old = Words::new(files, aim.file as usize).get(aim.token);
-    let mut changes = Vec::new(alloc);
-    for file in 0..files.len() {
-        let change = change_in(alloc, files, link, aim, enum_name, old, file as u32, to)?;
-        push_some(&mut changes, change)?;
-    }
-    Ok(changes)
+    changes_with(alloc, files, link, aim, enum_name.as_deref(), old, to)
 }

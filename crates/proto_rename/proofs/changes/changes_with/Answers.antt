@@ -4,13 +4,13 @@ use Rattle.proto_entries.specs.Entries.{change_of}
 use Rattle.proto_rename_laws.specs.Targets.{renamed_words}
 use Rattle.proto_rename.proofs.Refused.{fault_among}
 use Rattle.proto_rename.proofs.WholeChanges.{more_changes, whole_changes}
-use Rattle.proto_rename.proofs.changes.changes.Goals as goal
+use Rattle.proto_rename.proofs.changes.changes_with.Goals as goal
 
 pub returns-in_err-change-clause-err : goal.returns-in_err-change-clause-err
 returns-in_err-change-clause-err c =
     let files = c.args.files.now in
     let inside : c.loop-file.file < length files = omega (arith, c.loop-file-test.true, c.len-file-end.ensures.len) in
-    let p = err_from_is_err_and c.from_residual-in_err-change.result c.from_residual-in_err-change.ensures.1 in
+    let p = err_from_is_err_and c.from_residual.result c.from_residual.ensures.1 in
     rw (p.1, p.2) (fault_among files c.args.aim c.loop-file.file inside c.args.to.now c.in_err-change.field-0.0 c.in_err-change.ensures.fault)
 
 pub loop-file-preserved : goal.loop-file-preserved
