@@ -62,8 +62,7 @@ pub fn change_of_file(
     let source = files.source(place);
     let before = source.as_bytes().len() as u32;
     let tokens = files.tokens(place);
-    let marks = marks_of(alloc, tokens.len(), places)?;
-    let found = marked(alloc, tokens, &marks)?;
+    let found = marked_at(alloc, tokens, places)?;
     let changed = found.as_slice();
     if changed.is_empty() {
         return Ok(None);
@@ -71,13 +70,25 @@ pub fn change_of_file(
     let Some(after) = len_after(source, changed, to) else {
         return Err(RewordFault::TooLarge);
     };
-    let splices = splices_at(alloc, source, changed, to)?;
+    let splices = splices_at(alloc, source, changed, to);
+    // The tokens end here, before either may fail.
+    drop(found);
+    let splices = splices?;
     Ok(Some(Change {
         path: files.path(place).to_string(alloc)?,
         before,
         after,
         splices,
     }))
+}
+
+/// The tokens at these places, in order.
+fn marked_at(alloc: Global, tokens: &[Token], places: &[u32]) -> Result<Vec<Token>, NoMemory>
+    ensures { IfOk result (λ found. found.items
+        ≡ marked_tokens tokens.now (marked_from (replicate (length tokens.now) false) places.now)) }
+{
+    let marks = marks_of(alloc, tokens.len(), places)?;
+    marked(alloc, tokens, &marks)
 }
 
 /// So many marks, of which these are set; what is past them is left out.
