@@ -38,10 +38,7 @@ fn truth_named(word: &str) -> Option<bool>
 pub fn truth(scene: &Scene, value: &Constant) -> Option<bool>
     ensures { result ≡ truth_of (text scene.now) value.now }
 {
-    match word(scene, value) {
-        Some(word) => truth_named(word),
-        None => None,
-    }
+    truth_named(word(scene, value)?)
 }
 
 /// The first option of a name; none where there is none.
@@ -138,10 +135,7 @@ pub fn text_value(
 pub fn truth_option(scene: &Scene, options: &[OptionAt], name: &str) -> Option<bool>
     ensures { result ≡ truth_option (text scene.now) name.now (map option_of options.now) }
 {
-    match option_named(scene, options, name) {
-        Some(option) => truth(scene, option.value),
-        None => None,
-    }
+    truth(scene, option_named(scene, options, name)?.value)
 }
 
 /// The word of the first option of the name.
@@ -149,10 +143,7 @@ pub fn word_option<'a>(scene: &Scene<'a>, options: &[OptionAt], name: &str) -> O
     ensures { option_map (λ w. w.now) result
         ≡ word_option (text scene.now) name.now (map option_of options.now) }
 {
-    match option_named(scene, options, name) {
-        Some(option) => word(scene, option.value),
-        None => None,
-    }
+    word(scene, option_named(scene, options, name)?.value)
 }
 
 /// The text of the first option of the name.

@@ -143,9 +143,6 @@ impl<'a> Scene<'a> {
     pub fn enum_meant(&self, reference: &Reference) -> Option<EnumAt<'a>>
         ensures { option_map enum_of result ≡ enum_meant self.now reference.now }
     {
-        match self.meant(reference) {
-            Some(meant) => meant.enumeration,
-            None => None,
-        }
+        self.meant(reference)?.enumeration
     }
 }
