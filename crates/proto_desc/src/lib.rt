@@ -3,6 +3,8 @@
 
 mod checking;
 mod described;
+mod file_options;
+mod head;
 mod json_form;
 pub mod laws;
 

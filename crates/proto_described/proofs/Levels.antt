@@ -1,6 +1,5 @@
 -- What stands right in a message or a file, of trees that stand one behind another.
 use Rattle.std.proofs.Common.{◌≡◌, ℕ, ◌+◌, ◌<◌, ◌≤◌, List, [], ◌∷◌, ◌++◌, length, get_or, take, drop, refl, sym, ap, ◌∙◌, map, append_assoc}
-use Rattle.std.specs.List.{flat_map}
 use Rattle.std.specs.Prelude.{Option, option_to_list}
 use Rattle.std.proofs.lemmas.List.{append-nil, at_drop_more, at_drop_all, map-append, take_more}
 use Rattle.proto_tree.specs.declared.piece.Statement.TheVariants as statement
@@ -10,7 +9,6 @@ use Rattle.proto_tree.specs.Tree.{Tree, End, Leaf, Block, joined}
 use Rattle.proto_parts.specs.Scenes.{Scene, text}
 use Rattle.proto_described.specs.Described.{below, enum_described, enums_described, oneof_names, entry_described, message_described, messages_described, method_described, methods_described, service_described, services_described}
 use Rattle.proto_parts.specs.Parts.{options_in}
-use Rattle.proto_meaning.specs.Joined.{joined as joined_name}
 use Rattle.proto_json.specs.Views.{MessageTree, message_desc, message_step, message_tree, messages_desc}
 use Rattle.proto_json.specs.declared.message.MessageDescriptor.{MessageDescriptor}
 use Rattle.proto_json.specs.declared.message.MessageDescriptor.TheOpen.{MessageDescriptor-F}
@@ -147,9 +145,3 @@ same_parts a b n f e x o r w s =
     ∙ ap (λ v. record { name = b.name; field = b.field; enum_type = b.enum_type; extension_range = b.extension_range; oneof_decl = b.oneof_decl; reserved_range = v; reserved_name = a.reserved_name; options = a.options }) r
     ∙ ap (λ v. record { name = b.name; field = b.field; enum_type = b.enum_type; extension_range = b.extension_range; oneof_decl = b.oneof_decl; reserved_range = b.reserved_range; reserved_name = v; options = a.options }) w
     ∙ ap (λ v. record { name = b.name; field = b.field; enum_type = b.enum_type; extension_range = b.extension_range; oneof_decl = b.oneof_decl; reserved_range = b.reserved_range; reserved_name = b.reserved_name; options = v }) s
-
--- ---- names
-
-pub joined_words : (scene : Scene) (t : ℕ) (ts : List ℕ) → joined_name (map (text scene) (t ∷ ts)) ≡ text scene t ++ flat_map (λ w. 46 ∷ text scene w) ts
-joined_words scene t [] = sym (append-nil (text scene t))
-joined_words scene t (w ∷ ts) = ap (λ (rest : List ℕ). text scene t ++ 46 ∷ rest) (joined_words scene w ts)

@@ -1,7 +1,7 @@
 use Rattle.std.proofs.Common.{◌≡◌, ◌++◌, map, drop}
 use Rattle.proto_listing.specs.Listing.{wanted_of}
 use Rattle.proto_described.specs.Described.{public_places}
-use Rattle.proto_described.proofs.described_file.public_dependencies.Given as goal
+use Rattle.proto_desc.proofs.head.public_dependencies.Given as goal
 
 abbrev pub invariant-loop-place : goal.invariant-loop-place
 invariant-loop-place l = l.places.items ++ public_places l.place (map wanted_of (drop l.place l.imports)) ≡ public_places 0 (map wanted_of l.imports)

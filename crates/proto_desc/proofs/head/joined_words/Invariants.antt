@@ -2,7 +2,7 @@ use Rattle.std.proofs.Common.{◌≡◌, ◌∷◌, ◌++◌, map, drop, string_
 use Rattle.std.specs.List.{flat_map}
 use Rattle.proto_meaning.specs.Joined.{joined}
 use Rattle.proto_parts.specs.Scenes.{text}
-use Rattle.proto_described.proofs.described_file.joined_words.Given as goal
+use Rattle.proto_desc.proofs.head.joined_words.Given as goal
 
 abbrev pub invariant-loop-word : goal.invariant-loop-word
 invariant-loop-word l = string_bytes l.name ++ flat_map (λ t. 46 ∷ text l.scene t) (drop l.word-index l.rest) ≡ joined (map (text l.scene) (l.fn.first ∷ l.rest))

@@ -1,8 +1,8 @@
 use Rattle.std.proofs.Common.{◌∷◌, ◌++◌, List, ℕ, sym, ap, ◌∙◌}
 use Rattle.std.specs.List.{flat_map}
 use Rattle.proto_parts.specs.Scenes.{text}
-use Rattle.proto_described.proofs.Levels.{joined_words}
-use Rattle.proto_described.proofs.described_file.joined_words.Goals as goal
+use Rattle.proto_desc.proofs.JoinedWords.{joined_words}
+use Rattle.proto_desc.proofs.head.joined_words.Goals as goal
 
 pub loop-word-init : goal.loop-word-init
 loop-word-init c =
