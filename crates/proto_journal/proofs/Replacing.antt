@@ -32,10 +32,6 @@ pub err_of : {T E : Type 0} (r : Result T E) (P : Type 0) → P → OnErr r P
 err_of (Ok x) P p = tt
 err_of (Err e) P p = p
 
-pub ok_of : {T E : Type 0} (r : Result T E) (P : Type 0) → P → OnOk r P
-ok_of (Ok x) P p = p
-ok_of (Err e) P p = tt
-
 -- a file, told by its path and its bytes
 pub as_told : (old new : Option Held) (path bytes : List ℕ) (to : FileOf) → path ≡ to.path → bytes ≡ to.bytes → new ≡ option_map (with_file path bytes) old → new ≡ option_map (with_file to.path to.bytes) old
 as_told old new path bytes to p b n = n ∙ ap (λ (z : List ℕ). option_map (with_file z bytes) old) p ∙ ap (λ (z : List ℕ). option_map (with_file to.path z) old) b

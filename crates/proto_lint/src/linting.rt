@@ -153,6 +153,7 @@ pub fn lint(
 {
     let linter = Linter::new(alloc, files, link, rules)?;
     let found = linter.findings(alloc);
+    // Dropped before `?`, which would be one more exit that drops it.
     drop(linter);
     Ok(listed(found?))
 }

@@ -1,13 +1,13 @@
 -- The names of a link are those of its table.
 use Rattle.std.proofs.Common.{◌≡◌, ◌≢◌, ◌⊎◌, ℕ, zero, suc, ◌<◌, Bool, true, false, ◌&&◌, ◌||◌, List, [], ◌∷◌, length, get_or, map, slice_get, option_map, Some, refl, sym, ◌∙◌, ap, subst, inl, inr, arith, string_bytes}
-use Rattle.std.specs.List.{list_any, All, Contains}
+use Rattle.std.specs.List.{list_any, All}
 use Rattle.std.specs.Str.{bytes_eq}
 use Rattle.std.proofs.lemmas.Bool.{cases_Bool, false_from_ne_true, both_ways, and_parts, and_from}
 use Rattle.std.proofs.lemmas.List.{get_or-map, get_or_default, length-map}
 use Rattle.std.proofs.lemmas.List.Folds.{list_any_at}
 use Rattle.std.proofs.lemmas.Option.{slice_get-get_or, none-some, same_Some}
 use Rattle.proto_meaning.specs.Joined.{joined, ArePlain}
-use Rattle.proto_meaning.specs.Names.{Symbol, Workspace, shows}
+use Rattle.proto_meaning.specs.Names.{Workspace, shows}
 use Rattle.proto_table.specs.Resolved.{IsIndexOf}
 use Rattle.proto_meaning.specs.Marks.{MarksSeen}
 use Rattle.proto_names.specs.Linking.{NameOf, LinkOf, name_of_row, text_at, sees_one, shows_text, is_visible}
@@ -133,7 +133,3 @@ module _ (t : Table) (ok : IsTable t) (l : LinkOf) (same : map name_of_row t.row
           false_from_ne_true (shows_text seen (joined x) (map name_of_row t.rows.items)) (λ q.
           let r = row_shown t ok seen (joined x) q in
           both_ways (shows w file (λ k. true) x) h (shows_from t ok seen w file index marks (λ k. true) x px r.0 r.1 r.2 r.3)) ∙ sym h
-
-pub visible_shows : (t : Table) → IsTable t → (l : LinkOf) → map name_of_row t.rows.items ≡ l.names → (symbols : List Symbol) → IsIndexOf t symbols → (w : Workspace) → w.symbols ≡ symbols → (file : ℕ) → MarksSeen w file (get_or l.seen file [])
-    → (s : Symbol) → Contains symbols s → is_visible l file (joined s.name) ≡ shows w file (λ k. true) s.name
-visible_shows t ok l same symbols index w e file marks s c = visible_is t ok l same w file (subst (IsIndexOf t) (sym e) index) marks s.name (index.plain s c)

@@ -1,5 +1,5 @@
 -- What is read of a store before anything is put back: the listed paths, and the texts of changed files.
-use Rattle.std.proofs.Common.{arith, ◌≡◌, inl, inr, ℕ, ◌+◌, ◌≤◌, ◌<◌, ◌||◌, get_or, append-nil, Bool, true, false, List, [], ◌∷◌, ◌++◌, length, map, take, Option, Some, None, refl, sym, ap, ◌∙◌, subst, if◌then◌else◌}
+use Rattle.std.proofs.Common.{arith, ◌≡◌, ℕ, ◌+◌, ◌≤◌, ◌<◌, ◌||◌, get_or, append-nil, Bool, true, false, List, [], ◌∷◌, ◌++◌, length, map, take, Option, Some, None, refl, sym, ap, ◌∙◌, subst, if◌then◌else◌}
 use Rattle.std.specs.Prelude.{is_some, option_map, String}
 use Rattle.std.specs.Global.{Global, Vec}
 use Rattle.std.specs.List.{Contains, list_any}
@@ -19,12 +19,11 @@ use Rattle.proto_entries.specs.Putting.{IsChangedText}
 use Rattle.proto_entries.proofs.Puts.{IsEven}
 use Rattle.proto_records.specs.declared.fault.JournalFault.{JournalFault}
 use Rattle.proto_records.specs.declared.fault.JournalFault.TheVariants as fault
-use Rattle.proto_store.specs.Stores.{Held, HoldsBytes, IsListed, ListsPaths, bytes_at}
+use Rattle.proto_store.specs.Stores.{Held, IsListed, ListsPaths, bytes_at}
 use Rattle.proto_recovery.specs.Known.{CountsFault, Over}
-use Rattle.proto_recovery.specs.Restoring.{AreOldFiles, IsAskedFor, IsNeither, IsOldFile, IsOldText, IsStaleOnly}
+use Rattle.proto_recovery.specs.Restoring.{AreOldFiles, IsAskedFor, IsNeither, IsOldFile, IsStaleOnly}
 use Rattle.proto_recovery.specs.Torn.{IsAsAfter, IsAsBefore, IsEitherWay}
 use Rattle.proto_recovery.proofs.OldFiles.{goes_more, stays_more}
-use Rattle.proto_recovery.proofs.PutBack.{of_some}
 use Rattle.proto_recovery.proofs.TornStores.{change_in, even_turned, measured_is_even}
 
 -- ---- the paths that are asked for
@@ -79,16 +78,6 @@ short_put c text new even fits len puts = let size = puts_length 0 text new c.sp
 not_as_before : (c : ChangeOf) (text : List ℕ) → IsEven c → c.after ≤ 1048576 → IsChangedText text c None → IsAsBefore c text → ⊥
 not_as_before c text even fits none is = none is.new (record { before = is.len; puts = is.puts; short = short_put c text is.new even fits is.len is.puts })
 
-pub stays_text : (c : ChangeOf) (text : List ℕ) (found : Option (Vec ℕ)) → IsChangedText text c found → is_some found ≡ true → IsOldText c text None
-stays_text c text (Some new) made e = record { len = made.before; new = new.items; puts = made.puts }
-stays_text c text None made e = differ e
-
-pub goes_text : (c back : ChangeOf) (text : List ℕ) (old : Vec ℕ) → back ≡ turned_round c → IsChangedText text back (Some old) → IsOldText c text (Some old)
-goes_text c back text old e made =
-    let len : length text ≡ c.after = made.before ∙ ap (λ (z : ChangeOf). z.before) e in
-    let puts : Puts 0 text (turned_round c).splices old.items = subst (λ (z : ChangeOf). Puts 0 text z.splices old.items) e made.puts in
-    (record { len = len; new = old.items; puts = puts }, puts)
-
 pub neither_text : (c back : ChangeOf) (text : List ℕ) (found : Option (Vec ℕ)) → IsChange c → back ≡ turned_round c → IsChangedText text c found → is_some found ≡ false → IsChangedText text back None
     → (IsAsBefore c text → ⊥) × (IsAsAfter c text → ⊥)
 neither_text c back text (Some new) is e first none last = differ (sym none)
@@ -99,38 +88,10 @@ neither_text c back text None is e first none last = (
 
 -- ---- the file of a change
 
-pub old_file_is : (held : Option Held) (c : ChangeOf) (text : List ℕ) (found : Option (Vec ℕ)) (file : Option FileOf) → HoldsBytes held c.path text → IsOldText c text found
-    → file ≡ option_map (λ (v : Vec ℕ). let f : FileOf = record { path = c.path; bytes = v.items } in f) found → Over held (λ h. IsOldFile c h.files file)
-old_file_is None c text found file there old e = tt
-old_file_is (Some h) c text None file there old e = subst (λ (z : Option FileOf). IsOldFile c h.files z) (sym e) (record { text = text; there = there; before = old })
-old_file_is (Some h) c text (Some v) file there old e =
-    subst (λ (z : Option FileOf). IsOldFile c h.files z) (sym e) (record { path = refl; text = text; there = there; after = old.0; puts = old.1 })
-
 pub not_there : (held : Option Held) (known : List (List ℕ)) (c : ChangeOf) → Over held (λ h. IsAskedFor known h.files) → list_any (bytes_eq c.path) known ≡ false
     → Over held (λ h. IsEitherWay h.files c → ⊥)
 not_there None known c asked e = tt
 not_there (Some h) known c asked e = λ is. differ (sym e ∙ asked c.path ∙ ap is_some is.there)
-
-pub not_either : (held : Option Held) (c : ChangeOf) (text : List ℕ) → HoldsBytes held c.path text → (IsAsBefore c text → ⊥) × (IsAsAfter c text → ⊥)
-    → Over held (λ h. IsEitherWay h.files c → ⊥)
-not_either None c text there neither = tt
-not_either (Some h) c text there neither = λ is. (
-    let same : is.text ≡ text = of_some is.text text (sym is.there ∙ there) in
-    elim is.either [
-      | inl x ↦ neither.0 (subst (λ (t : List ℕ). IsAsBefore c t) same x)
-      | inr x ↦ neither.1 (subst (λ (t : List ℕ). IsAsAfter c t) same x)
-    ])
-
-pub no_old_text : (held : Option Held) (c : ChangeOf) (text : List ℕ) (f : JournalFault) → HoldsBytes held c.path text → IsNeither c text f
-    → IsStaleOnly (Over held (λ h. IsEitherWay h.files c → ⊥)) f
-no_old_text held c text fault.BadJournal there n = absurd n
-no_old_text held c text fault.NothingToUndo there n = absurd n
-no_old_text held c text fault.OpenEntry there n = absurd n
-no_old_text held c text fault.Store there n = absurd n
-no_old_text held c text fault.JournalFull there n = absurd n
-no_old_text held c text fault.NoMemory there n = tt
-no_old_text held c text (fault.Refused refusal.Stale) there n = not_either held c text there n
-no_old_text held c text (fault.Refused r) there n = absurd n
 
 pub counts_neither : (c : ChangeOf) (text : List ℕ) (before after : ℕ) (f : JournalFault) → after ≡ before → IsNeither c text f → CountsFault before after f
 counts_neither c text before after fault.Store same n = absurd n

@@ -1,11 +1,9 @@
 -- What a recovery answers, from what it read, made and wrote.
-use Rattle.std.proofs.Common.{arith, ◌≡◌, ◌⊎◌, inl, inr, ℕ, true, false, List, [], ◌∷◌, ◌++◌, length, take, Option, Some, None, Ok, Err, refl, sym, ap, ◌∙◌, subst}
+use Rattle.std.proofs.Common.{◌≡◌, ◌⊎◌, inl, inr, ℕ, true, List, [], ◌∷◌, ◌++◌, take, Option, Some, None, Ok, Err, refl, sym, ap, ◌∙◌, subst}
 use Rattle.std.specs.Prelude.{option_map}
-use Rattle.std.specs.List.{Contains}
 use Rattle.std.proofs.lemmas.List.Elements.{recursion_from_All}
 use Rattle.proto_files.specs.GivenFiles.{FileOf}
 use Rattle.proto_entries.specs.Entries.{ChangeOf, IsEntry}
-use Rattle.proto_entries.specs.declared.refusal.Refusal.TheVariants as refusal
 use Rattle.proto_records.specs.declared.fault.JournalFault.{JournalFault}
 use Rattle.proto_records.specs.declared.fault.JournalFault.TheVariants as fault
 use Rattle.proto_records.specs.declared.record.Record.{Record}
@@ -16,8 +14,8 @@ use Rattle.proto_records.specs.Laws.{JournalsShrink}
 use Rattle.proto_store.specs.Stores.{Held, HoldsJournal, IsListed, with_journal}
 use Rattle.proto_recovery.specs.Known.{CountsFault, Over}
 use Rattle.proto_recovery.specs.Recovery.{ArePutBack, IsRecovered, IsRecovering, RecoverOutcome}
-use Rattle.proto_recovery.specs.Restoring.{AreListed, AreOldFiles, ArePartlyIn, IsStaleOnly, OpenOutcome, with_files}
-use Rattle.proto_recovery.specs.Torn.{IsEitherWay, IsTorn}
+use Rattle.proto_recovery.specs.Restoring.{AreListed, AreOldFiles, ArePartlyIn, OpenOutcome, with_files}
+use Rattle.proto_recovery.specs.Torn.{IsTorn}
 use Rattle.proto_recovery.proofs.Comebacks.{entry_of, last_of_all}
 use Rattle.proto_recovery.proofs.OldFiles.{all_back, distinct, olds_listed, some_back}
 use Rattle.proto_recovery.proofs.OneRecovery.{last_of}
@@ -43,13 +41,6 @@ open_there bytes records before r j o e =
     let is : r ≡ opened r.entry = ap (λ (s : State). let x : Record = record { state = s; entry = r.entry } in x) (open_state r.state last) in
     (before, subst (λ (x : Record). IsJournal bytes (before ++ x ∷ [])) is whole)
 
-pub none_open : (bytes : List ℕ) (records : List Record) → IsJournal bytes records → is_last_open records ≡ false → OpenOutcome bytes (Ok None)
-none_open bytes records j e = (records, j, e)
-
-pub no_records : (bytes : List ℕ) (records : List Record) → IsJournal bytes records → length records ≡ 0 → OpenOutcome bytes (Ok None)
-no_records bytes [] j e = ([], j, refl)
-no_records bytes (r ∷ rs) j e = absurd (omega arith)
-
 -- ---- what is answered before anything is written
 
 over_journal : (h : Option Held) (bytes : List ℕ) (P : List ℕ → Type 0) → HoldsJournal h bytes → P bytes → Over h (λ there. P there.journal)
@@ -74,28 +65,8 @@ counts_unread before after journal fault.JournalFull same o = same
 counts_unread before after journal fault.NoMemory same o = same
 counts_unread before after journal (fault.Refused r) same o = same
 
-pub nothing_open : (old new : Option Held) (journal : List ℕ) → new ≡ old → HoldsJournal old journal → OpenOutcome journal (Ok None) → RecoverOutcome old new (Ok false)
-nothing_open None new journal same there o = (same, tt)
-nothing_open (Some h) new journal same there o = (same, (o.0, record { journal = subst (λ (t : List ℕ). IsJournal t o.0) there o.1; closed = o.2 }))
-
 abbrev pub IsOpenAt : List ℕ → List ChangeOf → Type 0
 IsOpenAt journal entry = (records : List Record) × IsJournal journal (records ++ opened entry ∷ [])
-
--- a file is stale
-abbrev pub HasStale : List ChangeOf → Held → Type 0
-HasStale entry held = (c : ChangeOf) × Contains entry c × (IsEitherWay held.files c → ⊥)
-
-pub no_files : (old new : Option Held) (journal : List ℕ) (entry : List ChangeOf) (f : JournalFault) → new ≡ old → HoldsJournal old journal → IsOpenAt journal entry
-    → IsStaleOnly (Over old (HasStale entry)) f → RecoverOutcome old new (Err f)
-no_files old new journal entry fault.BadJournal same there o s = absurd s
-no_files old new journal entry fault.NothingToUndo same there o s = absurd s
-no_files old new journal entry fault.OpenEntry same there o s = absurd s
-no_files old new journal entry fault.Store same there o s = inl same
-no_files old new journal entry fault.JournalFull same there o s = absurd s
-no_files old new journal entry fault.NoMemory same there o s = same
-no_files None new journal entry (fault.Refused refusal.Stale) same there o s = (same, tt)
-no_files (Some h) new journal entry (fault.Refused refusal.Stale) same there o s = (same, (o.0, entry, subst (λ (t : List ℕ). IsJournal t (o.0 ++ opened entry ∷ [])) there o.1, s.0, s.1, s.2))
-no_files old new journal entry (fault.Refused r) same there o s = absurd s
 
 -- ---- what is written
 

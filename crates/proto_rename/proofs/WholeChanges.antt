@@ -56,9 +56,6 @@ pub record AreChangesUpTo (files : List FileOf) (reads : List ReadOf) (c : NewWo
   pub changes : cs ≡ changes_up_to c files reads n
   pub short : (k : ℕ) → k < n → IsTooLong c files reads k → ⊥
 
-pub first_changes : (files : List FileOf) (reads : List ReadOf) (c : NewWords) → AreChangesUpTo files reads c 0 []
-first_changes files reads c = record { changes = refl; short = λ k l h. absurd (omega (arith, l)) }
-
 pub more_changes : (files : List FileOf) (reads : List ReadOf) (c : NewWords) (n m : ℕ) → m ≡ n + 1 → (items more : List Change) (found : Option Change) → AreChangesUpTo files reads c n (map change_of items) → more ≡ items ++ listed found → IsMade files reads c n found
     → AreChangesUpTo files reads c m (map change_of more)
 more_changes files reads c n m e items more found h pushed made =

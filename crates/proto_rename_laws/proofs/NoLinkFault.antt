@@ -1,5 +1,5 @@
 -- No fault of texts, the grammar, imports, names and references comes in by a rename (for the crates above).
-use Rattle.std.proofs.Common.{◌+◌, ◌≡◌, ℕ, zero, suc, ◌<◌, List, [], ◌∷◌, ◌⊎◌, length, get_or, map, slice_index_or, refl, sym, subst, inl, inr, arith}
+use Rattle.std.proofs.Common.{◌+◌, ◌≡◌, ℕ, zero, suc, ◌<◌, List, [], ◌∷◌, length, get_or, map, slice_index_or, refl, sym, subst, inl, inr, arith}
 use Rattle.std.specs.List.{Contains}
 use Rattle.proto_faults.specs.declared.fault.FaultKind.{FaultKind}
 use Rattle.proto_faults.specs.FaultTable.{number_of}
@@ -49,17 +49,6 @@ files_are_woven files reads r =
     (map (lexeme_at (file_at files k).bytes) (read_at reads k).tokens) t.spells))
 
 -- ---- faults as they stand
-
--- the kind of each fault of imports, names and references
-some_kind : (n : ℕ) → (number_of kind.UnknownImport ≡ n) ⊎ ((number_of kind.DoubleImport ≡ n) ⊎ ((number_of kind.ImportCycle ≡ n) ⊎ ((number_of kind.DuplicateName ≡ n) ⊎ ((number_of kind.Unresolved ≡ n) ⊎ ((number_of kind.WrongKind ≡ n) ⊎ (number_of kind.MapEntryRef ≡ n))))))
-    → (k : FaultKind) × (number_of k ≡ n)
-some_kind n (inl e) = (kind.UnknownImport, e)
-some_kind n (inr (inl e)) = (kind.DoubleImport, e)
-some_kind n (inr (inr (inl e))) = (kind.ImportCycle, e)
-some_kind n (inr (inr (inr (inl e)))) = (kind.DuplicateName, e)
-some_kind n (inr (inr (inr (inr (inl e))))) = (kind.Unresolved, e)
-some_kind n (inr (inr (inr (inr (inr (inl e)))))) = (kind.WrongKind, e)
-some_kind n (inr (inr (inr (inr (inr (inr e)))))) = (kind.MapEntryRef, e)
 
 module _ (files : List FileOf) (reads : List ReadOf) where
   standing : (f : Fault) → FaultKind → FaultAt

@@ -12,14 +12,14 @@ use Rattle.proto_tree.specs.declared.piece.Header.TheVariants as header
 use Rattle.proto_tree.specs.declared.tree.MapField.{MapField}
 use Rattle.proto_tree.specs.Moved.{Move, move_header, move_map_field, move_range, move_statement, move_tree}
 use Rattle.proto_tree.specs.Tree.{Tree, End, Leaf, Block}
-use Rattle.proto_parts.specs.Parts.{FieldOf, extension_ranges, fields_in, options_in, reserved_names, reserved_names_in, reserved_ranges, statement_options, statement_values, statements, enum_ranges}
+use Rattle.proto_parts.specs.Parts.{FieldOf, extension_ranges, fields_in, options_in, reserved_names, reserved_names_in, reserved_ranges, statement_options, statements}
 use Rattle.proto_parts.specs.Scenes.{Scene, number_at, text, value}
-use Rattle.proto_numbers.specs.NumberFlaws.{enum_range_of, range_of}
+use Rattle.proto_numbers.specs.NumberFlaws.{range_of}
 use Rattle.proto_checks_laws.proofs.MovedParts.{flat_moved, maps_kept, some_kept, extension_ranges_moved, move_field_of, move_option_of, options_moved, reserved_ranges_moved, statement_names_moved, statement_options_moved}
 use Rattle.proto_listing.specs.FromTree.{Wanted, imports_in, items_in, statement_imports}
 use Rattle.proto_meaning.specs.Tree.{package_of}
 use Rattle.proto_json.specs.declared.file.Syntax.TheVariants as syntax
-use Rattle.proto_described.specs.Described.{field_number, file_options, package_named, package_prefix, public_places, services_described, below, enum_options, entry_described, message_options, value_described, value_range, enum_described, enums_described, field_described, message_described, messages_described, number_range, oneof_names}
+use Rattle.proto_described.specs.Described.{field_number, file_options, package_named, package_prefix, public_places, services_described, below, entry_described, message_options, enums_described, field_described, message_described, messages_described, number_range, oneof_names}
 use Rattle.proto_json.specs.declared.message.NumberRange.{NumberRange}
 use Rattle.proto_parts.specs.Options.{truth_option}
 use Rattle.proto_checks_laws.proofs.MovedFlaws.{range_moved}
@@ -61,16 +61,6 @@ block_package h (header.Method y) i w w' j x t e = e
 
 paths : (g : Move) (a b : Scene) → IsMovedScene g a b → (ws vs : List Wanted) → vs ≡ map (move_wanted g) ws → map (λ (w : Wanted). value b w.path) vs ≡ map (λ (w : Wanted). value a w.path) ws
 paths g a b all ws vs e = ap (map (λ (w : Wanted). value b w.path)) e ∙ maps_kept (move_wanted g) (λ (w : Wanted). value a w.path) (λ (w : Wanted). value b w.path) (λ w. all.same.strings w.path) ws
-
--- what is described of lists
-enum_by : (scene : Scene) (name : ℕ) (t v : Tree) → statements t ≡ statements v → enum_described scene name t ≡ enum_described scene name v
-enum_by scene name t v e = ap (λ (ss : List Statement). let d : EnumDesc = record {
-  name = text scene name;
-  value = map (value_described scene) (flat_map statement_values ss);
-  reserved_range = map (λ r. value_range (enum_range_of scene r)) (flat_map enum_ranges ss);
-  reserved_name = map (value scene) (flat_map reserved_names ss);
-  options = enum_options scene (flat_map statement_options ss);
-} in d) e
 
 message_by : (scene : Scene) (full : List ℕ) (name : ℕ) (t v : Tree) → statements t ≡ statements v → fields_in t ≡ fields_in v → enums_described scene t ≡ enums_described scene v → oneof_names scene t ≡ oneof_names scene v → message_described scene full name t ≡ message_described scene full name v
 message_by scene full name t v e f n o =

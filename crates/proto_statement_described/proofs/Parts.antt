@@ -20,9 +20,6 @@ pub record IsWith {A : Type 0} (m : A → A) (new xs ys : List A) : Type 0 where
   pub all : xs ≡ front ++ back
   pub is : ys ≡ map m front ++ (new ++ map m back)
 
-pub first_with : {A : Type 0} (m : A → A) (new xs : List A) → IsWith m new xs (new ++ map m xs)
-first_with m new xs = record { front = []; back = xs; all = refl; is = refl }
-
 -- nothing
 pub nothing_with : {A : Type 0} (m : A → A) (xs ys : List A) → IsWith m [] xs ys → ys ≡ map m xs
 nothing_with m xs ys h = h.is ∙ sym (map-append m h.front h.back) ∙ ap (map m) (sym h.all)

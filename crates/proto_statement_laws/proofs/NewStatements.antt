@@ -79,9 +79,6 @@ text_fits w = by (says w (codes "proto2") || says w (codes "proto3"))
     by true = refl
     by false = refl
 
-plus : (i n : ℕ) → n + i ≡ i + n
-plus i n = omega arith
-
 pub reservation_fits : (i number : ℕ) (name : List ℕ) → Fit (flat (reservation i)) (classes i (reservation_tokens number name))
 reservation_fits i number name = (
   refl,

@@ -1,23 +1,20 @@
 -- The first field of a name token in trees that stand one behind another (for the crates above).
-use Rattle.std.proofs.Common.{◌≡◌, ℕ, suc, List, [], ◌∷◌, ◌++◌, length, Option, Some, None, refl, sym, ap, ◌∙◌}
+use Rattle.std.proofs.Common.{◌≡◌, ℕ, List, ◌++◌, Option, Some, None, refl, sym, ap, ◌∙◌}
 use Rattle.std.specs.Prelude.{option_map}
-use Rattle.std.proofs.lemmas.Option.{none-some, same_Some}
+use Rattle.std.proofs.lemmas.Option.{none-some}
 use Rattle.proto_statement_laws.specs.Deletions.{first_of, first_token}
 use Rattle.proto_statement_splices.specs.declared.fields.FieldPlace.{FieldPlace}
 use Rattle.proto_statement_splices.specs.Fields.{FieldAt, field_among, field_if, field_in, or_else, place_of}
-use Rattle.proto_tree.specs.declared.piece.Header.{Header}
 use Rattle.proto_tree.specs.declared.piece.Header.TheVariants as header
 use Rattle.proto_tree.specs.declared.class.Want.TheVariants as want
-use Rattle.proto_tree.specs.declared.piece.Statement.{Statement}
 use Rattle.proto_tree.specs.declared.piece.Statement.TheVariants as statement
 use Rattle.proto_tree.specs.declared.tree.Block.{Block as Braced}
 use Rattle.proto_tree.specs.declared.tree.Field.{Field}
 use Rattle.proto_tree.specs.declared.tree.FieldType.{FieldType}
 use Rattle.proto_tree.specs.declared.tree.FieldType.TheVariants as field_type
-use Rattle.proto_tree.specs.declared.tree.Member.{Member}
 use Rattle.proto_tree.specs.declared.tree.Reference.{Reference}
 use Rattle.proto_tree.specs.declared.tree.Separated.{Separated}
-use Rattle.proto_tree.specs.File.{field_tree, member_tree, message_tree, oneof_tree, trees}
+use Rattle.proto_tree.specs.File.{field_tree, oneof_tree, trees}
 use Rattle.proto_tree.specs.Flat.{Mark, flat_option, flat_type, flat_words, only}
 use Rattle.proto_tree.specs.Tree.{Tree, End, Leaf, Block, joined}
 
@@ -37,13 +34,6 @@ option_first (Some i) k more e = absurd (none-some i (sym e))
 
 pub first_unlabeled : (f : Field) → f.label ≡ None → first_of (flat_type f.kind) ≡ first_token (statement.Field f)
 first_unlabeled f e = sym (option_first f.label f.kind _ e)
-
-pub first_labeled : (f : Field) (i : ℕ) → f.label ≡ Some i → i ≡ first_token (statement.Field f)
-first_labeled f i e = sym (by f.label _ e)
-  where
-    by : (o : Option ℕ) (more : List Mark) → o ≡ Some i → first_of (flat_option (only want.Label) o ++ more) ≡ i
-    by None more h = absurd (none-some i h)
-    by (Some j) more h = same_Some j i h
 
 -- ---- trees behind one another
 
@@ -89,16 +79,7 @@ here name t u p h = or_here (field_in name t) (field_in name u) p h ∙ ap (opti
 pub behind : (name : ℕ) (t u : Tree) → None ≡ option_map place_of (field_in name t) → field_in name (joined t u) ≡ field_in name u
 behind name t u h = field_joined name t u ∙ or_behind (field_in name t) (field_in name u) h
 
-pub among_here : (name : ℕ) (around : Option ℕ) (s : Statement) (u : Tree) (p : FieldPlace) → Some p ≡ option_map place_of (field_if name around s) → Some p ≡ option_map place_of (field_among name around (Leaf s u))
-among_here name around s u p h = or_here (field_if name around s) (field_among name around u) p h
-
-pub among_behind : (name : ℕ) (around : Option ℕ) (s : Statement) (u : Tree) → None ≡ option_map place_of (field_if name around s) → field_among name around (Leaf s u) ≡ field_among name around u
-among_behind name around s u h = or_behind (field_if name around s) (field_among name around u) h
-
 -- ---- blocks alone
 
 pub oneof_place : (name : ℕ) (o : Braced Field) → field_in name (oneof_tree o) ≡ field_among name (Some o.close) (trees field_tree o.members.items)
 oneof_place name o = or_else_none (field_among name (Some o.close) (trees field_tree o.members.items))
-
-pub message_place : (name : ℕ) (m : Braced Member) → field_in name (message_tree m) ≡ field_in name (trees member_tree m.members.items)
-message_place name m = or_else_none (field_in name (trees member_tree m.members.items))

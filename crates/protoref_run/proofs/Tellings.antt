@@ -72,19 +72,6 @@ pub ready_is_plain : (held : Option Held) (f : JournalFault) → IsUnready held 
 ready_is_plain held (fault.Refused x) h = absurd h
 ready_is_plain held f h = tt
 
--- a failed call of the store is counted in what is told
-pub told_counts : (files : List FileOf) (o : Result (List ChangeOf) JournalFault) (r : Result Answer RunFault) → IsTold files o r → CountsAlike o r
-told_counts files (Ok entry) (Ok x) told a b counted = counted
-told_counts files (Ok entry) (Err e) told a b counted = absurd told
-told_counts files (Err fault.Store) (Ok x) told a b counted = absurd told
-told_counts files (Err fault.Store) (Err ends.Store) told a b counted = counted
-told_counts files (Err fault.Store) (Err ends.NoMemory) told a b counted = let no : ⊥ = cc in absurd no
-told_counts files (Err fault.Store) (Err ends.Output) told a b counted = let no : ⊥ = cc in absurd no
-told_counts files (Err f) (Ok x) told a b counted = counted
-told_counts files (Err f) (Err ends.Store) told a b counted = let no : ⊥ = cc in absurd no
-told_counts files (Err f) (Err ends.NoMemory) told a b counted = counted
-told_counts files (Err f) (Err ends.Output) told a b counted = let no : ⊥ = cc in absurd no
-
 -- the output is not written yet
 pub told_unwritten : (files : List FileOf) (o : Result (List ChangeOf) JournalFault) → IsTold files o (Err ends.Output) → ⊥
 told_unwritten files (Ok entry) told = told

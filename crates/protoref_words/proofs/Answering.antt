@@ -1,5 +1,5 @@
 -- The answer to what is asked for, from its parts.
-use Rattle.std.proofs.Common.{◌≡◌, ◌∙◌, ◌⊎◌, inl, inr, Bool, true, false, ◌&&◌, List, [], ◌∷◌, Option, Some, None, Result, Ok, Err, String, string_bytes, refl, sym, ap, subst, IsErrAnd}
+use Rattle.std.proofs.Common.{◌≡◌, ◌∙◌, ◌⊎◌, inl, inr, true, List, [], ◌∷◌, Option, Some, None, Result, Ok, Err, String, string_bytes, refl, sym, ap, subst, IsErrAnd}
 use Rattle.std.specs.List.{list_all}
 use Rattle.std.specs.Option.{option_map_or}
 use Rattle.std.specs.declared.alloc.Global.{Global}
@@ -13,15 +13,14 @@ use Rattle.clap.proofs.WalkLemmas.{both}
 use Rattle.proto_faults.specs.Texts.{Text}
 use Rattle.proto_findings.specs.declared.rule_set.RuleSet.{RuleSet}
 use Rattle.protoref_words.specs.CommandLines.{Asked, asked, bad_line, help, lint, taken}
-use Rattle.protoref_words.specs.Marked.{begins_dashed}
 use Rattle.protoref_words.specs.Matched.{asked_of}
 use Rattle.protoref_words.specs.Program.{program}
-use Rattle.protoref_words.specs.Requests.{IsAnswerTo, IsFaultOf, IsHelpOf, IsSetFor, IsTextOf}
+use Rattle.protoref_words.specs.Requests.{IsAnswerTo, IsHelpOf, IsSetFor, IsTextOf}
 use Rattle.protoref_words.specs.declared.request.Request.{Request}
 use Rattle.protoref_words.specs.declared.request.Request.TheVariants as request
 use Rattle.protoref_words.specs.declared.request.WordsFault.{WordsFault}
 use Rattle.protoref_words.specs.declared.request.WordsFault.TheVariants as fault
-use Rattle.protoref_words.proofs.Lines.{EndsAt, are_refusals, dashed, helped, is_refusal, read, refused}
+use Rattle.protoref_words.proofs.Lines.{EndsAt, are_refusals, helped, is_refusal, read, refused}
 
 pub text_read : (o : Option Text) (s : String Global) (next : Text → Asked) (r : Result Request WordsFault) → IsTextOf o (Ok s) → IsAnswerTo (next (string_bytes s)) r
     → IsAnswerTo (option_map_or next o bad_line) r
@@ -104,7 +103,3 @@ answer_refused a ws k r ends (inl e) is = no_memory a k r e is
 answer_refused a ws k r (read x y) (inr h) is = absurd (subst (IsAmong k) x h)
 answer_refused a ws k r (helped x y) (inr h) is = elim (subst (IsAmong k) x h) [ inl e ↦ is_help a k r y e is | inr never ↦ absurd never ]
 answer_refused a ws k r (refused x y) (inr h) is = is_bad a k r y (among (fault_of program ws) k (all_refusals (fault_of program ws) x) h) is
-
-pub answer_dashed : (ws : List Text) (f : WordsFault) → IsFaultOf (begins_dashed ws) f → IsAnswerTo (asked (Rattle.std.proofs.Common.drop 1 ws)) (Err f)
-answer_dashed ws fault.BadCommandLine e = dashed ws e
-answer_dashed ws fault.NoMemory e = tt
