@@ -100,13 +100,14 @@ fn accepted<R: AllocGlobal + Clock>(
     )?)
 }
 
-// The answer to an edit, and what it leaves, after the files were opened in so many microseconds.
+// The answer to an edit, and what it leaves, after the files were opened since then.
 fn answered<R: AllocGlobal + Clock>(
     rt: &R,
     schema: &Schema,
     edit: Edit,
-    opening: u128,
+    opened: Instant,
 ) -> io::Result<String> {
+    let opening = micros_since(rt, opened)?;
     let start = Instant::now(rt)?;
     let answer = changes_of(rt.alloc(), schema, edit);
     let editing = micros_since(rt, start)?;
@@ -131,10 +132,7 @@ pub(crate) fn timed<R: AllocGlobal + Clock>(
 ) -> io::Result<String> {
     let start = Instant::now(rt)?;
     match Schema::open(rt.alloc(), files) {
-        Ok(schema) => {
-            let opening = micros_since(rt, start)?;
-            answered(rt, &schema, edit, opening)
-        }
+        Ok(schema) => answered(rt, &schema, edit, start),
         Err(_) => Ok(String::from_str(rt.alloc(), "not opened\n")?),
     }
 }

@@ -1,8 +1,8 @@
 //! The steps, each over files that are given by path and bytes, and the text that is printed.
 
 use crate::report::report_on;
-use proto_desc::to_json;
-use proto_faults::{NoMemory, SchemaFault};
+use proto_desc::{Descriptors, to_json};
+use proto_faults::{Fault, NoMemory, SchemaFault};
 use proto_files::{Files, Paths};
 use proto_lint::{RuleSet, lint};
 use proto_names::Link;
@@ -87,16 +87,20 @@ fn counted(alloc: Global, given: Vec<(String, Vec<u8>)>, is_linted: bool) -> Opt
 // The descriptors as JSON, or the fault as `path:offset: number name`.
 fn compiled(alloc: Global, files: Vec<(String, Vec<u8>)>) -> Result<String, NoMemory> {
     match Schema::open(alloc, files) {
-        Ok(schema) => {
-            let mut text = to_json(alloc, schema.descriptors())?;
-            text.push('\n')?;
-            Ok(text)
-        }
-        Err(SchemaFault::Schema(fault)) => {
-            let (path, offset) = (fault.path.as_str(), fault.offset);
-            let (number, name) = (fault.number(), fault.name());
-            Ok(format!(in alloc; "{path}:{offset}: {number} {name}\n")?)
-        }
+        Ok(schema) => json_line(alloc, schema.descriptors()),
+        Err(SchemaFault::Schema(fault)) => fault_line(alloc, &fault),
         Err(SchemaFault::NoMemory) => Err(NoMemory),
     }
+}
+
+fn json_line(alloc: Global, descriptors: &Descriptors) -> Result<String, NoMemory> {
+    let mut text = to_json(alloc, descriptors)?;
+    text.push('\n')?;
+    Ok(text)
+}
+
+fn fault_line(alloc: Global, fault: &Fault) -> Result<String, NoMemory> {
+    let (path, offset) = (fault.path.as_str(), fault.offset);
+    let (number, name) = (fault.number(), fault.name());
+    Ok(format!(in alloc; "{path}:{offset}: {number} {name}\n")?)
 }

@@ -16,28 +16,32 @@ pub(crate) fn expect_rows<R: AllocGlobal + Abort>(rt: &R, rows: &[Row]) -> Resul
 
 #[test]
 fn of_members_are_answered_and_undone(rt: HostRuntime) -> Result<(), Fail> {
-    expect_rows(&rt, MEMBERS)?;
-    expect_rows(&rt, MAPS)?;
-    Ok(())
+    Ok(expect_rows(&rt, MEMBERS)?)
+}
+
+#[test]
+fn of_map_fields_are_answered_and_undone(rt: HostRuntime) -> Result<(), Fail> {
+    Ok(expect_rows(&rt, MAPS)?)
 }
 
 #[test]
 fn of_types_are_answered_and_undone(rt: HostRuntime) -> Result<(), Fail> {
-    expect_rows(&rt, TYPES)?;
-    Ok(())
+    Ok(expect_rows(&rt, TYPES)?)
 }
 
 #[test]
 fn are_refused(rt: HostRuntime) -> Result<(), Fail> {
-    expect_rows(&rt, NAMES)?;
-    expect_rows(&rt, CAPTURES)?;
-    Ok(())
+    Ok(expect_rows(&rt, NAMES)?)
+}
+
+#[test]
+fn are_refused_where_references_would_mean_something_else(rt: HostRuntime) -> Result<(), Fail> {
+    Ok(expect_rows(&rt, CAPTURES)?)
 }
 
 #[test]
 fn in_runs_are_answered_and_undone(rt: HostRuntime) -> Result<(), Fail> {
-    expect_rows(&rt, RUNS)?;
-    Ok(())
+    Ok(expect_rows(&rt, RUNS)?)
 }
 
 const TWICE: Row = Row {

@@ -3,7 +3,7 @@
 use crate::calls::{Texts, expect_answer, expect_answers};
 use std::test::Fail;
 
-const FAULTS: &[(&str, &str)] = &[
+const NUMBERS: &[(&str, &str)] = &[
     (
         "syntax = \"proto3\"; message A { string b = 0; }",
         "a.proto:42: 17 NumberRange",
@@ -70,6 +70,9 @@ const FAULTS: &[(&str, &str)] = &[
         "enum E { V = -3; reserved -5 to -2; }",
         "a.proto:13: 19 ReservedNumber",
     ),
+];
+
+const NAMES_AND_TYPES: &[(&str, &str)] = &[
     (
         "message M { reserved \"a\"; optional int32 a = 1; }",
         "a.proto:41: 20 ReservedName",
@@ -127,6 +130,9 @@ const FAULTS: &[(&str, &str)] = &[
         "syntax = \"proto3\"; message M { map<bytes,int32> m = 1; }",
         "a.proto:35: 26 BadMap",
     ),
+];
+
+const OPTIONS: &[(&str, &str)] = &[
     ("option go_packag = \"a\";", "a.proto:7: 27 BadOption"),
     (
         "option deprecated = true; option deprecated = true;",
@@ -179,6 +185,9 @@ const FAULTS: &[(&str, &str)] = &[
         "message M { optional int32 a = 1 [default = 1, default = x]; }",
         "a.proto:47: 27 BadOption",
     ),
+];
+
+const DEFAULTS: &[(&str, &str)] = &[
     (
         "message M { optional int32 a = 1 [default = 2147483648]; }",
         "a.proto:34: 28 BadDefault",
@@ -227,6 +236,9 @@ const FAULTS: &[(&str, &str)] = &[
         "message M { enum E { V = 0; } enum F { W = 0; } optional E a = 1 [default = W]; }",
         "a.proto:66: 28 BadDefault",
     ),
+];
+
+const OTHERS: &[(&str, &str)] = &[
     (
         "syntax = \"proto3\"; message M { oneof o {} }",
         "a.proto:37: 29 EmptyOneof",
@@ -266,8 +278,28 @@ const FAULTS: &[(&str, &str)] = &[
 ];
 
 #[test]
-fn each_fault_stands_at_its_place(rt: HostRuntime) -> Result<(), Fail> {
-    Ok(expect_answers(&rt, FAULTS)?)
+fn numbers_are_refused_at_their_place(rt: HostRuntime) -> Result<(), Fail> {
+    Ok(expect_answers(&rt, NUMBERS)?)
+}
+
+#[test]
+fn names_ranges_enums_and_maps_are_refused_at_their_place(rt: HostRuntime) -> Result<(), Fail> {
+    Ok(expect_answers(&rt, NAMES_AND_TYPES)?)
+}
+
+#[test]
+fn options_are_refused_at_their_place(rt: HostRuntime) -> Result<(), Fail> {
+    Ok(expect_answers(&rt, OPTIONS)?)
+}
+
+#[test]
+fn defaults_are_refused_at_their_place(rt: HostRuntime) -> Result<(), Fail> {
+    Ok(expect_answers(&rt, DEFAULTS)?)
+}
+
+#[test]
+fn other_faults_stand_at_their_place(rt: HostRuntime) -> Result<(), Fail> {
+    Ok(expect_answers(&rt, OTHERS)?)
 }
 
 const FAULTS_OF_TWO: &[(Texts, &str)] = &[

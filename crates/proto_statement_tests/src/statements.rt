@@ -53,8 +53,18 @@ fn expect_places<R: AllocGlobal + Abort>(rt: &R, rows: &[Place]) -> Result<(), N
 
 #[test]
 fn delete_a_field(rt: HostRuntime) -> Result<(), Fail> {
-    expect_deletions(&rt, FIELDS)?;
-    Ok(expect_deletions(&rt, MEMBERS)?)
+    Ok(expect_deletions(&rt, FIELDS)?)
+}
+
+#[test]
+fn delete_a_member_of_a_oneof(rt: HostRuntime) -> Result<(), Fail> {
+    expect_deletions(&rt, MEMBERS)?;
+    Ok(expect_rows(&rt, ONEOF)?)
+}
+
+#[test]
+fn delete_fields_one_after_another(rt: HostRuntime) -> Result<(), Fail> {
+    Ok(expect_rows(&rt, DELETIONS)?)
 }
 
 #[test]
@@ -64,19 +74,29 @@ fn add_an_import(rt: HostRuntime) -> Result<(), Fail> {
 }
 
 #[test]
-fn delete_fields_and_add_imports(rt: HostRuntime) -> Result<(), Fail> {
-    for rows in [ONEOF, DELETIONS, IMPORT, ADDED, OVERTAKEN] {
-        expect_rows(&rt, rows)?;
-    }
-    Ok(())
+fn add_imports_one_after_another(rt: HostRuntime) -> Result<(), Fail> {
+    expect_rows(&rt, IMPORT)?;
+    Ok(expect_rows(&rt, ADDED)?)
+}
+
+#[test]
+fn add_imports_that_overtake_references(rt: HostRuntime) -> Result<(), Fail> {
+    Ok(expect_rows(&rt, OVERTAKEN)?)
 }
 
 #[test]
 fn drop_imports(rt: HostRuntime) -> Result<(), Fail> {
-    for rows in [DROPPED, NEEDED, LISTS] {
-        expect_rows(&rt, rows)?;
-    }
-    Ok(())
+    Ok(expect_rows(&rt, DROPPED)?)
+}
+
+#[test]
+fn drop_no_import_that_references_need(rt: HostRuntime) -> Result<(), Fail> {
+    Ok(expect_rows(&rt, NEEDED)?)
+}
+
+#[test]
+fn are_made_in_lists(rt: HostRuntime) -> Result<(), Fail> {
+    Ok(expect_rows(&rt, LISTS)?)
 }
 
 // The length of a file, and what is asked: the file becomes as long as it may be, or a byte longer.
