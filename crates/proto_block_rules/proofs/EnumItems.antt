@@ -15,7 +15,8 @@ use Rattle.proto_findings.specs.Placed.{found_at, found_by, unless_word}
 use Rattle.proto_findings.specs.Readings.{Reading}
 use Rattle.proto_findings.specs.Rules.{is_chosen}
 use Rattle.proto_block_rules.specs.NameRules.{first_not_zero, is_zero}
-use Rattle.proto_block_rules.proofs.Turns.{front, statements_joined}
+use Rattle.proto_text.proofs.Turns.{front}
+use Rattle.proto_parts.proofs.JoinedTrees.{statements_joined}
 
 values_joined : (t u : Tree) → values_in (joined t u) ≡ values_in t ++ values_in u
 values_joined t u = ap (flat_map statement_values) (statements_joined t u) ∙ flat_map-append statement_values (statements t) (statements u)
@@ -23,7 +24,7 @@ values_joined t u = ap (flat_map statement_values) (statements_joined t u) ∙ f
 values_front : (items : List EnumItem) (i : ℕ) (item : EnumItem) → i < length items → item ≡ get_or items i item
     → values_in (trees enum_item_tree (drop i items)) ≡ values_in (enum_item_tree item) ++ values_in (trees enum_item_tree (drop (i + 1) items))
 values_front items i item lt is =
-    ap (λ (xs : List EnumItem). values_in (trees enum_item_tree xs)) (front items i item lt is)
+    ap (λ (xs : List EnumItem). values_in (trees enum_item_tree xs)) (front items i item item lt is)
     ∙ values_joined (enum_item_tree item) (trees enum_item_tree (drop (i + 1) items))
 
 -- what is found at the values of one item more

@@ -1,8 +1,8 @@
 mod BlockTrees
 mod EnumItems
 mod FileMessages
+mod JoinedTrees
 mod Joins
 mod OuterMessages
 mod Steps
-mod Turns
 mod Twice

@@ -1,5 +1,5 @@
 -- The blocks of trees that stand one behind another.
-use Rattle.std.proofs.Common.{◌≡◌, ℕ, false, ◌==◌, ◌<◌, List, [], ◌∷◌, ◌++◌, length, flat_map, refl, sym, ap, ◌∙◌, append_assoc, inl, inr, arith}
+use Rattle.std.proofs.Common.{◌≡◌, ℕ, false, ◌==◌, ◌<◌, List, [], ◌∷◌, ◌++◌, length, flat_map, refl, sym, ap, ◌∙◌, inl, inr, arith}
 use Rattle.std.proofs.lemmas.Bool.{cases_Bool, eqb-true}
 use Rattle.std.proofs.lemmas.Grind.{flat_map-append}
 use Rattle.proto_tree.specs.declared.tree.Field.{Field}
@@ -8,23 +8,17 @@ use Rattle.proto_tree.specs.declared.tree.EnumItem.TheVariants as enum_item
 use Rattle.proto_tree.specs.declared.tree.MethodItem.{MethodItem}
 use Rattle.proto_tree.specs.declared.tree.MethodItem.TheVariants as method_item
 use Rattle.proto_tree.specs.declared.piece.Header.{Header}
-use Rattle.proto_tree.specs.Tree.{Tree, End, Leaf, Block, joined}
+use Rattle.proto_tree.specs.Tree.{Tree, End, Block, joined}
 use Rattle.proto_tree.specs.File.{trees, field_tree, enum_item_tree, method_item_tree}
 use Rattle.proto_parts.specs.Parts.{BlockOf, blocks_in, statements}
 use Rattle.proto_parts.specs.Scenes.{Scene}
+use Rattle.proto_parts.proofs.JoinedTrees.{blocks_joined}
 use Rattle.proto_numbers.specs.declared.flaw.Flaw.{Flaw}
 use Rattle.proto_checks.specs.FileFlaws.{block_flaws, flaws_in_blocks, is_empty}
 
 append_nil : {A : Type 0} (xs : List A) → xs ++ [] ≡ xs
 append_nil [] = refl
 append_nil (x ∷ xs) = ap (λ (ys : List _). x ∷ ys) (append_nil xs)
-
-pub blocks_joined : (t u : Tree) → blocks_in (joined t u) ≡ blocks_in t ++ blocks_in u
-blocks_joined End u = refl
-blocks_joined (Leaf s rest) u = blocks_joined rest u
-blocks_joined (Block h i within j rest) u =
-    ap (λ (bs : List BlockOf). record { header = h; within = within } ∷ (blocks_in within ++ bs)) (blocks_joined rest u)
-    ∙ ap (λ (bs : List BlockOf). record { header = h; within = within } ∷ bs) (sym (append_assoc (blocks_in within) (blocks_in rest) (blocks_in u)))
 
 flaws_joined : (scene : Scene) (t u : Tree) → flaws_in_blocks scene (joined t u) ≡ flaws_in_blocks scene t ++ flaws_in_blocks scene u
 flaws_joined scene t u =

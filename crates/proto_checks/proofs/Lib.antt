@@ -4,4 +4,3 @@ pub mod FlawTokens
 pub mod KnownNames
 pub mod OptionNames
 pub mod Phases
-mod Turns

@@ -1,3 +1,2 @@
 pub mod CheckedFiles
-pub mod JoinedWords
 pub mod LeastCheckFault

@@ -1,13 +1,13 @@
 -- Heads, and the parts of what they say.
 use Rattle.std.proofs.Common.{◌≡◌, ℕ, zero, suc, ◌+◌, ◌<◌, ◌≤◌, ◌&&◌, Bool, true, false, not, List, [], ◌∷◌, ◌++◌, length, get_or, map, drop, cond, nat_lt, find, Option, Some, None, IfSome, MatchOption, option_map, Bor, refl, sym, ◌∙◌, ap, inl, inr, arith}
 use Rattle.std.specs.Prelude.{◌==◌, codes, slice_get, is_some}
-use Rattle.std.specs.List.{list_all, list_any, flat_map, position_or_len}
+use Rattle.std.specs.List.{list_all, list_any, position_or_len}
 use Rattle.std.specs.Option.{option_and_then}
 use Rattle.std.specs.Path.{rsplit_once}
 use Rattle.std.specs.Str.{bytes_eq}
 use Rattle.std.proofs.lemmas.Bool.{cases_Bool, cases_lt, cond-true, cond-false, both_ways, false_from_ne_true, or_right}
 use Rattle.std.proofs.lemmas.Bool.Decides.{nat_tests}
-use Rattle.std.proofs.lemmas.List.{append-nil, length-map}
+use Rattle.std.proofs.lemmas.List.{length-map}
 use Rattle.std.proofs.lemmas.List.Folds.{find_at}
 use Rattle.proto_text.specs.declared.lexer.Token.{Token}
 use Rattle.proto_text.specs.Tokens.{AreTokens, lexeme_at}
@@ -15,7 +15,6 @@ use Rattle.proto_text.proofs.Once.{one_token_list}
 use Rattle.proto_text.proofs.Lists.{same_from_word, word_from_same}
 use Rattle.proto_tree.specs.Tree.{Tree}
 use Rattle.proto_files.specs.GivenFiles.{FileOf, file_at}
-use Rattle.proto_meaning.specs.Joined.{joined}
 use Rattle.proto_meaning.specs.Faults.{file_of}
 use Rattle.proto_files.specs.FilesRead.{ReadOf, AreRead, read_at}
 use Rattle.proto_files.proofs.OneReading.{IsTreeOf, same_tree}
@@ -26,10 +25,6 @@ use Rattle.proto_file_rules.specs.Heads.{head_of, head_of_file, is_there, IsProt
 use Rattle.proto_file_rules.specs.Packages.{Head}
 
 -- ---- names
-
-pub joined_words : (w : List ℕ) (ws : List (List ℕ)) → joined (w ∷ ws) ≡ w ++ flat_map (λ v. 46 ∷ v) ws
-joined_words w [] = sym (append-nil w)
-joined_words w (v ∷ ws) = ap (λ (rest : List ℕ). w ++ 46 ∷ rest) (joined_words v ws)
 
 pub some_first : (xs : List ℕ) → is_some (slice_get xs 0) ≡ is_there xs
 some_first [] = refl

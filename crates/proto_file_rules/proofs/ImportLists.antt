@@ -18,12 +18,8 @@ use Rattle.proto_listing.specs.FromTree as names
 use Rattle.proto_listing.proofs.ReadTrees.{imports_are_strings}
 use Rattle.proto_imports.proofs.Turned.{take_more}
 use Rattle.proto_parts.specs.Parts.{statements}
+use Rattle.proto_parts.proofs.JoinedTrees.{statements_joined}
 use Rattle.proto_file_rules.specs.Imports.{imports_in, statement_imports}
-
-statements_joined : (t u : Tree) → statements (joined t u) ≡ statements t ++ statements u
-statements_joined End u = refl
-statements_joined (Leaf s rest) u = ap (λ ss. s ∷ ss) (statements_joined rest u)
-statements_joined (Block h i within j rest) u = statements_joined rest u
 
 pub imports_joined : (t u : Tree) → imports_in (joined t u) ≡ imports_in t ++ imports_in u
 imports_joined t u = ap (flat_map statement_imports) (statements_joined t u) ∙ flat_map-append statement_imports (statements t) (statements u)

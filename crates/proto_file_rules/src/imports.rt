@@ -278,7 +278,6 @@ fn import(item: &Item) -> Option<&Import>
 }
 
 /// The import statements of a file.
-#[tactic(auto, using(crate::proofs::ImportLists::imports_joined))]
 fn import_statements<'a>(alloc: Global, file: &'a File) -> Result<Vec<&'a Import>, NoMemory>
     ensures { IfOk result (λ imports. map (λ i. i.now) imports.items
         ≡ imports_in (tree_of_file file.now)) }

@@ -1,5 +1,5 @@
 -- Lists of numbers turned round, number by number (for the crates above).
-use Rattle.std.proofs.Common.{◌≡◌, ◌≢◌, ◌⊎◌, ◌↔◌, ℕ, zero, suc, ◌+◌, ◌<◌, List, [], ◌∷◌, ◌++◌, length, get_or, take, sym, ◌∙◌, ap, subst, inl, inr, arith, slice_set}
+use Rattle.std.proofs.Common.{◌≡◌, ◌≢◌, ◌⊎◌, ◌↔◌, ℕ, zero, suc, ◌+◌, ◌<◌, List, [], ◌∷◌, ◌++◌, length, get_or, take, refl, sym, ◌∙◌, ap, subst, inl, inr, arith, replicate, slice_set}
 use Rattle.std.specs.List.{Contains}
 use Rattle.std.proofs.lemmas.Bool.{cases_eq}
 use Rattle.std.proofs.lemmas.List.{get_or-set_same, get_or-set_other}
@@ -69,6 +69,16 @@ put_step old now new places i file l within inv e = λ place one. subst (λ n. C
 -- turned round as far as the lists before this number go
 abbrev pub TurnedBelow : List (List ℕ) → ℕ → List (List ℕ) → Type 0
 TurnedBelow next file back = (a b : ℕ) → Contains (get_or back b []) a ↔ ((a < file) × Contains (get_or next a []) b)
+
+-- what stands at a place of a list of one thing, or behind its end
+replicated_at : {X : Type 0} (x : X) (n i : ℕ) → get_or (replicate n x) i x ≡ x
+replicated_at x zero i = refl
+replicated_at x (suc n) zero = refl
+replicated_at x (suc n) (suc i) = replicated_at x n i
+
+-- empty lists, before any list is turned round
+pub turned_none : (next : List (List ℕ)) (n : ℕ) → TurnedBelow next 0 (replicate n [])
+turned_none next n = λ a b. (λ c. absurd (let none = (subst (λ xs. Contains xs a) (replicated_at [] n b) c).1 in omega (arith, none)), λ d. absurd (omega (arith, d.0)))
 
 pub turned_step : (next : List (List ℕ)) (file : ℕ) (back new : List (List ℕ)) → TurnedBelow next file back → HasPut back (get_or next file []) file new → TurnedBelow next (file + 1) new
 turned_step next file back new inv put = λ a b. (

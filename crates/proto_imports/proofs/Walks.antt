@@ -8,6 +8,19 @@ use Rattle.std.proofs.Math.Seq.{take-suc}
 use Rattle.proto_imports.specs.Walks.{Walks, stays, goes, unseen, IsMarked, Visits}
 use Rattle.proto_text.proofs.Lists.{contains_head, contains_cases}
 
+-- where none is visited, all is as it was
+pub visits_none : (seen : List Bool) (todo : List ℕ) → Visits [] seen todo seen todo
+visits_none seen todo = record {
+  sized = refl;
+  kept = λ g m. m;
+  marked = λ g c. absurd (omega (arith, c.1));
+  only = λ g m. inl m;
+  waits = λ g m. inl m;
+  stay = λ g c. c;
+  from = λ g c. inl c;
+  work = omega arith;
+}
+
 -- what is marked already is passed over
 pub visits_old : (done : List ℕ) (x : ℕ) (seen : List Bool) (todo : List ℕ) (seen' : List Bool) (todo' : List ℕ) → Visits done seen todo seen' todo' → IsMarked seen' x → Visits (done ++ x ∷ []) seen todo seen' todo'
 visits_old done x seen todo seen' todo' v h = record {

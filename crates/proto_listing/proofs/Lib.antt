@@ -2,6 +2,7 @@ mod Behind
 pub mod FromTree
 pub mod Growing
 pub mod InTokens
+pub mod JoinedWords
 mod Listed
 mod MarkedNames
 mod MarkedTokens

@@ -31,7 +31,6 @@ fn import(item: &Item) -> Option<Wanted>
 }
 
 /// The imports of a file, in order.
-#[tactic(auto, using(crate::proofs::Behind::imports_joined))]
 pub fn imports(alloc: Global, file: &File) -> Result<Vec<Wanted>, NoMemory>
     ensures { IfOk result (λ found. map wanted_of found.items
         ≡ imports_in (tree_of_file file.now)) }

@@ -39,7 +39,7 @@ use Rattle.proto_names.proofs.PlainNames.{names_are_plain}
 use Rattle.proto_members.specs.Blocks.{holders_in, may_hold}
 use Rattle.proto_members.specs.Defaults.{defaults_in, defaults_of, is_text, spelled, type_means}
 use Rattle.proto_members.specs.Members.{IsReadAs}
-use Rattle.proto_members.proofs.Turns.{listed_turn}
+use Rattle.proto_text.proofs.Turns.{listed_turn}
 
 -- ---- lists
 
@@ -57,7 +57,7 @@ pub spelled_turn : {X Y : Type 0} (text : ℕ → List ℕ) (old : List ℕ) (pa
     → next ++ spelled text old (flat_map part (map view (drop (i + 1) xs))) ≡ whole
 spelled_turn text old part view xs i x found next whole lt is new before =
     listed_turn (λ ys. spelled text old (flat_map part (map view ys))) (λ y. spelled text old (part (view y)))
-    (λ y ys. flat_map-append (λ w. if bytes_eq (text w) old then w ∷ [] else []) (part (view y)) (flat_map part (map view ys))) xs i x found next whole lt is new before
+    (λ y ys. flat_map-append (λ w. if bytes_eq (text w) old then w ∷ [] else []) (part (view y)) (flat_map part (map view ys))) xs i x x found next whole lt is new before
 
 flat_flat : {X Y Z : Type 0} (g : Y → List Z) (f : X → List Y) (xs : List X) → flat_map g (flat_map f xs) ≡ flat_map (λ x. flat_map g (f x)) xs
 flat_flat g f [] = refl

@@ -6,4 +6,3 @@ mod JsonClashes
 mod MemberTests
 mod OneScene
 mod ReservedNames
-mod Turns

@@ -1,9 +1,9 @@
 -- Lists of flaws: tokens that are marked, keys that repeat, and the least flaw (for the crates above).
-use Rattle.std.proofs.Common.{◌≡◌, ◌≢◌, ℕ, zero, suc, ◌+◌, ◌<◌, ◌≤◌, Bool, true, false, ◌||◌, ◌&&◌, ◌==◌, List, [], ◌∷◌, ◌++◌, length, get_or, take, drop, map, Option, Some, None, refl, sym, ap, subst, ◌∙◌, if◌then◌else◌, append_assoc, inl, inr, ◌⊎◌, arith}
+use Rattle.std.proofs.Common.{◌≡◌, ◌≢◌, ℕ, zero, suc, ◌+◌, ◌<◌, ◌≤◌, Bool, true, false, ◌||◌, ◌&&◌, ◌==◌, List, [], ◌∷◌, ◌++◌, length, get_or, take, drop, map, flat_map, Option, Some, None, refl, sym, ap, subst, ◌∙◌, if◌then◌else◌, append_assoc, inl, inr, ◌⊎◌, arith}
 use Rattle.std.specs.Prelude.{nat_lt, not}
 use Rattle.std.specs.List.{list_any, Contains}
 use Rattle.std.proofs.lemmas.Bool.{cases_Bool, cases_lt, eqb-true, eq-eqb, ltb-false, le-ltb}
-use Rattle.std.proofs.lemmas.List.{take_more, take_all, take-append-drop}
+use Rattle.std.proofs.lemmas.List.{flat_map_more, take_more, take_all, take-append-drop}
 use Rattle.std.proofs.lemmas.List.Elements.{Contains-append_left, Contains-append_right, Contains-append_cases}
 use Rattle.std.proofs.lemmas.List.Folds.{list_any-append}
 use Rattle.proto_faults.specs.declared.fault.FaultKind.{FaultKind}
@@ -34,6 +34,23 @@ marked_more kind (x ∷ ts) (y ∷ bs) (suc i) t b h e =
 
 pub marked_whole : (kind : FaultKind) (ts : List ℕ) (bs : List Bool) (i : ℕ) → length ts ≤ i → length ts ≡ length bs → marked kind (take i ts) (take i bs) ≡ marked kind ts bs
 marked_whole kind ts bs i h e = ap (λ (z : List ℕ). marked kind z (take i bs)) (take_all i ts h) ∙ ap (λ (z : List Bool). marked kind ts z) (take_all i bs (omega (arith, h, e)))
+
+-- the flaws of one element more, at its token where this holds of it
+pub flaws_turn : {X : Type 0} (holds : X → Bool) (kind : FaultKind) (token : X → ℕ) (xs : List X) (i : ℕ) (d : X) (start before after : List Flaw) (flag : Bool) → i < length xs
+    → before ≡ start ++ flat_map (λ x. flaw_if (holds x) kind (token x)) (take i xs) → flag ≡ holds (get_or xs i d)
+    → after ≡ before ++ flaw_if flag kind (token (get_or xs i d)) → after ≡ start ++ flat_map (λ x. flaw_if (holds x) kind (token x)) (take (i + 1) xs)
+flaws_turn {X = X} holds kind token xs i d start before after flag lt was is e =
+    let flaws : X → List Flaw = λ x. flaw_if (holds x) kind (token x) in
+    e
+    ∙ ap (λ (z : List Flaw). z ++ flaw_if flag kind (token (get_or xs i d))) was
+    ∙ ap (λ (b : Bool). (start ++ flat_map flaws (take i xs)) ++ flaw_if b kind (token (get_or xs i d))) is
+    ∙ flat_map_more flaws start (take i xs) (get_or xs i d)
+    ∙ ap (λ (z : List _). start ++ flat_map flaws z) (sym (take_more xs i d lt))
+
+-- the flaws of all elements, where a loop ends
+pub flaws_end : {X : Type 0} (holds : X → Bool) (kind : FaultKind) (token : X → ℕ) (xs : List X) (i : ℕ) (start found : List Flaw) → length xs ≤ i
+    → found ≡ start ++ flat_map (λ x. flaw_if (holds x) kind (token x)) (take i xs) → found ≡ start ++ flat_map (λ x. flaw_if (holds x) kind (token x)) xs
+flaws_end holds kind token xs i start found past are = are ∙ ap (λ (ys : List _). start ++ flat_map (λ x. flaw_if (holds x) kind (token x)) ys) (take_all i xs past)
 
 -- ---- repeated keys
 

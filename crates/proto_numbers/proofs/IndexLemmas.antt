@@ -11,19 +11,15 @@ use Rattle.std.proofs.lemmas.Bool.{cases_Bool, cases_lt, both_ways, lt-ltb, ltb-
 use Rattle.std.proofs.lemmas.Cmp.{int_cmp_total}
 use Rattle.std.proofs.lemmas.Fn.{always_returns_same}
 use Rattle.std.proofs.lemmas.Int.{ints}
-use Rattle.std.proofs.lemmas.List.{flat_map_more, take_all, take_more, take-append-le, length-take, get_or-take}
+use Rattle.std.proofs.lemmas.List.{take_all, take_more, take-append-le, length-take, get_or-take}
 use Rattle.std.proofs.Math.ListN.{get_or-append}
 use Rattle.std.proofs.Math.Seq.{get_or-append_seam}
 use Rattle.std.proofs.lemmas.List.Folds.{list_any_at, list_any_more}
 use Rattle.std.proofs.lemmas.List.Sorted.{ranks_by, sorted_far, list_any-IsPermutation, Contains-permutation, IsPermutation-sym}
 use Rattle.std.proofs.lemmas.Map.Views.{any-filter_same}
 use Rattle.proto_text.proofs.Lists.{any_agree, any_to, contains_cases}
-use Rattle.proto_faults.specs.declared.fault.FaultKind.TheVariants as kind
-use Rattle.proto_numbers.specs.declared.flaw.Flaw.{Flaw}
-use Rattle.proto_numbers.specs.declared.numbers.NumberAt.{NumberAt}
 use Rattle.proto_parts.specs.declared.ranges.RangeAt.{RangeAt}
-use Rattle.proto_numbers.specs.Flaws.{flaw_if}
-use Rattle.proto_numbers.specs.NumberFlaws.{is_inside, reserved_numbers, share}
+use Rattle.proto_numbers.specs.NumberFlaws.{is_inside, share}
 use Rattle.proto_numbers.specs.RangeIndex.{has_numbers, AreInOrder, reach, reaches, AreRaised, IsIndexOf}
 
 le_trans : (a b c : ℤ) → int_le a b ≡ true → int_le b c ≡ true → int_le a c ≡ true
@@ -201,13 +197,3 @@ alone_inside rs n x first last = any_agree (λ r. share r x) (is_inside n) rs (�
         ap (λ (z : ℤ). int_le r.first r.last && (int_le z b && (int_le r.first b && int_le z r.last))) e
         ∙ ap (λ (z : ℤ). int_le r.first r.last && (int_le n z && (int_le r.first z && int_le n r.last))) f
         ∙ one_inside r.first r.last n
-
-pub inside_turn : (rs : List RangeAt) (ns : List NumberAt) (i : ℕ) (d : NumberAt) (start before after : List Flaw) (flag : Bool) → i < length ns
-    → before ≡ start ++ reserved_numbers rs (take i ns) → flag ≡ list_any (is_inside (get_or ns i d).number) rs
-    → after ≡ before ++ flaw_if flag kind.ReservedNumber (get_or ns i d).token → after ≡ start ++ reserved_numbers rs (take (i + 1) ns)
-inside_turn rs ns i d start before after flag lt was is e =
-    e
-    ∙ ap (λ (z : List Flaw). z ++ flaw_if flag kind.ReservedNumber (get_or ns i d).token) was
-    ∙ ap (λ (b : Bool). (start ++ reserved_numbers rs (take i ns)) ++ flaw_if b kind.ReservedNumber (get_or ns i d).token) is
-    ∙ flat_map_more (λ (n : NumberAt). flaw_if (list_any (is_inside n.number) rs) kind.ReservedNumber n.token) start (take i ns) (get_or ns i d)
-    ∙ ap (λ (z : List NumberAt). start ++ reserved_numbers rs z) (sym (take_more ns i d lt))

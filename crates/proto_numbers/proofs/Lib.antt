@@ -3,4 +3,3 @@ pub mod CappedNumbers
 pub mod CappedRanges
 pub mod FlawLists
 pub mod IndexLemmas
-mod Turns

@@ -1,4 +1,5 @@
 mod Digits
+pub mod JoinedTrees
 mod Means
 mod Statements
 mod Strings

@@ -2,8 +2,9 @@
 use Rattle.std.proofs.Common.{◌≡◌, ℕ, suc, ◌+◌, ◌<◌, ◌≤◌, ◌||◌, Bool, true, false, cond, List, [], ◌∷◌, ◌++◌, length, get_or, drop, map, None, Some, refl, sym, ap, ◌∙◌, append_assoc, drop-cons, add-one, arith}
 use Rattle.std.specs.List.{find, flat_map, list_any}
 use Rattle.std.proofs.lemmas.Grind.{flat_map-append}
-use Rattle.std.proofs.lemmas.List.{append-nil, drop_all, drop_more, map-append}
+use Rattle.std.proofs.lemmas.List.{drop_more, map-append}
 use Rattle.std.proofs.lemmas.List.Folds.{list_any-append}
+use Rattle.proto_text.proofs.Turns.{all_listed, listed_turn}
 use Rattle.proto_tree.specs.declared.piece.Statement.{Statement}
 use Rattle.proto_tree.specs.declared.piece.Header.TheVariants as header
 use Rattle.proto_tree.specs.declared.tree.Item.{Item}
@@ -12,30 +13,10 @@ use Rattle.proto_tree.specs.File.{item_tree, member_tree, trees}
 use Rattle.proto_tree.specs.Tree.{Tree, End, Leaf, Block, joined}
 use Rattle.proto_parts.specs.Parts.{FieldOf, statements, fields_from, statement_fields, oneof_count}
 use Rattle.proto_parts.specs.Scenes.{is_proto3, is_proto3_statement}
-
-pub statements_joined : (t u : Tree) → statements (joined t u) ≡ statements t ++ statements u
-statements_joined End u = refl
-statements_joined (Leaf s rest) u = ap (λ ss. s ∷ ss) (statements_joined rest u)
-statements_joined (Block h i within j rest) u = statements_joined rest u
+use Rattle.proto_parts.proofs.JoinedTrees.{statements_joined}
 
 pub parts_joined : {A : Type 0} (part : Statement → List A) (t u : Tree) → flat_map part (statements (joined t u)) ≡ flat_map part (statements t) ++ flat_map part (statements u)
 parts_joined part t u = ap (flat_map part) (statements_joined t u) ∙ flat_map-append part (statements t) (statements u)
-
--- what is listed of elements, with one element more
-pub listed_turn : {X A : Type 0} (listed : List X → List A) (part : X → List A) → ((x : X) (xs : List X) → listed (x ∷ xs) ≡ part x ++ listed xs)
-    → (xs : List X) (i : ℕ) (x d : X) (found next whole : List A) → i < length xs → x ≡ get_or xs i d
-    → next ≡ found ++ part x → found ++ listed (drop i xs) ≡ whole → next ++ listed (drop (i + 1) xs) ≡ whole
-listed_turn listed part by xs i x d found next whole lt is new before =
-    let rest : List _ = drop (i + 1) xs in
-    let parted : drop i xs ≡ x ∷ rest = drop-cons xs i d lt ∙ ap (λ (y : _). y ∷ drop (suc i) xs) (sym is) ∙ ap (λ (j : ℕ). x ∷ drop j xs) (sym (add-one i)) in
-    ap (λ ps. ps ++ listed rest) new ∙ append_assoc found (part x) (listed rest)
-    ∙ ap (λ ps. found ++ ps) (sym (by x rest))
-    ∙ ap (λ (ys : List _). found ++ listed ys) (sym parted) ∙ before
-
--- and with none left
-pub all_listed : {X A : Type 0} (listed : List X → List A) → listed [] ≡ [] → (xs : List X) (i : ℕ) (found whole : List A) → length xs ≤ i → found ++ listed (drop i xs) ≡ whole → found ≡ whole
-all_listed listed none xs i found whole le before =
-    sym (append-nil found) ∙ ap (λ ys. found ++ ys) (sym none) ∙ ap (λ (ys : List _). found ++ listed ys) (sym (drop_all i xs le)) ∙ before
 
 -- the parts of one element more
 pub parts_turn : {X A : Type 0} (part : Statement → List A) (tree : X → Tree) (xs : List X) (i : ℕ) (x : X) (found next whole : List A) → i < length xs → x ≡ get_or xs i x

@@ -1,8 +1,9 @@
 -- The enums of trees that stand one behind another, and of what stands in a file.
-use Rattle.std.proofs.Common.{◌≡◌, List, [], ◌∷◌, ◌++◌, refl, sym, ap, ◌∙◌, append_assoc}
+use Rattle.std.proofs.Common.{◌≡◌, ℕ, ◌+◌, ◌<◌, List, [], ◌∷◌, ◌++◌, length, get_or, drop, refl, ap, ◌∙◌}
 use Rattle.std.specs.List.{filter}
 use Rattle.std.proofs.lemmas.List.{append-nil}
 use Rattle.std.proofs.lemmas.List.Elements.{filter-append}
+use Rattle.proto_text.proofs.Turns.{listed_turn}
 use Rattle.proto_tree.specs.declared.tree.Block.{Block as Braced}
 use Rattle.proto_tree.specs.declared.tree.EnumItem.{EnumItem}
 use Rattle.proto_tree.specs.declared.tree.EnumItem.TheVariants as enum_item
@@ -16,19 +17,20 @@ use Rattle.proto_tree.specs.declared.tree.ServiceItem.{ServiceItem}
 use Rattle.proto_tree.specs.declared.tree.ServiceItem.TheVariants as service_item
 use Rattle.proto_tree.specs.declared.tree.Signature.{Signature}
 use Rattle.proto_tree.specs.File.{enum_item_tree, enum_tree, field_tree, member_tree, message_tree, method_by, method_item_tree, oneof_tree, service_item_tree, service_tree, trees}
-use Rattle.proto_tree.specs.Tree.{Tree, End, Leaf, Block, joined}
+use Rattle.proto_tree.specs.Tree.{Tree, joined}
 use Rattle.proto_parts.specs.Parts.{BlockOf, blocks_in}
+use Rattle.proto_parts.proofs.JoinedTrees.{blocks_joined}
 use Rattle.proto_scenes.specs.Enums.{enum_block, enums_in, is_enum}
 
-blocks_joined : (t u : Tree) → blocks_in (joined t u) ≡ blocks_in t ++ blocks_in u
-blocks_joined End u = refl
-blocks_joined (Leaf s rest) u = blocks_joined rest u
-blocks_joined (Block h i within j rest) u =
-    let b : BlockOf = record { header = h; within = within } in
-    ap (λ bs. b ∷ (blocks_in within ++ bs)) (blocks_joined rest u) ∙ ap (λ bs. b ∷ bs) (sym (append_assoc (blocks_in within) (blocks_in rest) (blocks_in u)))
-
-pub enums_joined : (t u : Tree) → enums_in (joined t u) ≡ enums_in t ++ enums_in u
+enums_joined : (t u : Tree) → enums_in (joined t u) ≡ enums_in t ++ enums_in u
 enums_joined t u = ap (filter (λ b. is_enum b.header)) (blocks_joined t u) ∙ filter-append (λ b. is_enum b.header) (blocks_in t) (blocks_in u)
+
+-- the enums of one element more
+pub enums_turn : {X : Type 0} (tree : X → Tree) (xs : List X) (i : ℕ) (x : X) (found next whole : List BlockOf) → i < length xs → x ≡ get_or xs i x
+    → next ≡ found ++ enums_in (tree x) → found ++ enums_in (trees tree (drop i xs)) ≡ whole
+    → next ++ enums_in (trees tree (drop (i + 1) xs)) ≡ whole
+enums_turn tree xs i x found next whole lt is new before =
+    listed_turn (λ ys. enums_in (trees tree ys)) (λ y. enums_in (tree y)) (λ y ys. enums_joined (tree y) (trees tree ys)) xs i x x found next whole lt is new before
 
 -- trees without enums
 none_in : {A : Type 0} (view : A → Tree) → ((a : A) → enums_in (view a) ≡ []) → (items : List A) → enums_in (trees view items) ≡ []

@@ -9,7 +9,6 @@ use proto_tree::{Enum, File, Item, Member};
 use std::alloc::Global;
 
 #[cycle(enums)]
-#[tactic(auto, using(crate::proofs::EnumTrees::enums_joined))]
 fn push_members<'a>(found: &mut Vec<&'a Enum>, members: &'a [Member]) -> Result<(), NoMemory>
     ensures { OnOk result (map (λ e. enum_block e.now) found.new.items
         ≡ map (λ e. enum_block e.now) found.old.items ++ enums_in (trees member_tree members.now)) }
@@ -50,7 +49,6 @@ fn push_item<'a>(found: &mut Vec<&'a Enum>, item: &'a Item) -> Result<(), NoMemo
 }
 
 /// The enums of a file, in order.
-#[tactic(auto, using(crate::proofs::EnumTrees::enums_joined))]
 pub(crate) fn enums_of<'a>(alloc: Global, file: &'a File) -> Result<Vec<&'a Enum>, NoMemory>
     ensures { IfOk result (λ found. map (λ e. enum_block e.now) found.items
         ≡ enums_in (tree_of_file file.now)) }

@@ -1,8 +1,8 @@
 -- One declaration of a file more in the table.
-use Rattle.std.proofs.Common.{◌≡◌, ℕ, ◌+◌, ◌<◌, ◌≤◌, List, [], ◌∷◌, ◌++◌, length, get_or, take, drop, sym, ◌∙◌, ap, subst, inl, inr, arith, string_bytes, length-append, append_assoc, Result, Ok, Err, IfOk}
+use Rattle.std.proofs.Common.{◌≡◌, ℕ, ◌+◌, ◌<◌, ◌≤◌, List, [], ◌∷◌, ◌++◌, length, get_or, take, drop, refl, sym, ◌∙◌, ap, subst, inl, inr, arith, string_bytes, length-append, append_assoc, Result, Ok, Err, IfOk}
 use Rattle.std.specs.Prelude.{IsErrAnd}
 use Rattle.std.proofs.lemmas.Bool.{cases_eq}
-use Rattle.std.proofs.lemmas.List.{take_more, drop-append-le, length-take-le}
+use Rattle.std.proofs.lemmas.List.{append-nil, take_more, drop_all, drop-append-le, length-take, length-take-le}
 use Rattle.proto_meaning.specs.Grown.{at}
 use Rattle.proto_meaning.specs.Joined.{joined}
 use Rattle.proto_meaning.specs.Forest.{under, front}
@@ -49,6 +49,10 @@ rows_more t ds rows row r l new =
       ];
     }
 
+-- a table keeps what is in it
+pub kept_itself : (t : Table) → IsKept t t
+kept_itself t = record { size = omega arith; names = λ k l. refl; symbols = λ k r l. refl }
+
 pub kept_both : (a b c : Table) → IsKept a b → IsKept b c → IsKept a c
 kept_both a b c p q =
     let m = p.size in
@@ -58,6 +62,12 @@ kept_both a b c p q =
       names = λ k l. q.names k (omega (arith, l, m)) ∙ p.names k l;
       symbols = λ k r l. q.symbols k r (omega (arith, l, m)) ∙ p.symbols k r l;
     }
+
+-- none of the file's declarations from a place on, up to that place
+pub segment_none : (ds own : List Named) (start k : ℕ) → k ≡ start → ds ++ drop start (take k own) ≡ ds
+segment_none ds own start k e =
+    let n = length-take k own in
+    ap (λ z. ds ++ z) (drop_all start (take k own) (omega (arith, n, e))) ∙ append-nil ds
 
 -- the file's declarations from a place on, and one more
 segment_more : (ds own : List Named) (start k : ℕ) (d : Named) → start ≤ k → k < length own → ds ++ drop start (take (k + 1) own) ≡ (ds ++ drop start (take k own)) ++ get_or own k d ∷ []

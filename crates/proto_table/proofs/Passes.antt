@@ -126,6 +126,10 @@ packages_next fs i c start l ok f z =
     ∙ sym (filter-append (λ d. is_package d.kind) (all_named 0 (take i fs)) (named_in i (get_or fs i [])))
     ∙ ap packages_in (sym (all_next fs i l))
 
+-- no rows of no files
+pub no_package_rows : (t : Table) → ArePackageRows t [] []
+no_package_rows t = record { paired = refl; counts = λ i l. absurd (omega (arith, l)); each = λ i l. absurd (omega (arith, l)) }
+
 pub package_rows_more : (old new : Table) (fs : List (List Spelled)) (rows : List (List ℕ)) (i : ℕ) (own : List ℕ) → i < length fs → IsKept old new → ArePackageRows old (take i fs) rows → AreInFront (length own) (get_or fs i []) → AreRowsOf new (named_in i (get_or fs i [])) own
     → ArePackageRows new (take (i + 1) fs) (rows ++ own ∷ [])
 package_rows_more old new fs rows i own l kept r front rows_own =
@@ -174,6 +178,10 @@ pub record AreRowsTo (t : Table) (fs : List (List Spelled)) (rows : List (List �
   pub counts : (j : ℕ) → j < i → j < length fs → length (get_or rows j []) ≡ length (get_or fs j [])
   pub fronts : (j : ℕ) → i ≤ j → j < length fs → AreInFront (length (get_or rows j [])) (get_or fs j [])
   pub each : (j : ℕ) → j < length fs → AreRowsOf t (named_in j (get_or fs j [])) (get_or rows j [])
+
+-- before the first file
+pub rows_first : (t : Table) (fs : List (List Spelled)) (rows : List (List ℕ)) → ArePackageRows t fs rows → AreRowsTo t fs rows 0
+rows_first t fs rows r = record { paired = r.paired; counts = λ j l. absurd (omega (arith, l)); fronts = λ j le. r.counts j; each = r.each }
 
 pub rows_last : (t : Table) (fs : List (List Spelled)) (rows : List (List ℕ)) (i : ℕ) → length fs ≤ i → AreRowsTo t fs rows i → AreRows t fs rows
 rows_last t fs rows i e r = record {

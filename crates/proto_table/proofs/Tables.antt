@@ -27,6 +27,17 @@ get_set_other (x ∷ xs) zero (suc q) y ne = refl
 get_set_other (x ∷ xs) (suc i) zero y ne = refl
 get_set_other (x ∷ xs) (suc i) (suc q) y ne = get_set_other xs i q y (λ e. ne (ap suc e))
 
+-- the last place of a list with an element more
+pub get_push_last : {X : Type 0} (xs : List X) (y : X) → slice_get (xs ++ y ∷ []) (length xs) ≡ Some y
+get_push_last [] y = refl
+get_push_last (x ∷ xs) y = get_push_last xs y
+
+-- the places before it
+pub get_push_other : {X : Type 0} (xs : List X) (q : ℕ) (y : X) → q < length xs → slice_get (xs ++ y ∷ []) q ≡ slice_get xs q
+get_push_other [] q y l = absurd (omega (arith, l))
+get_push_other (x ∷ xs) zero y l = refl
+get_push_other (x ∷ xs) (suc q) y l = get_push_other xs q y (omega (arith, l))
+
 -- a place that is set to what is seen alike
 pub map_set_same : {X Y : Type 0} (f : X → Y) (xs : List X) (i : ℕ) (x y : X) → slice_get xs i ≡ Some x → f y ≡ f x → map f (slice_set xs i y) ≡ map f xs
 map_set_same f [] i x y at same = refl

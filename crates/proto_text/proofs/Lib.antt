@@ -16,6 +16,7 @@ mod Segments
 pub mod Sequence
 pub mod Spans
 pub mod Texts
+pub mod Turns
 mod Units
 pub mod Values
 pub mod WordChange

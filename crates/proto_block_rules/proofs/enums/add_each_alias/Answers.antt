@@ -8,7 +8,8 @@ use Rattle.proto_findings.specs.Placed.{Found, Named, found_at}
 use Rattle.proto_findings.specs.Readings.{reading_of}
 use Rattle.proto_findings.specs.Views.{found_of}
 use Rattle.proto_block_rules.specs.NameRules.{allowed_alias}
-use Rattle.proto_block_rules.proofs.Turns.{placed_of_statements, turn, turned}
+use Rattle.proto_text.proofs.Turns.{all_listed, listed_turn}
+use Rattle.proto_block_rules.proofs.JoinedTrees.{placed_of_statements}
 use Rattle.proto_block_rules.proofs.enums.add_each_alias.Goals as goal
 
 abbrev told : (Named → Found) → (Statement → List Named) → List EnumItem → List Found
@@ -19,7 +20,7 @@ loop-item-preserved c =
     let place = found_at (reading_of c.args.reading.now) rule.EnumNoAllowAlias in
     let part : Statement → List Named = allowed_alias (reading_of c.args.reading.now) c.args.full_name.now in
     let items = c.args.items.now in
-    turn (told place part) (λ x. map place (flat_map part (statements (enum_item_tree x)))) (placed_of_statements enum_item_tree place part) items c.loop-item.item-index c.item-item.result
+    listed_turn (told place part) (λ x. map place (flat_map part (statements (enum_item_tree x)))) (placed_of_statements enum_item_tree place part) items c.loop-item.item-index c.item-item.result _
     (map found_of c.loop-item.found.items) (map found_of c.add_alias.new.found.items) (map found_of c.args.found.now.items ++ told place part items)
     c.loop-item-test.true c.item-item.is c.in_ok-add_alias.ensures c.loop-item.invariant
 
@@ -28,4 +29,4 @@ returns c =
     let place = found_at (reading_of c.args.reading.now) rule.EnumNoAllowAlias in
     let part : Statement → List Named = allowed_alias (reading_of c.args.reading.now) c.args.full_name.now in
     let items = c.args.items.now in
-    turned (told place part) refl items c.loop-item.item-index (map found_of c.loop-item.found.items) (map found_of c.args.found.now.items ++ told place part items) c.loop-item-test.false c.loop-item.invariant
+    all_listed (told place part) refl items c.loop-item.item-index (map found_of c.loop-item.found.items) (map found_of c.args.found.now.items ++ told place part items) c.loop-item-test.false c.loop-item.invariant

@@ -8,7 +8,7 @@ use Rattle.proto_findings.specs.declared.rule.Rule.TheVariants as rule
 use Rattle.proto_findings.specs.Placed.{Found, Named, below, found_at, unless, unless_word}
 use Rattle.proto_findings.specs.Readings.{reading_of, text}
 use Rattle.proto_findings.specs.Views.{found_of}
-use Rattle.proto_block_rules.proofs.Turns.{turn, turned}
+use Rattle.proto_text.proofs.Turns.{all_listed, listed_turn}
 use Rattle.proto_block_rules.proofs.messages.add_each_field.Goals as goal
 
 abbrev told : (Named → Found) → (FieldOf → List Named) → List FieldAt → List Found
@@ -23,7 +23,7 @@ loop-field-preserved c =
     let name = c.field-item.result.name in
     let tells : Bool → List Found = λ passes. map place (unless passes name (below c.args.message.now (text r name))) in
     let added = c.in_ok-add_below_unless.ensures.added ∙ ap (λ (passes : Bool). map found_of c.loop-field.found.items ++ tells passes) (c.is_lower_snake-passes.ensures ∙ ap is_lower_snake c.text.ensures) in
-    turn (told place part) (λ f. map place (part (field_of f))) (λ f fs. map-append place (part (field_of f)) (flat_map part (map field_of fs))) fields c.loop-field.field-index c.field-item.result
+    listed_turn (told place part) (λ f. map place (part (field_of f))) (λ f fs. map-append place (part (field_of f)) (flat_map part (map field_of fs))) fields c.loop-field.field-index c.field-item.result _
     (map found_of c.loop-field.found.items) (map found_of c.add_below_unless.new.found.items) (map found_of c.args.found.now.items ++ told place part fields)
     c.loop-field-test.true c.field-item.is added c.loop-field.invariant
 
@@ -33,4 +33,4 @@ returns c =
     let place = found_at r rule.FieldLowerSnakeCase in
     let part : FieldOf → List Named = λ f. unless_word r is_lower_snake c.args.message.now f.name in
     let fields = c.args.fields.now in
-    turned (told place part) refl fields c.loop-field.field-index (map found_of c.loop-field.found.items) (map found_of c.args.found.now.items ++ told place part fields) c.loop-field-test.false c.loop-field.invariant
+    all_listed (told place part) refl fields c.loop-field.field-index (map found_of c.loop-field.found.items) (map found_of c.args.found.now.items ++ told place part fields) c.loop-field-test.false c.loop-field.invariant

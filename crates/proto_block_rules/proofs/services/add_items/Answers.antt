@@ -6,7 +6,8 @@ use Rattle.proto_findings.specs.Placed.{Found}
 use Rattle.proto_findings.specs.Readings.{reading_of}
 use Rattle.proto_findings.specs.Views.{found_of}
 use Rattle.proto_block_rules.specs.Methods.{method_finds, signatures_in}
-use Rattle.proto_block_rules.proofs.Turns.{of_signatures, turn, turned}
+use Rattle.proto_text.proofs.Turns.{all_listed, listed_turn}
+use Rattle.proto_block_rules.proofs.JoinedTrees.{of_signatures}
 use Rattle.proto_block_rules.proofs.services.add_items.Goals as goal
 
 abbrev told : (Signature → List Found) → List ServiceItem → List Found
@@ -17,7 +18,7 @@ loop-item-preserved c =
     let service = c.args.service.now in
     let items = c.args.items.now in
     let part : Signature → List Found = method_finds c.args.rules.now.chosen (reading_of c.args.reading.now) c.args.messages.now service.full.now service.token in
-    turn (told part) (λ x. flat_map part (signatures_in (service_item_tree x))) (of_signatures service_item_tree part) items c.loop-item.item-index c.item-item.result
+    listed_turn (told part) (λ x. flat_map part (signatures_in (service_item_tree x))) (of_signatures service_item_tree part) items c.loop-item.item-index c.item-item.result _
     (map found_of c.loop-item.found.items) (map found_of c.add_item.new.found.items) (map found_of c.args.found.now.items ++ told part items)
     c.loop-item-test.true c.item-item.is c.in_ok-add_item.ensures c.loop-item.invariant
 
@@ -26,4 +27,4 @@ returns c =
     let service = c.args.service.now in
     let items = c.args.items.now in
     let part : Signature → List Found = method_finds c.args.rules.now.chosen (reading_of c.args.reading.now) c.args.messages.now service.full.now service.token in
-    turned (told part) refl items c.loop-item.item-index (map found_of c.loop-item.found.items) (map found_of c.args.found.now.items ++ told part items) c.loop-item-test.false c.loop-item.invariant
+    all_listed (told part) refl items c.loop-item.item-index (map found_of c.loop-item.found.items) (map found_of c.args.found.now.items ++ told part items) c.loop-item-test.false c.loop-item.invariant

@@ -4,7 +4,8 @@ use Rattle.proto_tree.specs.declared.tree.Signature.{Signature}
 use Rattle.proto_tree.specs.File.{service_item_tree, trees}
 use Rattle.proto_findings.specs.Readings.{Reading, reading_of}
 use Rattle.proto_block_rules.specs.Methods.{messages_of, signatures_in, type_meant}
-use Rattle.proto_block_rules.proofs.Turns.{of_signatures, turn, turned}
+use Rattle.proto_text.proofs.Turns.{all_listed, listed_turn}
+use Rattle.proto_block_rules.proofs.JoinedTrees.{of_signatures}
 use Rattle.proto_block_rules.proofs.shared.add_messages.Goals as goal
 
 abbrev seen : List (Bor (List ℕ)) → List (List ℕ)
@@ -18,7 +19,7 @@ loop-item-preserved c =
     let r = reading_of c.args.reading.now in
     let items = c.deref-item-items.result.now in
     let part : Signature → List (List ℕ) = λ s. type_meant r s.input ∷ type_meant r s.output ∷ [] in
-    turn (told r) (λ x. messages_of r (signatures_in (service_item_tree x))) (of_signatures service_item_tree part) items c.loop-item.item-index c.item-item.result
+    listed_turn (told r) (λ x. messages_of r (signatures_in (service_item_tree x))) (of_signatures service_item_tree part) items c.loop-item.item-index c.item-item.result _
     (seen c.loop-item.all.items) (seen c.add_of_item.new.all.items) (seen c.args.all.now.items ++ told r items) c.loop-item-test.true c.item-item.is c.in_ok-add_of_item.ensures c.loop-item.invariant
 
 pub returns : goal.returns
@@ -26,5 +27,5 @@ returns c =
     let r = reading_of c.args.reading.now in
     let items = c.deref-item-items.result.now in
     let old = seen c.args.all.now.items in
-    turned (told r) refl items c.loop-item.item-index (seen c.loop-item.all.items) (old ++ told r items) c.loop-item-test.false c.loop-item.invariant
+    all_listed (told r) refl items c.loop-item.item-index (seen c.loop-item.all.items) (old ++ told r items) c.loop-item-test.false c.loop-item.invariant
     ∙ ap (λ (is : List ServiceItem). old ++ told r is) c.deref-item-items.ensures.value

@@ -8,7 +8,7 @@ use Rattle.proto_findings.specs.Views.{found_of}
 use Rattle.proto_block_rules.specs.declared.walk.Walk.{Walk}
 use Rattle.proto_block_rules.specs.Walks.{walk_finds}
 use Rattle.proto_block_rules.proofs.BlockTrees.{finds_of_enum, finds_of_items, finds_of_oneof}
-use Rattle.proto_block_rules.proofs.Turns.{turn, turned}
+use Rattle.proto_text.proofs.Turns.{all_listed, listed_turn}
 use Rattle.proto_block_rules.proofs.walk.+members.Goals as goal
 
 abbrev told : Walk → List ℕ → List Member → List Found
@@ -19,7 +19,7 @@ add_members-loop-member-preserved t c =
     let walk = c.args.walk.now in
     let scope = c.args.scope.now in
     let members = c.args.members.now in
-    turn (told walk scope) (λ m. walk_finds walk scope (member_tree m)) (finds_of_items walk member_tree scope) members c.loop-member.member-index c.member-item.result
+    listed_turn (told walk scope) (λ m. walk_finds walk scope (member_tree m)) (finds_of_items walk member_tree scope) members c.loop-member.member-index c.member-item.result _
     (map found_of c.loop-member.found.items) (map found_of c.add_member.new.found.items) (map found_of c.args.found.now.items ++ told walk scope members)
     c.loop-member-test.true c.member-item.is c.in_ok-add_member.ensures c.loop-member.invariant
 
@@ -27,7 +27,7 @@ pub add_members-returns : goal.add_members-returns
 add_members-returns t c =
     let walk = c.args.walk.now in
     let scope = c.args.scope.now in
-    turned (told walk scope) refl c.args.members.now c.loop-member.member-index (map found_of c.loop-member.found.items) (map found_of c.args.found.now.items ++ told walk scope c.args.members.now) c.loop-member-test.false c.loop-member.invariant
+    all_listed (told walk scope) refl c.args.members.now c.loop-member.member-index (map found_of c.loop-member.found.items) (map found_of c.args.found.now.items ++ told walk scope c.args.members.now) c.loop-member-test.false c.loop-member.invariant
 
 pub add_message_block-add_members-requires : goal.add_message_block-add_members-requires
 add_message_block-add_members-requires t c = (rw c.deref-2.ensures.value (omega arith), tt)

@@ -6,7 +6,7 @@ use Rattle.proto_findings.specs.Views.{found_of}
 use Rattle.proto_block_rules.specs.declared.walk.Walk.{Walk}
 use Rattle.proto_block_rules.specs.Walks.{walk_finds}
 use Rattle.proto_block_rules.proofs.BlockTrees.{finds_of_items}
-use Rattle.proto_block_rules.proofs.Turns.{turn, turned}
+use Rattle.proto_text.proofs.Turns.{all_listed, listed_turn}
 use Rattle.proto_block_rules.proofs.walk.add_blocks.Goals as goal
 
 abbrev told : Walk → List ℕ → List Item → List Found
@@ -17,7 +17,7 @@ loop-item-preserved c =
     let walk = c.args.walk.now in
     let scope = c.args.scope.now in
     let items = c.deref-item-items.result.now in
-    turn (told walk scope) (λ x. walk_finds walk scope (item_tree x)) (finds_of_items walk item_tree scope) items c.loop-item.item-index c.item-item.result
+    listed_turn (told walk scope) (λ x. walk_finds walk scope (item_tree x)) (finds_of_items walk item_tree scope) items c.loop-item.item-index c.item-item.result _
     (map found_of c.loop-item.found.items) (map found_of c.add_item.new.found.items) (map found_of c.args.found.now.items ++ told walk scope items)
     c.loop-item-test.true c.item-item.is c.in_ok-add_item.ensures c.loop-item.invariant
 
@@ -27,6 +27,6 @@ returns c =
     let walk = c.args.walk.now in
     let scope = c.args.scope.now in
     let items = c.deref-item-items.result.now in
-    turned (told walk scope) refl items c.loop-item.item-index (map found_of c.loop-item.found.items) (found ++ told walk scope items) c.loop-item-test.false c.loop-item.invariant
+    all_listed (told walk scope) refl items c.loop-item.item-index (map found_of c.loop-item.found.items) (found ++ told walk scope items) c.loop-item-test.false c.loop-item.invariant
     ∙ ap (λ (is : List Item). found ++ told walk scope is) c.deref-item-items.ensures.value
     ∙ ap (λ (s : List ℕ). found ++ walk_finds walk s (tree_of_file c.args.file.now)) c.requires

@@ -5,4 +5,4 @@ use Rattle.proto_parts.specs.Scenes.{text}
 use Rattle.proto_desc.proofs.head.joined_words.Given as goal
 
 abbrev pub invariant-loop-word : goal.invariant-loop-word
-invariant-loop-word l = string_bytes l.name ++ flat_map (λ t. 46 ∷ text l.scene t) (drop l.word-index l.rest) ≡ joined (map (text l.scene) (l.fn.first ∷ l.rest))
+invariant-loop-word l = string_bytes l.name ++ flat_map (λ w. 46 ∷ w) (map (text l.scene) (drop l.word-index l.rest)) ≡ joined (map (text l.scene) (l.fn.first ∷ l.rest))

@@ -1,8 +1,15 @@
-use Rattle.std.proofs.Common.{List, ℕ, length, map, ◌∙◌, ap, subst, arith, take_all, IfOk}
-use Rattle.std.proofs.lemmas.List.{length-map}
+use Rattle.std.proofs.Common.{List, ℕ, [], ◌∷◌, ◌++◌, length, map, ◌∙◌, ap, subst, arith, take_all, IfOk}
+use Rattle.std.proofs.lemmas.List.{length-map, map-append}
 use Rattle.proto_imports.specs.ImportSteps.{IsFileIndex}
 use Rattle.proto_file_rules.specs.Packages.{directory}
+use Rattle.proto_text.proofs.Turns.{pushed_more}
 use Rattle.proto_file_rules.proofs.heads.first_of_directories.Goals as goal
+
+pub loop-head-preserved : goal.loop-head-preserved
+loop-head-preserved c =
+    pushed_more directory [] c.args.heads.now c.loop-head.head-index c.head-item.result _ (map (λ t. t.now) c.loop-head.directories.items) (map (λ t. t.now) c.push.new.self.items) c.loop-head-test.true c.head-item.is
+    (ap (map (λ t. t.now)) c.in_ok-push.ensures.items ∙ map-append (λ t. t.now) c.loop-head.directories.items (_ ∷ []) ∙ ap (λ (text : List ℕ). map (λ t. t.now) c.loop-head.directories.items ++ text ∷ []) c.directory.ensures)
+    c.loop-head.invariant
 
 pub first_places-requires : goal.first_places-requires
 first_places-requires c =

@@ -1,4 +1,5 @@
-use Rattle.std.proofs.Common.{◌++◌, None, Bor, List, map, sym, ◌∙◌, ap}
+use Rattle.std.proofs.Common.{◌++◌, None, Bor, List, map, sym, ◌∙◌, ap, take_all}
+use Rattle.std.specs.List.{flat_map}
 use Rattle.proto_tree.specs.declared.tree.Import.{Import}
 use Rattle.proto_files.specs.GivenFiles.{paths_of}
 use Rattle.proto_files.specs.FilesRead.{ReadOf}
@@ -22,3 +23,9 @@ loop-import-preserved c = λ (reads : List ReadOf) are.
 
 pub add_import-requires-clause-string : goal.add_import-requires-clause-string
 add_import-requires-clause-string c = c.requires.strings c.loop-import.import-index no_import c.loop-import-test.true
+
+pub returns : goal.returns
+returns c = λ (reads : List ReadOf) are.
+    (let finds = import_finds c.args.rules.now.chosen (names_of_files c.args.files.now reads) (paths_of c.args.files.now) (reading_of c.args.reading.now) c.args.reading.now.file in
+    c.loop-import.invariant reads are
+    ∙ ap (λ (is : List (Bor Import)). map found_of c.args.found.now.items ++ flat_map finds (map (λ i. i.now) is)) (take_all c.loop-import.import-index c.args.statements.now c.loop-import-test.false))

@@ -1,4 +1,4 @@
-use Rattle.std.proofs.Common.{◌&&◌, true, false, get_or, refl, sym, ◌∙◌, subst, inl, inr, arith}
+use Rattle.std.proofs.Common.{◌&&◌, false, get_or, refl, sym, ◌∙◌, subst, inl, inr, arith}
 use Rattle.std.proofs.lemmas.Bool.{and_from, and_parts, both_ways, cases_eq, true≢false}
 use Rattle.proto_imports.specs.Walks.{IsMarked}
 use Rattle.proto_imports.proofs.Walks.{marked_within}

@@ -1,10 +1,13 @@
-use Rattle.std.proofs.Common.{◌≡◌, length, map, option_map, sym, subst}
+use Rattle.std.proofs.Common.{◌≡◌, length, map, option_map, sym, ◌∙◌, ap, subst}
 use Rattle.proto_meaning.specs.Faults.{ImportFault, imports_of}
 use Rattle.proto_imports.specs.Importing.{all_asked, all_imports, fault_of}
 use Rattle.proto_imports.specs.ImportSteps.{IsFirst}
 use Rattle.proto_imports.proofs.ImportFaults.{first_is}
 use Rattle.proto_imports.proofs.ImportGraph.{resolved_within}
 use Rattle.proto_imports.proofs.import.imports_by_index.Goals as goal
+
+pub first_on_cycle-requires-clause-paired : goal.first_on_cycle-requires-clause-paired
+first_on_cycle-requires-clause-paired c = ap length c.deref.ensures.value ∙ c.in_ok-imports.ensures.len
 
 pub first_on_cycle-requires-clause-within : goal.first_on_cycle-requires-clause-within
 first_on_cycle-requires-clause-within c =

@@ -1,7 +1,8 @@
 use Rattle.std.proofs.Common.{◌≡◌, map, string_bytes, sym, ◌∙◌, ap, refl}
+use Rattle.std.proofs.lemmas.List.{take_all}
 use Rattle.indexmap.specs.IndexMap.{get_by_text}
-use Rattle.proto_meaning.specs.Faults.{file_of}
-use Rattle.proto_imports.specs.Importing.{import_from}
+use Rattle.proto_meaning.specs.Faults.{file_of, imports_of}
+use Rattle.proto_imports.specs.Importing.{asked_by, import_from}
 use Rattle.proto_imports.specs.declared.import.FileImport.{FileImport}
 use Rattle.proto_imports.proofs.Resolving.{resolve_some, resolve_none}
 use Rattle.proto_imports.proofs.import_paths.resolved_in.Goals as goal
@@ -19,3 +20,6 @@ loop-import-preserved c = λ paths index file.
           ap (λ v. map (import_from file) v.items) w.imports-is
           ∙ resolve_none paths file c.args.written.now c.loop-import.import-index c.import-item.result c.loop-import.imports.items c.loop-import-test.true c.import-item.is (c.loop-import.invariant paths index file) (asked ∙ w.in_default.is)
     ])
+
+pub returns : goal.returns
+returns c = λ paths index file. c.loop-import.invariant paths index file ∙ ap (λ ws. imports_of paths (map (asked_by file) ws)) (take_all c.loop-import.import-index c.args.written.now c.loop-import-test.false)

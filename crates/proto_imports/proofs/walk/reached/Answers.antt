@@ -1,4 +1,4 @@
-use Rattle.std.proofs.Common.{◌≡◌, ◌<◌, [], length, get_or, map, true, false, sym, ◌∙◌, ap, subst, arith, slice_set}
+use Rattle.std.proofs.Common.{◌≡◌, ◌<◌, [], ◌∷◌, ◌++◌, length, get_or, map, true, false, sym, ◌∙◌, ap, subst, arith, length-append, slice_set}
 use Rattle.std.proofs.lemmas.List.{get_or-map, length-map, length-replicate}
 use Rattle.proto_imports.specs.Walks.{Visits}
 use Rattle.proto_imports.proofs.Walks.{IsPart, part_first, part_more, part_whole, unmarked_none, marked_within, no_elements, last_in}
@@ -47,3 +47,11 @@ returns-clause-exact c = λ g. (
   part_whole (map (λ v. v.items) c.args.next.now) c.args.start c.loop-file.seen.items
       (subst (IsPart (map (λ v. v.items) c.args.next.now) c.args.start c.loop-file.seen.items) (no_elements c.loop-file.todo.items (sym c.loop-file.todo.ok.0 ∙ c.in_default.ensures.cases.0)) c.loop-file.invariant) g,
 )
+
+pub loop-file-smaller : goal.loop-file-smaller
+loop-file-smaller c =
+    let popped : c.loop-file.todo.items ≡ c.pop.new.self.items ++ c.in-Some.file ∷ [] = c.in-Some.ensures.items in
+    omega (arith, c.in_ok-visit.ensures.work, ap length popped, length-append c.pop.new.self.items (c.in-Some.file ∷ []))
+
+pub returns-clause-len : goal.returns-clause-len
+returns-clause-len c = c.loop-file.invariant.sized ∙ length-map c.args.next.now (λ v. v.items)

@@ -7,7 +7,7 @@ use Rattle.proto_parts.specs.Views.{option_of}
 use Rattle.proto_checks_laws.specs.Renamed.{constant_tokens}
 use Rattle.proto_members.specs.Defaults.{spelled}
 use Rattle.proto_members.proofs.DefaultTexts.{spelled_turn}
-use Rattle.proto_members.proofs.Turns.{all_listed}
+use Rattle.proto_text.proofs.Turns.{all_listed}
 use Rattle.proto_members.proofs.defaults.push_defaults.Goals as goal
 
 pub loop-option-preserved : goal.loop-option-preserved

@@ -1,7 +1,8 @@
 use Rattle.std.proofs.Common.{[], ◌∷◌, ◌++◌, map, refl, ap, ◌∙◌, arith}
 use Rattle.proto_parts.specs.Parts.{option_of_setting}
 use Rattle.proto_parts.specs.Views.{option_of}
-use Rattle.proto_parts.proofs.Statements.{all_listed, listed_turn, pushed}
+use Rattle.proto_text.proofs.Turns.{all_listed, listed_turn}
+use Rattle.proto_parts.proofs.Statements.{pushed}
 use Rattle.proto_parts.proofs.fields.push_settings.Goals as goal
 
 pub loop-behind-preserved : goal.loop-behind-preserved

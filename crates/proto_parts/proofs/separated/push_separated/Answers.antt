@@ -1,5 +1,6 @@
 use Rattle.std.proofs.Common.{[], ◌∷◌, map, refl, ap, arith}
-use Rattle.proto_parts.proofs.Statements.{all_listed, listed_turn, pushed, pushed_before}
+use Rattle.proto_text.proofs.Turns.{all_listed, listed_turn}
+use Rattle.proto_parts.proofs.Statements.{pushed, pushed_before}
 use Rattle.proto_parts.proofs.separated.push_separated.Goals as goal
 
 pub loop-behind-preserved : goal.loop-behind-preserved

@@ -1,5 +1,5 @@
 use Rattle.std.proofs.Common.{refl}
-use Rattle.proto_rewording.proofs.Turns.{all_marked, marks_turn}
+use Rattle.proto_rewording.proofs.MarkTurns.{all_marked, marks_turn}
 use Rattle.proto_rewording.proofs.changing.marks_of.Goals as goal
 
 pub loop-place-preserved : goal.loop-place-preserved

@@ -1,10 +1,10 @@
 use Rattle.std.proofs.Common.{◌≡◌, ◌<◌, [], ◌++◌, length, get_or, map, take, drop, sym, ◌∙◌, ap, subst, arith, slice_set}
-use Rattle.std.proofs.lemmas.List.{length-map, map-set, set-set}
+use Rattle.std.proofs.lemmas.List.{append-nil, length-map, map-set, set-set, take_all}
 use Rattle.std.proofs.lemmas.Result.{err_from_is_err_and}
 use Rattle.proto_table.specs.Spelled.{all_named, named_in, AreSpelled}
 use Rattle.proto_table.specs.Filling.{AreInFront, AreRowsOf, Holds, StopsIn, others_in, packages_in}
 use Rattle.proto_table.proofs.Filled.{not_ok}
-use Rattle.proto_table.proofs.Passes.{item_at, others_next, rows_file, rows_last, spelled_at, stops_least, within_map}
+use Rattle.proto_table.proofs.Passes.{item_at, others_next, rows_file, rows_first, rows_last, spelled_at, stops_least, within_map}
 use Rattle.proto_table.proofs.filling.declare_others.Goals as goal
 
 pub fill-requires-clause-spelled : goal.fill-requires-clause-spelled
@@ -99,3 +99,36 @@ fill-requires-clause-table c = c.loop-file.invariant.table
 
 pub returns-clause-table : goal.returns-clause-table
 returns-clause-table c = c.loop-file.invariant.table
+
+pub loop-file-init : goal.loop-file-init
+loop-file-init c = record {
+  table = c.requires.table;
+  held = subst (Holds c.args.table) (sym (append-nil (packages_in (all_named 0 (map (λ v. v.items) c.args.files.now))))) c.requires.held;
+  rows = rows_first c.args.table (map (λ v. v.items) c.args.files.now) (map (λ v. v.items) c.args.packages.items) c.requires.rows;
+}
+
+pub fill-requires-clause-end : goal.fill-requires-clause-end
+fill-requires-clause-end c =
+    let len = c.len.ensures ∙ c.index-files-file.result.ok.0 in
+    let same = ap length c.deref.ensures.value in
+    omega (arith, len, same)
+
+pub returns-clause-held : goal.returns-clause-held
+returns-clause-held c =
+    let n = length-map c.args.files.now (λ v. v.items) in
+    let t = c.loop-file-test.false in
+    subst (λ fs. Holds c.loop-file.names (packages_in (all_named 0 (map (λ v. v.items) c.args.files.now)) ++ others_in (all_named 0 fs))) (take_all c.loop-file.file (map (λ v. v.items) c.args.files.now) (omega (arith, t, n))) c.loop-file.invariant.held
+
+pub index_mut-slot-requires : goal.index_mut-slot-requires
+index_mut-slot-requires c =
+    let m = length-map c.loop-file.rows.items (λ v. v.items) in
+    let p = c.loop-file.invariant.rows.paired in
+    let l = within_map (λ v. v.items) c.args.files.now c.loop-file.file c.loop-file-test.true in
+    omega (arith, l, m, p, c.loop-file.rows.ok.0)
+
+pub index_mut-requires : goal.index_mut-requires
+index_mut-requires c =
+    let m = length-map c.loop-file.rows.items (λ v. v.items) in
+    let p = c.loop-file.invariant.rows.paired in
+    let l = within_map (λ v. v.items) c.args.files.now c.loop-file.file c.loop-file-test.true in
+    omega (arith, l, m, p, c.loop-file.rows.ok.0)

@@ -1,10 +1,10 @@
-use Rattle.std.proofs.Common.{[], ◌∷◌, ◌++◌, ◌+◌, length, get_or, map, take, drop, sym, ◌∙◌, ap, subst, arith}
-use Rattle.std.proofs.lemmas.List.{map-append}
+use Rattle.std.proofs.Common.{[], ◌∷◌, ◌++◌, ◌+◌, length, get_or, map, take, drop, refl, sym, ◌∙◌, ap, subst, arith}
+use Rattle.std.proofs.lemmas.List.{length-map, map-append, take_all}
 use Rattle.std.proofs.lemmas.Result.{err_from_is_err_and}
 use Rattle.proto_table.specs.Spelled.{all_named, named_in, AreSpelled}
 use Rattle.proto_table.specs.Filling.{AreInFront, ArePackageRows, AreRowsOf, Holds, packages_in}
 use Rattle.proto_table.proofs.Filled.{no_rows, not_ok}
-use Rattle.proto_table.proofs.Passes.{item_at, package_rows_more, packages_next, packages_pass, spelled_at, within_map}
+use Rattle.proto_table.proofs.Passes.{item_at, no_package_rows, package_rows_more, packages_next, packages_pass, spelled_at, within_map}
 use Rattle.proto_table.proofs.filling.declare_packages.Goals as goal
 
 pub package_count-requires : goal.package_count-requires
@@ -79,3 +79,27 @@ fill-requires-clause-start c = omega (arith, ap length c.new-own.ensures.items)
 
 pub fill-requires-clause-rows : goal.fill-requires-clause-rows
 fill-requires-clause-rows c = no_rows c.loop-file.names (named_in c.loop-file.file c.deref.result.now) c.new-own.result.items c.new-own.ensures.items
+
+pub returns-in_err-push-clause-fault : goal.returns-in_err-push-clause-fault
+returns-in_err-push-clause-fault c =
+    let p = err_from_is_err_and c.from_residual-in_err-push.result c.from_residual-in_err-push.ensures.1 in
+    rw (p.1, p.2) refl
+
+pub loop-file-init : goal.loop-file-init
+loop-file-init c = record {
+  table = c.requires.table;
+  held = c.requires.empty;
+  rows = subst (λ z. ArePackageRows c.args.table [] (map (λ v. v.items) z)) (sym c.new-rows.ensures.items) (no_package_rows c.args.table);
+}
+
+pub returns-clause-held : goal.returns-clause-held
+returns-clause-held c =
+    let n = length-map c.args.files.now (λ v. v.items) in
+    let t = c.loop-file-test.false in
+    subst (λ fs. Holds c.loop-file.names (packages_in (all_named 0 fs))) (take_all c.loop-file.file (map (λ v. v.items) c.args.files.now) (omega (arith, t, n))) c.loop-file.invariant.held
+
+pub returns-clause-rows : goal.returns-clause-rows
+returns-clause-rows c =
+    let n = length-map c.args.files.now (λ v. v.items) in
+    let t = c.loop-file-test.false in
+    subst (λ fs. ArePackageRows c.loop-file.names fs (map (λ v. v.items) c.loop-file.rows.items)) (take_all c.loop-file.file (map (λ v. v.items) c.args.files.now) (omega (arith, t, n))) c.loop-file.invariant.rows

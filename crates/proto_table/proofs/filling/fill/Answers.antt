@@ -1,10 +1,12 @@
 use Rattle.std.proofs.Common.{◌≡◌, ◌<◌, ◌≤◌, IfErr, length-append, string_bytes, List, [], ◌∷◌, ◌++◌, length, get_or, drop, take, sym, ◌∙◌, ap, subst, arith}
+use Rattle.proto_listing.specs.Listing.{needs}
+use Rattle.proto_meaning.specs.Joined.{IsPlain}
 use Rattle.proto_table.specs.Spelled.{Named, named_in}
 use Rattle.std.proofs.lemmas.Result.{err_from_is_err_and}
 use Rattle.proto_meaning.specs.Forest.{under, front}
 use Rattle.proto_table.specs.Tables.{names_of}
 use Rattle.proto_table.specs.Filling.{AreRowsOf, declaration_of, Holds, IsClashAt, number_above, StopsIn}
-use Rattle.proto_table.proofs.Filled.{not_ok, rows_within, rows_next, held_next, stops_here, kept_both}
+use Rattle.proto_table.proofs.Filled.{not_ok, rows_within, rows_next, held_next, stops_here, kept_itself, kept_both, segment_none}
 use Rattle.proto_table.proofs.filling.fill.Goals as goal
 
 pub declare_one-requires-clause-within : goal.declare_one-requires-clause-within
@@ -98,3 +100,45 @@ returns-clause-kept c = c.loop-k.invariant.kept
 
 pub returns-clause-rows : goal.returns-clause-rows
 returns-clause-rows c = c.loop-k.invariant.rows
+
+pub returns-in_err-push-clause-fault : goal.returns-in_err-push-clause-fault
+returns-in_err-push-clause-fault c =
+    let p = err_from_is_err_and c.from_residual-in_err-push.result c.from_residual-in_err-push.ensures.1 in
+    rw (p.1, p.2) (λ ds held. tt)
+
+pub loop-k-init : goal.loop-k-init
+loop-k-init c =
+    let len : c.len-start.result ≡ length c.args.rows.items = c.len-start.ensures ∙ c.args.rows.ok.0 in
+    record {
+      table = c.requires.table;
+      kept = kept_itself c.args.table;
+      count = sym len;
+      rows = c.requires.rows;
+      held = λ ds held. subst (Holds c.args.table) (sym (segment_none ds (named_in c.args.file c.args.spelled.now) (length c.args.rows.items) c.len-start.result len)) held;
+    }
+
+pub bounds-spelled-k : goal.bounds-spelled-k
+bounds-spelled-k c = let m = c.loop-k-test.true in let n = c.requires.end in omega (arith, m, n)
+
+pub declare_one-requires-clause-ordered : goal.declare_one-requires-clause-ordered
+declare_one-requires-clause-ordered c =
+    let m = c.loop-k-test.true in
+    let n = c.requires.end in
+    let size = ap length c.deref.ensures.value ∙ c.loop-k.invariant.count in
+    let h = c.requires.spelled.ordered c.loop-k.k c.index-spelled-k.result (omega (arith, m, n)) in
+    subst (λ z. needs z.above ≤ length c.deref.result.now) (sym c.index-spelled-k.is) (omega (arith, h, size))
+
+pub declare_one-requires-clause-plain : goal.declare_one-requires-clause-plain
+declare_one-requires-clause-plain c =
+    let m = c.loop-k-test.true in
+    let n = c.requires.end in
+    subst (λ z. IsPlain (string_bytes z.word)) (sym c.index-spelled-k.is) (c.requires.spelled.plain c.loop-k.k c.index-spelled-k.result (omega (arith, m, n)))
+
+pub returns-clause-count : goal.returns-clause-count
+returns-clause-count c =
+    let len : c.len-start.result ≡ length c.args.rows.items = c.len-start.ensures ∙ c.args.rows.ok.0 in
+    let s = c.requires.start in
+    let a : c.loop-k.k ≤ c.args.end = c.loop-k.auto.k-end (omega (arith, s, len)) in
+    let b = c.loop-k-test.false in
+    let n = c.loop-k.invariant.count in
+    omega (arith, a, b, n)
