@@ -10,7 +10,7 @@ pub message_texts-of : (ts : List MessageTree) → message_texts (messages_of ts
 message_texts-of [] = refl
 message_texts-of (t ∷ ts) = ap (λ texts. tree_text t ∷ texts) (message_texts-of ts)
 
-map-push : {A B : Type 0} (f : A → B) (xs : List A) (x : A) → map f (xs ++ x ∷ []) ≡ map f xs ++ f x ∷ []
+pub map-push : {A B : Type 0} (f : A → B) (xs : List A) (x : A) → map f (xs ++ x ∷ []) ≡ map f xs ++ f x ∷ []
 map-push f [] x = refl
 map-push f (y ∷ xs) x = ap (λ ys. f y ∷ ys) (map-push f xs x)
 

@@ -1,5 +1,5 @@
 -- Members of objects in Rust's form and in that of `serde_json`, as slots.
-use Rattle.std.specs.Prelude.{◌≡◌, List, [], ◌∷◌, Some, None, Bool, true, map}
+use Rattle.std.specs.Prelude.{◌≡◌, List, [], ◌∷◌, ◌++◌, Option, Some, None, IfSome, Bool, true, map}
 use Rattle.std.specs.Cmp.Lexicographic.{slice_cmp}
 use Rattle.std.specs.List.{list_all}
 use Rattle.std.specs.Ordering.{nat_cmp, is_lt}
@@ -7,7 +7,7 @@ use Rattle.proto_faults.specs.Texts.{Text}
 use Rattle.serde_json.specs.Data.{Members, no_members, member}
 use Rattle.serde_json.specs.Written.{compact_text}
 use Rattle.proto_json.specs.declared.object.Member.{Member}
-use Rattle.proto_json.specs.JsonText.{Slot, keys_of}
+use Rattle.proto_json.specs.JsonText.{Slot, keys_of, are_rising}
 
 -- the key of a member and, where it has a value, the text of this
 abbrev pub slot_of : Member → Slot
@@ -35,3 +35,15 @@ is_below key later = is_lt (slice_cmp nat_cmp key later)
 -- the key is above all those of the slots
 abbrev pub IsAbove : Text → List Slot → Type 0
 IsAbove key slots = list_all (λ other. is_below other key) (keys_of slots) ≡ true
+
+-- these are the slots, unless memory was wanting
+abbrev pub Keeps : Option (List Slot) → List Slot → Type 0
+Keeps kept slots = IfSome kept (λ found. found ≡ slots)
+
+-- one slot more, behind all others, unless memory was wanting
+abbrev pub Puts : Option (List Slot) → Option (List Slot) → Slot → Type 0
+Puts old new slot = (slots : List Slot) → Keeps old slots → Keeps new (slots ++ slot ∷ [])
+
+-- the keys rise, unless memory was wanting
+abbrev pub HasRisingKeys : Option (List Slot) → Type 0
+HasRisingKeys kept = IfSome kept (λ slots. are_rising (keys_of slots) ≡ true)

@@ -67,11 +67,11 @@ impl ToJson for EnumDescriptor {
 
     fn to_json(&self, alloc: Global) -> Result<Json, NoMemory> {
         let mut members = Members::new(alloc);
-        members.put_value("name", &self.name)?;
-        members.put("options", self.options.to_json(alloc)?)?;
-        members.put_list("reservedName", &self.reserved_name)?;
-        members.put_list("reservedRange", &self.reserved_range)?;
-        members.put_list("value", &self.value)?;
+        members.put_value("name", &self.name);
+        members.put("options", self.options.to_json(alloc));
+        members.put_list("reservedName", &self.reserved_name);
+        members.put_list("reservedRange", &self.reserved_range);
+        members.put_list("value", &self.value);
         members.into_object()
     }
 }
@@ -81,9 +81,9 @@ impl ToJson for EnumValueDescriptor {
 
     fn to_json(&self, alloc: Global) -> Result<Json, NoMemory> {
         let mut members = Members::new(alloc);
-        members.put_value("name", &self.name)?;
-        members.put_value("number", &self.number)?;
-        members.put("options", self.options.to_json(alloc)?)?;
+        members.put_value("name", &self.name);
+        members.put_value("number", &self.number);
+        members.put("options", self.options.to_json(alloc));
         members.into_object()
     }
 }
@@ -93,8 +93,8 @@ impl ToJson for EnumReservedRange {
 
     fn to_json(&self, alloc: Global) -> Result<Json, NoMemory> {
         let mut members = Members::new(alloc);
-        members.put_value("end", &self.end)?;
-        members.put_value("start", &self.start)?;
+        members.put_value("end", &self.end);
+        members.put_value("start", &self.start);
         members.into_object()
     }
 }
@@ -104,8 +104,8 @@ impl EnumOptions {
         ensures { IfOk result (λ o. o ≡ object_if_any (enum_options_slots self.now)) }
     {
         let mut members = Members::new(alloc);
-        members.put_optional("allowAlias", &self.allow_alias)?;
-        members.put_optional("deprecated", &self.deprecated)?;
+        members.put_optional("allowAlias", &self.allow_alias);
+        members.put_optional("deprecated", &self.deprecated);
         members.into_object_if_any()
     }
 }
@@ -115,7 +115,7 @@ impl EnumValueOptions {
         ensures { IfOk result (λ o. o ≡ object_if_any (enum_value_options_slots self.now)) }
     {
         let mut members = Members::new(alloc);
-        members.put_optional("deprecated", &self.deprecated)?;
+        members.put_optional("deprecated", &self.deprecated);
         members.into_object_if_any()
     }
 }

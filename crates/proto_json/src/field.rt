@@ -156,8 +156,8 @@ impl FieldOptions {
         ensures { IfOk result (λ o. o ≡ object_if_any (field_options_slots self.now)) }
     {
         let mut members = Members::new(alloc);
-        members.put_optional("deprecated", &self.deprecated)?;
-        members.put_optional("packed", &self.packed)?;
+        members.put_optional("deprecated", &self.deprecated);
+        members.put_optional("packed", &self.packed);
         members.into_object_if_any()
     }
 }
@@ -167,16 +167,16 @@ impl ToJson for FieldDescriptor {
 
     fn to_json(&self, alloc: Global) -> Result<Json, NoMemory> {
         let mut members = Members::new(alloc);
-        members.put_optional("defaultValue", &self.default_value)?;
-        members.put_optional("jsonName", &self.json_name)?;
-        members.put_value("label", &self.label)?;
-        members.put_value("name", &self.name)?;
-        members.put_value("number", &self.number)?;
-        members.put_optional("oneofIndex", &self.oneof_index)?;
-        members.put("options", self.options.to_json(alloc)?)?;
-        members.put("proto3Optional", Json::mark(self.proto3_optional))?;
-        members.put_value("type", &self.field_type)?;
-        members.put_optional("typeName", &self.type_name)?;
+        members.put_optional("defaultValue", &self.default_value);
+        members.put_optional("jsonName", &self.json_name);
+        members.put_value("label", &self.label);
+        members.put_value("name", &self.name);
+        members.put_value("number", &self.number);
+        members.put_optional("oneofIndex", &self.oneof_index);
+        members.put("options", self.options.to_json(alloc));
+        members.put("proto3Optional", Ok(Json::mark(self.proto3_optional)));
+        members.put_value("type", &self.field_type);
+        members.put_optional("typeName", &self.type_name);
         members.into_object()
     }
 }

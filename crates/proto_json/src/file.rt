@@ -99,9 +99,9 @@ pub fn text_of_files(
 ) -> Result<String, NoMemory>
     ensures { IfOk result (λ s. string_bytes s ≡ text_of_files key.now (map file_desc files.now)) }
 {
-    let list = array_if_any(alloc, files)?;
+    let list = array_if_any(alloc, files);
     let mut members = Members::new(alloc);
-    members.put(key, list)?;
+    members.put(key, list);
     let json = members.into_object()?;
     json.print(alloc)
 }
@@ -143,17 +143,17 @@ impl ToJson for FileDescriptor {
     ghost text = { λ f. file_text (file_desc f) };
 
     fn to_json(&self, alloc: Global) -> Result<Json, NoMemory> {
-        let mut members = Members::new(alloc);
-        members.put_list("dependency", &self.dependency)?;
-        members.put_list("enumType", &self.enum_type)?;
         let messages = messages_json(alloc, &self.message_type)?;
-        members.put("messageType", messages.into_array_if_any())?;
-        members.put_value("name", &self.name)?;
-        members.put("options", self.options.to_json(alloc)?)?;
-        members.put_optional("package", &self.package)?;
-        members.put_list("publicDependency", &self.public_dependency)?;
-        members.put_list("service", &self.service)?;
-        members.put("syntax", self.syntax.to_json(alloc)?)?;
+        let mut members = Members::new(alloc);
+        members.put_list("dependency", &self.dependency);
+        members.put_list("enumType", &self.enum_type);
+        members.put("messageType", Ok(messages.into_array_if_any()));
+        members.put_value("name", &self.name);
+        members.put("options", self.options.to_json(alloc));
+        members.put_optional("package", &self.package);
+        members.put_list("publicDependency", &self.public_dependency);
+        members.put_list("service", &self.service);
+        members.put("syntax", self.syntax.to_json(alloc));
         members.into_object()
     }
 }
@@ -164,16 +164,16 @@ impl FileOptions {
             (file_options_slots (file_options_desc self.now))) }
     {
         let mut members = Members::new(alloc);
-        members.put_optional("ccEnableArenas", &self.cc_enable_arenas)?;
-        members.put_optional("csharpNamespace", &self.csharp_namespace)?;
-        members.put_optional("deprecated", &self.deprecated)?;
-        members.put_optional("goPackage", &self.go_package)?;
-        members.put_optional("javaMultipleFiles", &self.java_multiple_files)?;
-        members.put_optional("javaOuterClassname", &self.java_outer_classname)?;
-        members.put_optional("javaPackage", &self.java_package)?;
-        members.put_optional("objcClassPrefix", &self.objc_class_prefix)?;
-        members.put_optional("optimizeFor", &self.optimize_for)?;
-        members.put_optional("phpNamespace", &self.php_namespace)?;
+        members.put_optional("ccEnableArenas", &self.cc_enable_arenas);
+        members.put_optional("csharpNamespace", &self.csharp_namespace);
+        members.put_optional("deprecated", &self.deprecated);
+        members.put_optional("goPackage", &self.go_package);
+        members.put_optional("javaMultipleFiles", &self.java_multiple_files);
+        members.put_optional("javaOuterClassname", &self.java_outer_classname);
+        members.put_optional("javaPackage", &self.java_package);
+        members.put_optional("objcClassPrefix", &self.objc_class_prefix);
+        members.put_optional("optimizeFor", &self.optimize_for);
+        members.put_optional("phpNamespace", &self.php_namespace);
         members.into_object_if_any()
     }
 }

@@ -1,10 +1,9 @@
 //! Messages, with those nested in them.
 
-ghost use Rattle.std.specs.Prelude.{◌≡◌, [], ◌++◌, IfOk, OnOk, take, drop};
-ghost use Rattle.proto_json.specs.DescriptorText.{message_texts, message_slots, range_text, oneof_text, message_options_slots};
+ghost use Rattle.std.specs.Prelude.{◌≡◌, IfOk};
+ghost use Rattle.proto_json.specs.DescriptorText.{message_texts, range_text, oneof_text, message_options_slots};
 ghost use Rattle.proto_json.specs.JsonText.{object_if_any};
-ghost use Rattle.proto_json.specs.Views.{message_desc, oneof_desc, message_tree, messages_desc};
-ghost use Rattle.proto_json.specs.declared.message.MessageDescriptor.{out-MessageDescriptor};
+ghost use Rattle.proto_json.specs.Views.{oneof_desc, message_tree, messages_desc};
 ghost use Rattle.proto_json.specs.MessageText.{tree_text, level_text};
 
 use crate::enumeration::EnumDescriptor;
@@ -87,32 +86,6 @@ fn message_json(alloc: Global, message: &MessageDescriptor) -> Result<Json, NoMe
     message_around(alloc, message, nested)
 }
 
-/// Puts the members from `enumType` to `name`.
-fn put_first(members: &mut Members, message: &MessageDescriptor) -> Result<(), NoMemory>
-    ensures { OnOk result (members.new ≡ members.old
-        ++ take 4 (message_slots (message_desc (out-MessageDescriptor message.now)) [])) }
-{
-    members.put_list("enumType", &message.enum_type)?;
-    members.put_list("extensionRange", &message.extension_range)?;
-    members.put_list("field", &message.field)?;
-    members.put_value("name", &message.name)
-}
-
-/// Puts the members from `oneofDecl` to `reservedRange`.
-fn put_last(
-    alloc: Global,
-    members: &mut Members,
-    message: &MessageDescriptor,
-) -> Result<(), NoMemory>
-    ensures { OnOk result (members.new ≡ members.old
-        ++ drop 5 (message_slots (message_desc (out-MessageDescriptor message.now)) [])) }
-{
-    members.put_list("oneofDecl", &message.oneof_decl)?;
-    members.put("options", message.options.to_json(alloc)?)?;
-    members.put_list("reservedName", &message.reserved_name)?;
-    members.put_list("reservedRange", &message.reserved_range)
-}
-
 /// The message, with the values of those nested in it.
 fn message_around(
     alloc: Global,
@@ -122,9 +95,15 @@ fn message_around(
     ensures { IfOk result (λ j. j ≡ level_text message.now nested) }
 {
     let mut members = Members::new(alloc);
-    put_first(&mut members, message)?;
-    members.put("nestedType", nested.into_array_if_any())?;
-    put_last(alloc, &mut members, message)?;
+    members.put_list("enumType", &message.enum_type);
+    members.put_list("extensionRange", &message.extension_range);
+    members.put_list("field", &message.field);
+    members.put_value("name", &message.name);
+    members.put("nestedType", Ok(nested.into_array_if_any()));
+    members.put_list("oneofDecl", &message.oneof_decl);
+    members.put("options", message.options.to_json(alloc));
+    members.put_list("reservedName", &message.reserved_name);
+    members.put_list("reservedRange", &message.reserved_range);
     members.into_object()
 }
 
@@ -133,8 +112,8 @@ impl ToJson for NumberRange {
 
     fn to_json(&self, alloc: Global) -> Result<Json, NoMemory> {
         let mut members = Members::new(alloc);
-        members.put_value("end", &self.end)?;
-        members.put_value("start", &self.start)?;
+        members.put_value("end", &self.end);
+        members.put_value("start", &self.start);
         members.into_object()
     }
 }
@@ -144,7 +123,7 @@ impl ToJson for OneofDescriptor {
 
     fn to_json(&self, alloc: Global) -> Result<Json, NoMemory> {
         let mut members = Members::new(alloc);
-        members.put_value("name", &self.name)?;
+        members.put_value("name", &self.name);
         members.into_object()
     }
 }
@@ -154,8 +133,8 @@ impl MessageOptions {
         ensures { IfOk result (λ o. o ≡ object_if_any (message_options_slots self.now)) }
     {
         let mut members = Members::new(alloc);
-        members.put_optional("deprecated", &self.deprecated)?;
-        members.put("mapEntry", Json::mark(self.map_entry))?;
+        members.put_optional("deprecated", &self.deprecated);
+        members.put("mapEntry", Ok(Json::mark(self.map_entry)));
         members.into_object_if_any()
     }
 }

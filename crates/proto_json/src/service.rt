@@ -92,9 +92,9 @@ impl ToJson for ServiceDescriptor {
 
     fn to_json(&self, alloc: Global) -> Result<Json, NoMemory> {
         let mut members = Members::new(alloc);
-        members.put_list("method", &self.method)?;
-        members.put_value("name", &self.name)?;
-        members.put("options", self.options.to_json(alloc)?)?;
+        members.put_list("method", &self.method);
+        members.put_value("name", &self.name);
+        members.put("options", self.options.to_json(alloc));
         members.into_object()
     }
 }
@@ -104,12 +104,12 @@ impl ToJson for MethodDescriptor {
 
     fn to_json(&self, alloc: Global) -> Result<Json, NoMemory> {
         let mut members = Members::new(alloc);
-        members.put("clientStreaming", Json::mark(self.client_streaming))?;
-        members.put_value("inputType", &self.input_type)?;
-        members.put_value("name", &self.name)?;
-        members.put("options", self.options.to_json(alloc)?)?;
-        members.put_value("outputType", &self.output_type)?;
-        members.put("serverStreaming", Json::mark(self.server_streaming))?;
+        members.put("clientStreaming", Ok(Json::mark(self.client_streaming)));
+        members.put_value("inputType", &self.input_type);
+        members.put_value("name", &self.name);
+        members.put("options", self.options.to_json(alloc));
+        members.put_value("outputType", &self.output_type);
+        members.put("serverStreaming", Ok(Json::mark(self.server_streaming)));
         members.into_object()
     }
 }
@@ -119,7 +119,7 @@ impl ServiceOptions {
         ensures { IfOk result (λ o. o ≡ object_if_any (service_options_slots self.now)) }
     {
         let mut members = Members::new(alloc);
-        members.put_optional("deprecated", &self.deprecated)?;
+        members.put_optional("deprecated", &self.deprecated);
         members.into_object_if_any()
     }
 }
@@ -129,8 +129,8 @@ impl MethodOptions {
         ensures { IfOk result (λ o. o ≡ object_if_any (method_options_slots self.now)) }
     {
         let mut members = Members::new(alloc);
-        members.put_optional("deprecated", &self.deprecated)?;
-        members.put_optional("idempotencyLevel", &self.idempotency_level)?;
+        members.put_optional("deprecated", &self.deprecated);
+        members.put_optional("idempotencyLevel", &self.idempotency_level);
         members.into_object_if_any()
     }
 }

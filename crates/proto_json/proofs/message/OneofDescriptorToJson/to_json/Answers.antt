@@ -1,11 +1,15 @@
-use Rattle.std.proofs.Common.{IfOk, List, refl, subst, ◌≡◌}
+use Rattle.std.proofs.Common.{refl}
 use Rattle.proto_json.specs.DescriptorText.{oneof_slots}
-use Rattle.proto_json.specs.JsonText.{Slot, object_text}
+use Rattle.proto_json.specs.Members.{Keeps}
 use Rattle.proto_json.specs.Views.{oneof_desc}
-use Rattle.proto_json.proofs.Slots.{slots-put}
+use Rattle.proto_json.proofs.Slots.{rising-kept, slots-put}
 use Rattle.proto_json.proofs.message.OneofDescriptorToJson.to_json.Goals as goal
+
+pub into_object-requires : goal.into_object-requires
+into_object-requires c =
+    rising-kept _ _ (c.put_value.ensures _ c.new-members.ensures) refl
 
 pub returns : goal.returns
 returns c =
-    let same : c.put_value.new.self ≡ oneof_slots (oneof_desc c.args.self.now) = slots-put _ c.new-members.ensures c.in_ok-put_value.ensures refl in
-    subst (λ (slots : List Slot). IfOk c.into_object.result (λ j. j ≡ object_text slots)) same c.into_object.ensures
+    let same : Keeps c.put_value.new.self (oneof_slots (oneof_desc c.args.self.now)) = slots-put _ _ _ _ c.new-members.ensures c.put_value.ensures refl in
+    c.into_object.ensures _ same

@@ -1,10 +1,14 @@
-use Rattle.std.proofs.Common.{IfOk, List, refl, subst, ◌≡◌}
+use Rattle.std.proofs.Common.{refl}
 use Rattle.proto_json.specs.DescriptorText.{service_options_slots}
-use Rattle.proto_json.specs.JsonText.{Slot, object_if_any}
-use Rattle.proto_json.proofs.Slots.{slots-put}
+use Rattle.proto_json.specs.Members.{Keeps}
+use Rattle.proto_json.proofs.Slots.{rising-kept, slots-put}
 use Rattle.proto_json.proofs.service.ServiceOptions.to_json.Goals as goal
+
+pub into_object_if_any-requires : goal.into_object_if_any-requires
+into_object_if_any-requires c =
+    rising-kept _ _ (c.put_optional.ensures _ c.new-members.ensures) refl
 
 pub returns : goal.returns
 returns c =
-    let same : c.put_optional.new.self ≡ service_options_slots c.args.self.now = slots-put _ c.new-members.ensures c.in_ok-put_optional.ensures refl in
-    subst (λ (slots : List Slot). IfOk c.into_object_if_any.result (λ j. j ≡ object_if_any slots)) same c.into_object_if_any.ensures
+    let same : Keeps c.put_optional.new.self (service_options_slots c.args.self.now) = slots-put _ _ _ _ c.new-members.ensures c.put_optional.ensures refl in
+    c.into_object_if_any.ensures _ same
