@@ -84,3 +84,9 @@ letter_end up all rest name e h = nil name ∙ ap (λ (bs : List ℕ). name ++ c
     nil : (xs : List ℕ) → xs ≡ xs ++ []
     nil [] = refl
     nil (x ∷ xs) = ap (λ (ys : List ℕ). x ∷ ys) (nil xs)
+
+-- and for a `_`
+pub line_step : (up : Bool) (c : ℕ) (all before rest name : List ℕ) → c ≡ 95 → before ≡ encode c ++ rest → name ++ camel_from up before ≡ all → name ++ camel_from true rest ≡ all
+line_step up c all before rest name is b h =
+    let line : before ≡ 95 ∷ rest = b ∙ ap (λ (d : ℕ). encode d ++ rest) is ∙ ap (λ (bs : List ℕ). bs ++ rest) (encode_ascii 95 (omega arith)) in
+    ap (λ (bs : List ℕ). name ++ bs) (sym (ap (camel_from up) line)) ∙ h

@@ -1,3 +1,4 @@
 pub mod Camel
 pub mod EntryNames
 mod Uppers
+mod Snakes

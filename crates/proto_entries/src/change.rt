@@ -2,7 +2,7 @@
 
 ghost use Rattle.std.specs.Prelude.{◌≡◌, ◌+◌, ◌≤◌, ◌++◌, ◌∷◌, [], length, map, IfOk, OnOk};
 ghost use Rattle.proto_text.specs.Edits.{AreShort};
-ghost use Rattle.proto_text.specs.Splicing.{edit_of, edits};
+ghost use Rattle.proto_text.specs.Splicing.{edits};
 ghost use Rattle.proto_entries.specs.Entries.{change_of, turned_round, inverted};
 
 use crate::entry::Change;
@@ -18,11 +18,7 @@ pub fn one_splice(alloc: Global, at: u32, old: &str, new: &str) -> Result<Splice
         ≡ record { at = at; old = old.now; new = new.now } ∷ []) }
 {
     let mut list = Vec::new(alloc);
-    list.push(Splice {
-        at,
-        old: old.to_string(alloc)?,
-        new: new.to_string(alloc)?,
-    })?;
+    push_splice(&mut list, alloc, at, old, new)?;
     in_order(list)
 }
 
@@ -39,13 +35,21 @@ pub fn in_order(list: Vec<Splice>) -> Result<Splices, NoMemory>
     }
 }
 
-fn push_copy(list: &mut Vec<Splice>, alloc: Global, splice: &Splice) -> Result<(), NoMemory>
-    ensures { OnOk result (edits list.new.items ≡ edits list.old.items ++ edit_of splice.now ∷ []) }
+// Adds the splice that puts the new word in place of the old one, which begins at this byte.
+fn push_splice(
+    list: &mut Vec<Splice>,
+    alloc: Global,
+    at: u32,
+    old: &str,
+    new: &str,
+) -> Result<(), NoMemory>
+    ensures { OnOk result (edits list.new.items
+        ≡ edits list.old.items ++ record { at = at; old = old.now; new = new.now } ∷ []) }
 {
     list.push(Splice {
-        at: splice.at,
-        old: splice.old.as_str().to_string(alloc)?,
-        new: splice.new.as_str().to_string(alloc)?,
+        at,
+        old: old.to_string(alloc)?,
+        new: new.to_string(alloc)?,
     })?;
     Ok(())
 }
@@ -56,23 +60,31 @@ fn copied(alloc: Global, splices: &Splices) -> Result<Splices, NoMemory>
     let mut list = Vec::new(alloc);
     let items = splices.as_slice();
     for splice in items {
-        push_copy(&mut list, alloc, splice)?;
+        push_splice(
+            &mut list,
+            alloc,
+            splice.at,
+            splice.old.as_str(),
+            splice.new.as_str(),
+        )?;
     }
     in_order(list)
 }
 
-// The change that leads back.
-fn turned_round(alloc: Global, change: &Change) -> Result<Change, NoMemory>
-    ensures { IfOk result (λ back. change_of back ≡ turned_round (change_of change.now)) }
+// Adds the change that leads back.
+fn push_turned(back: &mut Vec<Change>, alloc: Global, change: &Change) -> Result<(), NoMemory>
+    ensures { OnOk result (map change_of back.new.items
+        ≡ map change_of back.old.items ++ turned_round (change_of change.now) ∷ []) }
 {
     let path = change.path.as_str().to_string(alloc)?;
     let splices = copied(alloc, &change.splices)?;
-    Ok(Change {
+    back.push(Change {
         path,
         before: change.after,
         after: change.before,
         splices: invert(splices),
-    })
+    })?;
+    Ok(())
 }
 
 /// The changes that lead back: each with its lengths exchanged and its splices inverted.
@@ -82,7 +94,7 @@ pub fn all_turned_round(alloc: Global, changes: &[Change]) -> Result<Vec<Change>
 {
     let mut back = Vec::new(alloc);
     for change in changes {
-        back.push(turned_round(alloc, change)?)?;
+        push_turned(&mut back, alloc, change)?;
     }
     Ok(back)
 }

@@ -5,6 +5,7 @@ ghost use Rattle.proto_entries.specs.RefusalTable.{number_of, name_of};
 
 use proto_faults::NoMemory;
 use std::alloc::{AllocError, AllocFailed};
+use std::fmt;
 use thiserror::Error;
 
 /// Why an edit or an undo is refused: the least case that holds, by number. Want of memory may come
@@ -12,63 +13,90 @@ use thiserror::Error;
 #[derive(Debug, Drop, Error)]
 pub enum Refusal {
     /// No symbol has the name.
-    #[error("no symbol has the name")]
     UnknownTarget,
     /// The edit is not for a symbol of this kind.
-    #[error("the edit is not for a symbol of this kind")]
     KindNotAllowed,
     /// The new name is no word.
-    #[error("the new name is no word")]
     NotAnIdentifier,
     /// The new name is a listed word that such a symbol may not have.
-    #[error("the new name is a listed word")]
     KeywordName,
     /// The new name is the present one.
-    #[error("the new name is the present one")]
     SameName,
     /// A new name is the name of another symbol.
-    #[error("a new name is the name of another symbol")]
     Collision,
     /// A reference would mean something else. Its file, and the offset of its first token in bytes
     /// from 0.
-    #[error("a reference would mean something else: {path}: byte {offset}")]
     Captured { path: String, offset: u32 },
     /// The new name is reserved where the symbol stands.
-    #[error("the new name is reserved")]
     NameReserved,
     /// Two fields of a proto3 message would have one JSON name.
-    #[error("two fields would have one JSON name")]
     JsonClash,
     /// The field is the only one of its oneof.
-    #[error("the field is the only one of its oneof")]
     LastOfOneof,
     /// A file is not in the workspace.
-    #[error("the file is not in the workspace")]
     UnknownFile,
     /// The file imports the path.
-    #[error("the file imports the path")]
     AlreadyImported,
     /// The file does not import the path.
-    #[error("the file does not import the path")]
     NotImported,
     /// An import cycle would be closed.
-    #[error("an import cycle would be closed")]
     Cycle,
     /// A reference means a symbol that would no longer be seen. Its file, and the offset of its
     /// first token in bytes from 0.
-    #[error("a reference means a symbol that would no longer be seen: {path}: byte {offset}")]
     Needed { path: String, offset: u32 },
     /// A changed file would pass 1,048,576 bytes.
-    #[error("a changed file would have more than 1,048,576 bytes")]
     TooLarge,
     /// The files are not as the entry left them.
-    #[error("the files are not as the entry left them")]
     Stale,
-    #[error("no memory")]
+    /// There was no memory.
     NoMemory,
 }
 
+impl fmt::Display for Refusal {
+    fn fmt<W: fmt::Write>(&self, f: &mut fmt::Formatter<W>) -> fmt::Result {
+        match self.place() {
+            None => f.write_str(self.text()),
+            Some((path, offset)) => write!(f, "{}: {path}: byte {offset}", self.text()),
+        }
+    }
+}
+
 impl Refusal {
+    // What is refused, in words, for people.
+    fn text(&self) -> &'static str {
+        match self {
+            Refusal::UnknownTarget => "no symbol has the name",
+            Refusal::KindNotAllowed => "the edit is not for a symbol of this kind",
+            Refusal::NotAnIdentifier => "the new name is no word",
+            Refusal::KeywordName => "the new name is a listed word",
+            Refusal::SameName => "the new name is the present one",
+            Refusal::Collision => "a new name is the name of another symbol",
+            Refusal::Captured { .. } => "a reference would mean something else",
+            Refusal::NameReserved => "the new name is reserved",
+            Refusal::JsonClash => "two fields would have one JSON name",
+            Refusal::LastOfOneof => "the field is the only one of its oneof",
+            Refusal::UnknownFile => "the file is not in the workspace",
+            Refusal::AlreadyImported => "the file imports the path",
+            Refusal::NotImported => "the file does not import the path",
+            Refusal::Cycle => "an import cycle would be closed",
+            Refusal::Needed { .. } => "a reference means a symbol that would no longer be seen",
+            Refusal::TooLarge => "a changed file would have more than 1,048,576 bytes",
+            Refusal::Stale => "the files are not as the entry left them",
+            Refusal::NoMemory => "no memory",
+        }
+    }
+
+    // The file and the offset in it that the words for people name.
+    fn place(&self) -> Option<(&str, u32)> {
+        match self {
+            Refusal::Captured { path, offset } | Refusal::Needed { path, offset } => Some((
+                path.as_str(),
+                *offset,
+            )),
+            _ => None,
+        }
+    }
+
     /// The number in the table of refusals, from 1 to 18.
     pub fn number(&self) -> u32
         ensures { result ≡ number_of self.now }

@@ -1,6 +1,6 @@
 -- Edits, one after the other (for the crates above).
 use Rattle.std.proofs.Common.{◌≡◌, ℕ, ◌+◌, ◌-◌, ◌<◌, ◌≤◌, List, [], ◌∷◌, ◌++◌, length, get_or, set, take, drop, refl, sym, ap, subst, ◌∙◌, arith, append_assoc}
-use Rattle.std.proofs.lemmas.List.{drop_more, take_more_set, drop-set-lt, length-append, length-take, take-append-drop, take_at, drop_at}
+use Rattle.std.proofs.lemmas.List.{drop_all, drop_more, take_more_set, drop-set-lt, length-append, length-take, take-append-drop, take_at, drop_at}
 use Rattle.std.specs.String.{string_bytes}
 use Rattle.proto_text.specs.declared.splice.Splice.{Splice}
 use Rattle.proto_text.specs.Splicing.{edit_of, edits}
@@ -78,6 +78,14 @@ put_step text xs i from rest front kept after made x so_far lt item is made-is =
     let here = subst (PutsUpTo text (edits xs) from rest front) (drop_item xs i x lt item) so_far in
     let more = puts_more text (edits xs) from rest front (edit_of x) (edits (drop (i + 1) xs)) kept after here is in
     rw (made-is, append_assoc front kept (string_bytes x.new)) more
+
+pub put_stops : (text : List ℕ) (xs : List Splice) (i from : ℕ) (rest front : List ℕ) (x : Splice) → PutsUpTo text (edits xs) from rest front (edits (drop i xs)) → i < length xs → x ≡ get_or xs i x
+    → ((kept after : List ℕ) → IsCut rest from x.at (string_bytes x.old) kept after → ⊥) → (new : List ℕ) → Puts 0 text (edits xs) new → ⊥
+put_stops text xs i from rest front x so_far lt item none =
+    puts_stops text (edits xs) from rest front (edit_of x) (edits (drop (i + 1) xs)) (subst (PutsUpTo text (edits xs) from rest front) (drop_item xs i x lt item) so_far) none
+
+pub put_ends : (text : List ℕ) (xs : List Splice) (i from : ℕ) (rest front made : List ℕ) → PutsUpTo text (edits xs) from rest front (edits (drop i xs)) → length xs ≤ i → made ≡ front ++ rest → Puts 0 text (edits xs) made
+put_ends text xs i from rest front made so_far end is = subst (Puts 0 text (edits xs)) (sym is) (puts_all text (edits xs) from rest front (edits (drop i xs)) so_far (ap edits (drop_all i xs end)))
 
 -- ---- the loop that turns the edits round
 

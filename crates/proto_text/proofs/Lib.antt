@@ -9,6 +9,7 @@ pub mod Once
 pub mod OneEdit
 pub mod Order
 mod PieceEdits
+mod Prefixes
 mod PutIn
 mod Reading
 mod Runs

@@ -5,29 +5,42 @@ ghost use Rattle.proto_text.specs.FaultTable.{lex_number, lex_name, text_offset,
 ghost use Rattle.proto_text.specs.declared.fault.TextFault.TheVariants.{NoMemory};
 
 use std::alloc::{AllocError, AllocFailed};
+use std::fmt;
 use thiserror::Error;
 
 /// Why no whole and allowed piece begins at a place.
 #[derive(Clone, Copy, Debug, PartialEq, Eq, Error)]
 pub enum LexFault {
     /// A character begins no token, white space or comment.
-    #[error("a character that begins no token, white space or comment")]
     BadChar,
     /// A block comment is not closed.
-    #[error("a block comment that is not closed")]
     OpenComment,
     /// A string is not closed in its line.
-    #[error("a string that is not closed")]
     OpenString,
     /// A string has an escape that is not allowed, or its value is not UTF-8.
-    #[error("a string with a refused escape, or whose value is not UTF-8")]
     BadEscape,
     /// A digit and the identifier characters behind it are no number.
-    #[error("a word that begins with a digit and is no number")]
     BadNumber,
 }
 
+impl fmt::Display for LexFault {
+    fn fmt<W: fmt::Write>(&self, f: &mut fmt::Formatter<W>) -> fmt::Result {
+        f.write_str(self.text())
+    }
+}
+
 impl LexFault {
+    // What is wrong, in words, for people.
+    fn text(self) -> &'static str {
+        match self {
+            LexFault::BadChar => "a character that begins no token, white space or comment",
+            LexFault::OpenComment => "a block comment that is not closed",
+            LexFault::OpenString => "a string that is not closed",
+            LexFault::BadEscape => "a string with a refused escape, or whose value is not UTF-8",
+            LexFault::BadNumber => "a word that begins with a digit and is no number",
+        }
+    }
+
     /// The number of the fault, from 3 to 7.
     pub fn number(self) -> u32
         ensures { result ≡ lex_number self }
@@ -59,13 +72,10 @@ impl LexFault {
 #[derive(Debug, Drop, Error)]
 pub enum TextFault {
     /// The bytes are more than `MAX_LEN`.
-    #[error("more than 1,048,576 bytes")]
     TooLarge,
     /// The bytes are not UTF-8.
-    #[error("not UTF-8")]
     NotUtf8,
     /// The bytes before the offset are whole white space, comments and tokens.
-    #[error("{fault}, at byte {offset}")]
     At {
         /// Where the fault stands, in bytes from 0.
         offset: u32,
@@ -73,8 +83,18 @@ pub enum TextFault {
         fault: LexFault,
     },
     /// There was no memory.
-    #[error("no memory")]
     NoMemory,
+}
+
+impl fmt::Display for TextFault {
+    fn fmt<W: fmt::Write>(&self, f: &mut fmt::Formatter<W>) -> fmt::Result {
+        match self {
+            TextFault::TooLarge => f.write_str("more than 1,048,576 bytes"),
+            TextFault::NotUtf8 => f.write_str("not UTF-8"),
+            TextFault::At { offset, fault } => write!(f, "{fault}, at byte {offset}"),
+            TextFault::NoMemory => f.write_str("no memory"),
+        }
+    }
 }
 
 impl TextFault {

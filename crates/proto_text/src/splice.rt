@@ -9,7 +9,7 @@ ghost use Rattle.proto_text.specs.Splicing.{edit_of, edits, IsPut, IsApplied, sp
 
 use std::alloc::{AllocError, Global};
 use std::marker::Model;
-use std::mem;
+use std::{fmt, mem};
 use thiserror::Error;
 
 /// What stands at an offset of a text, in bytes from 0, and what comes in its place.
@@ -27,20 +27,33 @@ pub struct Splice {
 #[derive(Debug, Drop, Error)]
 pub enum SpliceFault {
     /// An old text is not at its place.
-    #[error("an old text is not at its place")]
     Stale,
     /// The new text has more than 1,048,576 bytes.
-    #[error("the new text has more than 1,048,576 bytes")]
     TooLarge,
     /// A splice begins before the end of the one before, or ends past 1,048,576 bytes.
-    #[error("the splices are out of order, or one ends past 1,048,576 bytes")]
     Disorder,
     /// There was no memory.
-    #[error("no memory")]
     NoMemory,
 }
 
+impl fmt::Display for SpliceFault {
+    fn fmt<W: fmt::Write>(&self, f: &mut fmt::Formatter<W>) -> fmt::Result {
+        f.write_str(self.text())
+    }
+}
+
 impl SpliceFault {
+    // Why, in words, for people.
+    fn text(&self) -> &'static str {
+        match self {
+            SpliceFault::Stale => "an old text is not at its place",
+            SpliceFault::TooLarge => "the new text has more than 1,048,576 bytes",
+            SpliceFault::Disorder =>
+                "the splices are out of order, or one ends past 1,048,576 bytes",
+            SpliceFault::NoMemory => "no memory",
+        }
+    }
+
     /// The number of the fault, from 1 to 3; 0 for want of memory.
     pub fn number(&self) -> u32
         ensures { result ≡ splice_number self.now }

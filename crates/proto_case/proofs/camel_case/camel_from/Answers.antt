@@ -1,10 +1,10 @@
-use Rattle.std.proofs.Common.{◌≡◌, ℕ, List, [], ◌∷◌, length, false, refl, sym, ◌∙◌, if◌then◌else◌, arith}
+use Rattle.std.proofs.Common.{◌≡◌, ℕ, List, [], ◌∷◌, length, refl, sym, ◌∙◌, if◌then◌else◌, arith}
 use Rattle.std.specs.Char.{to_ascii_uppercase}
 use Rattle.std.specs.Str.Iter.{chars_rest}
 use Rattle.std.specs.String.{string_bytes}
 use Rattle.std.proofs.lemmas.Bool.{cond-true, cond-false}
 use Rattle.proto_case.specs.Camel.{camel_from}
-use Rattle.proto_case.proofs.Camel.{letter_step, letter_end}
+use Rattle.proto_case.proofs.Camel.{letter_step, letter_end, line_step}
 use Rattle.proto_case.proofs.camel_case.camel_from.Goals.{then-up, else-up}
 use Rattle.proto_case.proofs.camel_case.camel_from.Goals as goal
 
@@ -23,3 +23,8 @@ empty (x ∷ xs) h = absurd (omega (arith, h))
 
 pub returns : goal.returns
 returns c = letter_end c.loop-c.up (camel_from c.args.is_up c.args.word.now) (chars_rest c.loop-c.c-iterator) (string_bytes c.loop-c.name) (empty (chars_rest c.loop-c.c-iterator) c.in-None.ensures.steps.0.0) c.loop-c.invariant
+
+pub loop-c-preserved-then-c-eq95 : goal.loop-c-preserved-then-c-eq95
+loop-c-preserved-then-c-eq95 c =
+    line_step c.loop-c.up c.in-Some.c (camel_from c.args.is_up c.args.word.now) (chars_rest c.loop-c.c-iterator) (chars_rest c.next.new.self) (string_bytes c.loop-c.name)
+    c.if-c-eq95.true c.in-Some.ensures.steps.0 c.loop-c.invariant

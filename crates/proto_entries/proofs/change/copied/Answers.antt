@@ -13,7 +13,8 @@ loop-splice-preserved c =
     let rest = drop (c.loop-splice.splice-index + 1) items in
     let left : drop c.loop-splice.splice-index items ≡ splice ∷ rest =
     drop_more items c.loop-splice.splice-index splice c.loop-splice-test.true ∙ ap (λ (s : Splice). s ∷ rest) (sym c.splice-item.is) in
-    ap (λ es. es ++ edits rest) c.in_ok-push_copy.ensures
+    let added = rw (c.as_str.ensures.value, c.as_str-in-loop-splice.ensures.value) at c.in_ok-push_splice.ensures in
+    ap (λ es. es ++ edits rest) added
     ∙ append_assoc (edits done) (edit_of splice ∷ []) (edits rest)
     ∙ ap (λ (ss : List Splice). edits done ++ edits ss) (sym left) ∙ c.loop-splice.invariant
 
