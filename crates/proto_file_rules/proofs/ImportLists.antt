@@ -1,6 +1,6 @@
 -- The import statements of trees.
 use Rattle.std.proofs.Common.{◌≡◌, ℕ, ◌+◌, ◌<◌, List, [], ◌∷◌, ◌++◌, Bor, length, get_or, map, take, refl, sym, ◌∙◌, ap, subst, append_assoc}
-use Rattle.std.specs.Prelude.{is_some}
+use Rattle.std.specs.Prelude.{Err, Ok, OnOk, Result, is_some}
 use Rattle.std.specs.List.{Contains, flat_map}
 use Rattle.std.proofs.lemmas.Grind.{flat_map-append}
 use Rattle.std.proofs.lemmas.List.{append-nil, map-append}
@@ -65,3 +65,8 @@ finds_more finds xs i d l =
     ∙ ap (flat_map finds) (map-append (λ x. x.now) (take i xs) (get_or xs i d ∷ []))
     ∙ flat_map-append finds (map (λ x. x.now) (take i xs)) ((get_or xs i d).now ∷ [])
     ∙ ap (λ zs. flat_map finds (map (λ x. x.now) (take i xs)) ++ zs) (append-nil (finds (get_or xs i d).now))
+
+-- what follows of a call that is well
+pub on_ok_of : {T E P Q : Type 0} (r : Result T E) → (P → Q) → OnOk r P → OnOk r Q
+on_ok_of (Ok x) f h = f h
+on_ok_of (Err e) f h = tt

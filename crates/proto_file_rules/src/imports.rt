@@ -374,6 +374,5 @@ pub fn add_imports(
         imports,
         &marks,
         &statements,
-    )?;
-    Ok(())
+    )
 }

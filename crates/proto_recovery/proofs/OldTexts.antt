@@ -1,5 +1,5 @@
 -- What is read of a store before anything is put back: the listed paths, and the texts of changed files.
-use Rattle.std.proofs.Common.{arith, ◌≡◌, ℕ, ◌+◌, ◌≤◌, ◌<◌, ◌||◌, get_or, append-nil, Bool, true, false, List, [], ◌∷◌, ◌++◌, length, map, take, Option, Some, None, refl, sym, ap, ◌∙◌, subst, if◌then◌else◌}
+use Rattle.std.proofs.Common.{arith, ◌≡◌, ℕ, ◌+◌, ◌≤◌, ◌<◌, ◌||◌, get_or, append-nil, append_assoc, Bool, true, false, List, [], ◌∷◌, ◌++◌, length, map, take, Option, Some, None, refl, sym, ap, ◌∙◌, subst, if◌then◌else◌}
 use Rattle.std.specs.Prelude.{is_some, option_map, String}
 use Rattle.std.specs.Global.{Global, Vec}
 use Rattle.std.specs.List.{Contains, list_any}
@@ -21,7 +21,7 @@ use Rattle.proto_records.specs.declared.fault.JournalFault.{JournalFault}
 use Rattle.proto_records.specs.declared.fault.JournalFault.TheVariants as fault
 use Rattle.proto_store.specs.Stores.{Held, IsListed, ListsPaths, bytes_at}
 use Rattle.proto_recovery.specs.Known.{CountsFault, Over}
-use Rattle.proto_recovery.specs.Restoring.{AreOldFiles, IsAskedFor, IsNeither, IsOldFile, IsStaleOnly}
+use Rattle.proto_recovery.specs.Restoring.{AddsOldFiles, AreOldFiles, IsAskedFor, IsNeither, IsOldFile, IsStaleOnly}
 use Rattle.proto_recovery.specs.Torn.{IsAsAfter, IsAsBefore, IsEitherWay}
 use Rattle.proto_recovery.proofs.OldFiles.{goes_more, stays_more}
 use Rattle.proto_recovery.proofs.TornStores.{change_in, even_turned, measured_is_even}
@@ -145,6 +145,11 @@ stale_in held mid entry c (fault.Refused refusal.Stale) same k s = over held (su
     over (Some h) n = (c, k, n)
 stale_in held mid entry c (fault.Refused r) same k s = absurd s
 
+-- no call of the store failed before
+pub counts_from : (held : Option Held) (c : ChangeOf) (before mid after : ℕ) (f : JournalFault) → mid ≡ before → IsStaleOnly (Over held (λ h. IsEitherWay h.files c → ⊥)) f → CountsFault mid after f
+    → CountsFault before after f
+counts_from held c before mid after f same is counts = subst (λ (n : ℕ). CountsFault n after f) same counts
+
 -- one change more
 pub next_old : (held mid : Option Held) (changes : List Change) (i : ℕ) (x : Change) (olds : List FileOf) (found : Option FileOf) → mid ≡ held → i < length changes → x ≡ get_or changes i x
     → Over held (λ h. AreOldFiles (map change_of (take i changes)) h.files olds) → Over mid (λ h. IsOldFile (change_of x) h.files found)
@@ -160,3 +165,22 @@ next_old held mid changes i x olds found same lt here so_far old =
     go None f a b = tt
     go (Some h) None a b = subst (λ (l : List FileOf). AreOldFiles (map change_of (take i changes) ++ change_of x ∷ []) h.files l) (sym (append-nil olds)) (stays_more (map change_of (take i changes)) h.files olds (change_of x) a b)
     go (Some h) (Some f) a b = goes_more (map change_of (take i changes)) h.files olds (change_of x) f a b
+
+pub none_added : (held : Option Held) (files : List FileOf) → AddsOldFiles [] held files files
+none_added None files = ([], sym (append-nil files), tt)
+none_added (Some h) files = ([], sym (append-nil files), refl)
+
+-- the same where the files come behind others
+pub next_added : (held mid : Option Held) (changes : List Change) (i : ℕ) (x : Change) (before now after : List FileOf) (found : Option FileOf) → mid ≡ held → i < length changes
+    → x ≡ get_or changes i x → AddsOldFiles (map change_of (take i changes)) held before now → Over mid (λ h. IsOldFile (change_of x) h.files found) → after ≡ now ++ listed found
+    → AddsOldFiles (map change_of (take (i + 1) changes)) held before after
+next_added held mid changes i x before now after found same lt here (olds, is, so_far) old e = (
+  olds ++ listed found,
+  e ∙ ap (λ (fs : List FileOf). fs ++ listed found) is ∙ append_assoc before olds (listed found),
+  next_old held mid changes i x olds found same lt here so_far old,
+)
+
+-- files that come behind none are all there are
+pub added_to_none : (cs : List ChangeOf) (held : Option Held) (before files : List FileOf) → before ≡ [] → AddsOldFiles cs held before files → Over held (λ h. AreOldFiles cs h.files files)
+added_to_none cs held before files none (olds, is, so_far) =
+    subst (λ (fs : List FileOf). Over held (λ h. AreOldFiles cs h.files fs)) (sym (is ∙ ap (λ (fs : List FileOf). fs ++ olds) none)) so_far

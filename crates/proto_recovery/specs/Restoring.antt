@@ -13,6 +13,7 @@ use Rattle.proto_records.specs.declared.fault.JournalFault.TheVariants as fault
 use Rattle.proto_records.specs.declared.record.Record.{Record}
 use Rattle.proto_records.specs.Journals.{IsJournal, is_last_open, opened}
 use Rattle.proto_store.specs.Stores.{Held, IsListed, bytes_at, with_bytes}
+use Rattle.proto_recovery.specs.Known.{Over}
 use Rattle.proto_recovery.specs.Torn.{IsAsAfter, IsAsBefore}
 
 -- ---- the open entry
@@ -66,6 +67,11 @@ AreOldFiles [] files olds = olds ≡ []
 AreOldFiles (c ∷ cs) files olds = (StaysAt c files × AreOldFiles cs files olds)
     ⊎ ((f : FileOf) × (rest : List FileOf) × (olds ≡ f ∷ rest)
     × GoesBackTo c files f × AreOldFiles cs files rest)
+
+-- behind these files come those that are put in the place of the files of changes
+abbrev pub AddsOldFiles : List ChangeOf → Option Held → List FileOf → List FileOf → Type 0
+AddsOldFiles cs held before after = (olds : List FileOf) × (after ≡ before ++ olds)
+    × Over held (λ h. AreOldFiles cs h.files olds)
 
 -- the text is neither as before a change nor as after it; beside that only memory may run out
 abbrev pub IsNeither : ChangeOf → Text → JournalFault → Type 0

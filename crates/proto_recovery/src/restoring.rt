@@ -1,14 +1,14 @@
 //! What the files of an open entry were before it.
 
-ghost use Rattle.std.specs.Prelude.{◌≡◌, ℕ, ◌-◌, ◌^◌, ◌<◌, List, IfErr, IfOk, map, option_map};
+ghost use Rattle.std.specs.Prelude.{◌≡◌, ℕ, ◌-◌, ◌^◌, ◌<◌, List, IfErr, IfOk, OnOk, map, option_map};
 ghost use Rattle.std.specs.List.{Contains, list_any};
 ghost use Rattle.std.specs.Str.{bytes_eq};
 ghost use Rattle.std.specs.String.{string_bytes};
 ghost use Rattle.proto_files.specs.GivenFiles.{file_of, files_of};
-ghost use Rattle.proto_entries.specs.Entries.{ChangeOf, IsChange, change_of, turned_round};
+ghost use Rattle.proto_entries.specs.Entries.{ChangeOf, IsChange, change_of, inverted, turned_round};
 ghost use Rattle.proto_entries.specs.Putting.{IsChangedText};
 ghost use Rattle.proto_recovery.specs.Known.{CountsStore, Over};
-ghost use Rattle.proto_recovery.specs.Restoring.{AreOldFiles, IsAskedFor, IsNeither, IsOldFile, IsOldText, IsStaleOnly};
+ghost use Rattle.proto_recovery.specs.Restoring.{AddsOldFiles, AreOldFiles, IsAskedFor, IsNeither, IsOldFile, IsOldText, IsStaleOnly};
 ghost use Rattle.proto_recovery.specs.Torn.{IsEitherWay};
 
 use indexmap::IndexSet;
@@ -104,6 +104,60 @@ fn old_file<S: Store>(
     }
 }
 
+// Adds what is put in the place of each file of an entry; the known paths are those of the store,
+// and the other changes lead back. The list is the caller's, so no exit drops a file.
+fn add_each<S: Store>(
+    alloc: Global,
+    store: &mut S,
+    known: &IndexSet<&str>,
+    entry: &Entry,
+    back: &[Change],
+    files: &mut Vec<(String, Vec<u8>)>,
+) -> Result<(), JournalFault>
+    requires room { S.failure_count store.old < 2 ^ 64 - 1 }
+    requires known { Over (S.holds store.old)
+        (λ held. IsAskedFor (map (λ k. k.now) known.now.keys) held.files) }
+    requires back { map change_of back.now ≡ inverted entry.now }
+    ensures ok { OnOk result (AddsOldFiles entry.now (S.holds store.old)
+        (files_of files.old.items) (files_of files.new.items)) }
+    ensures err { IfErr result (IsStaleOnly (Over (S.holds store.old) (λ held.
+        (c : ChangeOf) × Contains entry.now c × (IsEitherWay held.files c → ⊥)))) }
+    ensures same { S.holds store.new ≡ S.holds store.old }
+    ensures count { CountsStore (S.failure_count store.old) (S.failure_count store.new) result }
+{
+    let changes = entry.changes();
+    for place in 0..changes.len() {
+        if let Some(file) = old_file(alloc, store, known, &changes[place], &back[place])? {
+            files.push(file)?;
+        }
+    }
+    Ok(())
+}
+
+// Adds what is put in the place of the files of an entry.
+fn add_old_files<S: Store>(
+    alloc: Global,
+    store: &mut S,
+    entry: &Entry,
+    files: &mut Vec<(String, Vec<u8>)>,
+) -> Result<(), JournalFault>
+    requires { S.failure_count store.old < 2 ^ 64 - 1 }
+    ensures ok { OnOk result (AddsOldFiles entry.now (S.holds store.old)
+        (files_of files.old.items) (files_of files.new.items)) }
+    ensures err { IfErr result (IsStaleOnly (Over (S.holds store.old) (λ held.
+        (c : ChangeOf) × Contains entry.now c × (IsEitherWay held.files c → ⊥)))) }
+    ensures same { S.holds store.new ≡ S.holds store.old }
+    ensures count { CountsStore (S.failure_count store.old) (S.failure_count store.new) result }
+{
+    let paths = match store.list() {
+        Ok(paths) => paths,
+        Err(StoreFault::Failed) => return Err(JournalFault::Store),
+    };
+    let known = asked_for(alloc, paths.as_slice())?;
+    let back = all_turned_round(alloc, entry.changes())?;
+    add_each(alloc, store, &known, entry, back.as_slice(), files)
+}
+
 // What is put in the place of the files of an entry.
 pub(crate) fn old_files<S: Store>(
     alloc: Global,
@@ -118,18 +172,7 @@ pub(crate) fn old_files<S: Store>(
     ensures same { S.holds store.new ≡ S.holds store.old }
     ensures count { CountsStore (S.failure_count store.old) (S.failure_count store.new) result }
 {
-    let paths = match store.list() {
-        Ok(paths) => paths,
-        Err(StoreFault::Failed) => return Err(JournalFault::Store),
-    };
-    let known = asked_for(alloc, paths.as_slice())?;
-    let changes = entry.changes();
-    let back = all_turned_round(alloc, changes)?;
     let mut files = Vec::new(alloc);
-    for place in 0..changes.len() {
-        if let Some(file) = old_file(alloc, store, &known, &changes[place], &back[place])? {
-            files.push(file)?;
-        }
-    }
+    add_old_files(alloc, store, entry, &mut files)?;
     Ok(files)
 }

@@ -11,7 +11,7 @@ use Rattle.proto_imports.specs.Links.{names_of_files}
 use Rattle.proto_files.proofs.OneReading.{same_tree}
 use Rattle.proto_findings.specs.Readings.{Reading, reading_of, text}
 use Rattle.proto_findings.specs.Views.{found_of}
-use Rattle.proto_file_rules.proofs.ImportLists.{paths_are_strings}
+use Rattle.proto_file_rules.proofs.ImportLists.{on_ok_of, paths_are_strings}
 use Rattle.proto_file_rules.specs.Imports.{import_finds, imports_in}
 use Rattle.proto_file_rules.proofs.imports.add_imports.Goals as goal
 
@@ -30,9 +30,11 @@ add_statements-requires-clause-strings c =
     subst (λ (r : Reading). IsString (text r i.path)) (sym (c.requires.reading reads are)) (paths_are_strings (file_at files file).bytes (read_at reads file).tokens tree (are.trees file c.requires.file) i there))
 
 pub returns : goal.returns
-returns c = λ (reads : List ReadOf) are.
-    (let files = c.args.files.now in
+returns c =
+    let files = c.args.files.now in
     let file = c.args.reading.now.file in
-    let finds = import_finds c.args.rules.now.chosen (names_of_files files reads) (paths_of files) (reading_of c.args.reading.now) file in
-    let same = ap (map (λ i. i.now)) c.deref-2.ensures.value ∙ c.in_ok-statements.ensures ∙ ap imports_in (sym (same_tree files reads file (tree_of_file c.tree.result.now) are c.requires.file c.tree.ensures)) in
-    c.in_ok-add_statements.ensures reads are ∙ ap (λ (is : List Import). map found_of c.args.found.now.items ++ flat_map finds is) same)
+    let finds = λ (reads : List ReadOf). import_finds c.args.rules.now.chosen (names_of_files files reads) (paths_of files) (reading_of c.args.reading.now) file in
+    on_ok_of c.add_statements.result
+    (λ h (reads : List ReadOf) are. h reads are ∙ ap (λ (is : List Import). map found_of c.args.found.now.items ++ flat_map (finds reads) is)
+    (ap (map (λ i. i.now)) c.deref-2.ensures.value ∙ c.in_ok-statements.ensures ∙ ap imports_in (sym (same_tree files reads file (tree_of_file c.tree.result.now) are c.requires.file c.tree.ensures))))
+    c.add_statements.ensures
