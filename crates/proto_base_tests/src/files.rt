@@ -61,15 +61,6 @@ fn is_fault(fault: &SchemaFault, said: &Said) -> bool {
     }
 }
 
-// Whether a call has this fault, or none.
-fn is_answer(fault: &Option<SchemaFault>, said: &Option<Said>) -> bool {
-    match (fault, said) {
-        (None, None) => true,
-        (Some(fault), Some(said)) => is_fault(fault, said),
-        _ => false,
-    }
-}
-
 /// Files: paths and bytes.
 type Given = Vec<(String, Vec<u8>)>;
 
@@ -107,8 +98,11 @@ fn are_paths<R: AllocGlobal + Abort>(
         Some(limit) => Paths::up_to(rt.alloc(), limit.min(4096), given),
         None => Paths::new(rt.alloc(), given),
     };
-    let fault = made.err();
-    is_answer(&fault, said)
+    match (made.err(), said) {
+        (None, None) => true,
+        (Some(fault), Some(said)) => is_fault(&fault, said),
+        _ => false,
+    }
 }
 
 /// How many files there may be, if it is said, their paths, and the fault.
@@ -373,21 +367,7 @@ fn has_value<R: AllocGlobal + Abort>(
     }
 }
 
-// The same of the words of a file, which say of no other value that it is the token's.
-fn says_value<R: AllocGlobal + Abort>(
-    rt: &R,
-    words: &Words,
-    token: u32,
-    value: Option<&str>,
-) -> bool {
-    let said = match value {
-        Some(value) => words.says(token, value.as_bytes()) && !words.says(token, b"proto"),
-        None => !words.says(token, words.get(token).as_bytes()),
-    };
-    let string = words.string(rt.alloc(), token).expect(rt, "memory");
-    said && value == string.as_deref()
-}
-
+// The same, also of the words of the file, which say of no other value that it is the token's.
 fn is_token<R: AllocGlobal + Abort>(
     rt: &R,
     files: &Files,
@@ -395,9 +375,16 @@ fn is_token<R: AllocGlobal + Abort>(
     token: u32,
     value: Option<&str>,
 ) -> bool {
-    (file as usize) < files.len()
-        && says_value(rt, &Words::new(files, file as usize), token, value)
-        && has_value(rt, files, file, token, value)
+    if file as usize >= files.len() {
+        return false;
+    }
+    let words = Words::new(files, file as usize);
+    let said = match value {
+        Some(value) => words.says(token, value.as_bytes()) && !words.says(token, b"proto"),
+        None => !words.says(token, words.get(token).as_bytes()),
+    };
+    let string = words.string(rt.alloc(), token).expect(rt, "memory");
+    said && value == string.as_deref() && has_value(rt, files, file, token, value)
 }
 
 fn is_duplicate<R: AllocGlobal + Abort>(
@@ -432,35 +419,26 @@ fn is_given<R: AllocGlobal + Abort>(rt: &R, files: &Files, answer: &Answer) -> b
     }
 }
 
-// What tells one answer from the others.
-fn name_of(answer: &Answer) -> &'static str {
-    match answer {
-        Answer::Count(_) => "count",
-        Answer::Paths(_) => "paths",
-        Answer::Place(path, _) | Answer::File(_, path, _, _) => path,
-        Answer::Token(_, _, _, text, _) => text,
-        Answer::Duplicate(_, _, Said(_, name, _, _)) => name,
-    }
-}
-
 // The one owner of files.
 fn are_given<R: AllocGlobal + Abort>(rt: &R, texts: &[Text], answer: &Answer) -> bool {
     let files = read(rt, texts).expect(rt, "files");
     is_given(rt, &files, answer)
 }
 
-#[test]
-fn answers_of_files(rt: HostRuntime) {
-    for (texts, answer) in ANSWERS {
-        expect(&rt, are_given(&rt, texts, answer), name_of(answer));
+fn expect_answers<R: AllocGlobal + Abort>(rt: &R, rows: &[(&[Text], Answer)]) {
+    for (row, (texts, answer)) in rows.iter().enumerate() {
+        assert!(rt; are_given(rt, texts, answer), "row {row} from 0");
     }
 }
 
 #[test]
+fn answers_of_files(rt: HostRuntime) {
+    expect_answers(&rt, ANSWERS);
+}
+
+#[test]
 fn texts_and_values_of_tokens(rt: HostRuntime) {
-    for (texts, answer) in TOKENS {
-        expect(&rt, are_given(&rt, texts, answer), name_of(answer));
-    }
+    expect_answers(&rt, TOKENS);
 }
 
 fn twice<T: Copy>(value: T) -> (T, T) {

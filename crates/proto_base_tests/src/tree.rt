@@ -64,20 +64,16 @@ fn is_said(file: &File, said: &Said) -> bool {
     }
 }
 
-fn is_fault(fault: &ParseFault, said: &Said) -> bool {
-    match said {
-        Said::Fault(number, name, offset) => {
-            fault.number() == *number && fault.name() == *name && fault.offset() == *offset
-        }
-        _ => false,
-    }
-}
-
 // Whether this is said of the text.
 fn is_answer<R: AllocGlobal + Abort>(rt: &R, text: &str, said: &Said) -> bool {
     match read(rt, text) {
         Ok(file) => is_said(&file, said),
-        Err(fault) => is_fault(&fault, said),
+        Err(fault) => match said {
+            Said::Fault(number, name, offset) => {
+                fault.number() == *number && fault.name() == *name && fault.offset() == *offset
+            }
+            _ => false,
+        },
     }
 }
 
@@ -152,31 +148,25 @@ fn texts_with_and_without_a_tree(rt: HostRuntime) {
     }
 }
 
-/// Pieces of a text, how often each stands in it, and the fault.
-const DEEP: &[(&[(&str, usize)], Said)] = &[
-    (
-        &[("message M{", 33), ("}", 33)],
-        Said::Fault(9, "TooDeep", 329),
-    ),
-    (&[("{", 33)], Said::Fault(9, "TooDeep", 32)),
+/// A piece of a text, how often it stands there, the same of a piece behind it, and the fault.
+const DEEP: &[(&str, usize, &str, usize, Said)] = &[
+    ("message M{", 33, "}", 33, Said::Fault(9, "TooDeep", 329)),
+    ("{", 33, "", 0, Said::Fault(9, "TooDeep", 32)),
     // A `}` with no brace open closes none.
-    (&[("}", 1), ("{", 33)], Said::Fault(9, "TooDeep", 33)),
+    ("}", 1, "{", 33, Said::Fault(9, "TooDeep", 33)),
 ];
 
-fn joined<R: AllocGlobal + Abort>(rt: &R, pieces: &[(&str, usize)]) -> String {
-    let mut text = String::new(rt.alloc());
-    for (piece, count) in pieces {
-        for _ in 0..*count {
-            text.push_str(piece).expect(rt, "memory");
-        }
-    }
-    text
+// So many of one piece.
+fn repeated<R: AllocGlobal + Abort>(rt: &R, piece: &str, count: usize) -> String {
+    piece.repeat(rt.alloc(), count).expect(rt, "memory")
 }
 
 #[test]
 fn braces_that_are_too_many(rt: HostRuntime) {
-    for (pieces, said) in DEEP {
-        let text = joined(&rt, pieces);
+    for (first, count, second, more, said) in DEEP {
+        let mut text = repeated(&rt, first, *count);
+        let behind = repeated(&rt, second, *more);
+        text.push_str(behind.as_str()).expect(&rt, "memory");
         expect(&rt, is_answer(&rt, text.as_str(), said), text.as_str());
     }
 }

@@ -1,121 +1,83 @@
 //! The public calls, with what tests say of their answers.
 
-use proto_faults::{Fault, NoMemory, SchemaFault};
+use proto_faults::SchemaFault;
 use proto_files::{Files, Paths};
 use proto_names::{Kind, Link, RefId, SymbolId};
-use std::alloc::Global;
 use std::fmt::Write;
 use std::process::Abort;
 
-/// Puts a file behind others.
-pub(crate) fn add(
-    alloc: Global,
-    files: &mut Vec<(String, Vec<u8>)>,
-    path: &str,
-    text: &str,
-) -> Result<(), NoMemory> {
-    let path = String::from_str(alloc, path)?;
-    files.push((path, Vec::from_slice(alloc, text.as_bytes())?))?;
-    Ok(())
-}
-
-fn add_all(
-    alloc: Global,
-    files: &mut Vec<(String, Vec<u8>)>,
-    texts: &[(&str, &str)],
-) -> Result<(), NoMemory> {
-    for &(path, text) in texts {
-        add(alloc, files, path, text)?;
-    }
-    Ok(())
-}
-
 /// Files for a workspace: paths and texts.
-pub(crate) fn given(
-    alloc: Global,
-    texts: &[(&str, &str)],
-) -> Result<Vec<(String, Vec<u8>)>, NoMemory> {
-    let mut files = Vec::new(alloc);
-    add_all(alloc, &mut files, texts)?;
-    Ok(files)
+pub(crate) type Given = Vec<(String, Vec<u8>)>;
+
+/// Puts a file behind others.
+pub(crate) fn add<R: AllocGlobal + Abort>(rt: &R, files: &mut Given, path: &str, text: &str) {
+    let path = String::from_str(rt.alloc(), path).expect(rt, "memory");
+    let text = Vec::from_slice(rt.alloc(), text.as_bytes()).expect(rt, "memory");
+    files.push((path, text)).expect(rt, "memory");
+}
+
+/// Files that are written as one text, `|` between them: the path of each, a space, and its text.
+pub(crate) fn given<R: AllocGlobal + Abort>(rt: &R, texts: &str) -> Given {
+    let mut files = Vec::new(rt.alloc());
+    for file in texts.split('|') {
+        let (path, text) = file.split_once(' ').expect(rt, "a path");
+        add(rt, &mut files, path, text);
+    }
+    files
 }
 
 /// The files of a workspace, read.
-pub(crate) fn read(alloc: Global, given: Vec<(String, Vec<u8>)>) -> Result<Files, SchemaFault> {
-    let paths = Paths::new(alloc, given)?;
-    Files::read(alloc, paths)
+pub(crate) fn read<R: AllocGlobal>(rt: &R, given: Given) -> Result<Files, SchemaFault> {
+    let paths = Paths::new(rt.alloc(), given)?;
+    Files::read(rt.alloc(), paths)
 }
 
-// The link of the files tells each row.
-fn expect_link<R: AllocGlobal + Abort>(
-    rt: &R,
-    files: &Files,
-    rows: &[Told],
-) -> Result<(), SchemaFault> {
-    let link = Link::new(rt.alloc(), files)?;
-    expect_rows(rt, &link, files, rows)
+// The one owner of files and their link, which tells each row.
+fn link<R: AllocGlobal + Abort>(rt: &R, given: Given, rows: &[Told]) -> Result<(), SchemaFault> {
+    let files = read(rt, given)?;
+    let link = Link::new(rt.alloc(), &files)?;
+    expect_rows(rt, &link, &files, rows);
+    Ok(())
 }
 
 /// Links the files, and asks for each row.
-pub(crate) fn expect_linked<R: AllocGlobal + Abort>(
-    rt: &R,
-    given: Vec<(String, Vec<u8>)>,
-    rows: &[Told],
-) -> Result<(), SchemaFault> {
-    let files = read(rt.alloc(), given)?;
-    expect_link(rt, &files, rows)
+pub(crate) fn expect_linked<R: AllocGlobal + Abort>(rt: &R, given: Given, rows: &[Told]) {
+    link(rt, given, rows).expect(rt, "a link");
 }
 
-/// The same of files by paths and texts.
-pub(crate) fn expect_told<R: AllocGlobal + Abort>(
-    rt: &R,
-    texts: &[(&str, &str)],
-    rows: &[Told],
-) -> Result<(), SchemaFault> {
-    expect_linked(rt, given(rt.alloc(), texts)?, rows)
+/// The same of files that are written as one text.
+pub(crate) fn expect_told<R: AllocGlobal + Abort>(rt: &R, texts: &str, rows: &[Told]) {
+    expect_linked(rt, given(rt, texts), rows);
 }
 
-// A fault as `path:offset: number name`.
-fn fault_text(alloc: Global, fault: &Fault) -> Result<String, NoMemory> {
-    let (offset, number, name) = (fault.offset, fault.number(), fault.name());
-    let path = fault.path.as_str();
-    Ok(format!(in alloc; "{path}:{offset}: {number} {name}")?)
+/// Ends the test with the row unless this was found.
+pub(crate) fn expect_text<R: Abort>(rt: &R, row: &str, found: &str, said: &str) {
+    assert!(rt; found == said, "{row}: {found}, not {said}");
 }
 
-// `links`, or the fault.
-fn answer<R: AllocGlobal + Abort>(
-    rt: &R,
-    given: Vec<(String, Vec<u8>)>,
-) -> Result<String, NoMemory> {
-    match expect_linked(rt, given, &[]) {
-        Ok(()) => Ok(String::from_str(rt.alloc(), "links")?),
-        Err(SchemaFault::Schema(fault)) => fault_text(rt.alloc(), &fault),
-        Err(SchemaFault::NoMemory) => Err(NoMemory),
+/// The files link, or have this fault, as `path:offset: number name`.
+pub(crate) fn expect<R: AllocGlobal + Abort>(rt: &R, given: Given, said: &str) {
+    match link(rt, given, &[]) {
+        Ok(()) => expect_text(rt, "files", "links", said),
+        Err(SchemaFault::Schema(fault)) => {
+            let (offset, number, name) = (fault.offset, fault.number(), fault.name());
+            let path = fault.path.as_str();
+            let found = format!(in rt.alloc(); "{path}:{offset}: {number} {name}").expect(
+                rt, "memory",
+            );
+            expect_text(rt, "files", found.as_str(), said);
+        }
+        Err(SchemaFault::NoMemory) => expect_text(rt, "files", "no memory", said),
     }
 }
 
-/// The files link, or have this fault.
-pub(crate) fn expect<R: AllocGlobal + Abort>(
-    rt: &R,
-    given: Vec<(String, Vec<u8>)>,
-    said: &str,
-) -> Result<(), NoMemory> {
-    let found = answer(rt, given)?;
-    assert_eq!(rt; found.as_str(), said);
-    Ok(())
-}
+/// Files that are written as one text, and what is answered for them.
+pub(crate) type Answer = (&'static str, &'static str);
 
-/// Files, and what is answered for them.
-pub(crate) type Answer = (&'static [(&'static str, &'static str)], &'static str);
-
-pub(crate) fn expect_answers<R: AllocGlobal + Abort>(
-    rt: &R,
-    rows: &[Answer],
-) -> Result<(), NoMemory> {
-    for &(texts, said) in rows {
-        expect(rt, given(rt.alloc(), texts)?, said)?;
+pub(crate) fn expect_answers<R: AllocGlobal + Abort>(rt: &R, rows: &[Answer]) {
+    for (texts, said) in rows {
+        expect(rt, given(rt, texts), said);
     }
-    Ok(())
 }
 
 fn kind_name(kind: Kind) -> &'static str {
@@ -133,60 +95,63 @@ fn kind_name(kind: Kind) -> &'static str {
     }
 }
 
+fn put<R: Abort>(rt: &R, out: &mut String, text: &str) {
+    out.push_str(text).expect(rt, "memory");
+}
+
 // A place as `path:offset`.
-fn tell_token(out: &mut String, files: &Files, file: u32, token: u32) -> Result<(), NoMemory> {
+fn tell_token<R: Abort>(rt: &R, out: &mut String, files: &Files, file: u32, token: u32) {
     let file = file as usize;
     if file >= files.len() {
-        return Ok(out.push_str("no file")?);
+        put(rt, out, "no file");
+        return;
     }
     let path = files.path(file);
     match files.tokens(file).get(token as usize) {
-        Some(token) => Ok(write!(out, "{path}:{}", token.span.start)?),
-        None => Ok(out.push_str("no token")?),
+        Some(token) => write!(out, "{path}:{}", token.span.start).expect(rt, "memory"),
+        None => put(rt, out, "no token"),
     }
 }
 
 // What a link says of a name: `name kind path:offset`.
-fn tell_id(out: &mut String, link: &Link, files: &Files, id: SymbolId) -> Result<(), NoMemory> {
+fn tell_id<R: Abort>(rt: &R, out: &mut String, link: &Link, files: &Files, id: SymbolId) {
     let name = link.name_of(id).unwrap_or("no name");
     let kind = match link.kind_of(id) {
         Some(kind) => kind_name(kind),
         None => "no kind",
     };
-    write!(out, "{name} {kind} ")?;
+    write!(out, "{name} {kind} ").expect(rt, "memory");
     match (link.file_of(id), link.token_of(id)) {
-        (Some(file), Some(token)) => tell_token(out, files, file, token),
-        (None, None) => Ok(out.push_str("nowhere")?),
-        _ => Ok(out.push_str("half a place")?),
+        (Some(file), Some(token)) => tell_token(rt, out, files, file, token),
+        (None, None) => put(rt, out, "nowhere"),
+        _ => put(rt, out, "half a place"),
     }
 }
 
 // References: `path:offset` each, joined by commas.
-fn tell_references(out: &mut String, files: &Files, references: &[RefId]) -> Result<(), NoMemory> {
+fn tell_references<R: Abort>(rt: &R, out: &mut String, files: &Files, references: &[RefId]) {
     for reference in references {
         if !out.is_empty() {
-            out.push_str(",")?;
+            put(rt, out, ",");
         }
-        tell_token(out, files, reference.file, reference.token)?;
+        tell_token(rt, out, files, reference.file, reference.token);
     }
-    Ok(())
 }
 
 // What the references of a file mean: `path:offset name` each, joined by commas.
-fn tell_meant(out: &mut String, link: &Link, files: &Files, file: u32) -> Result<(), NoMemory> {
+fn tell_meant<R: Abort>(rt: &R, out: &mut String, link: &Link, files: &Files, file: u32) {
     for meant in link.meant_in(file) {
         if !out.is_empty() {
-            out.push_str(",")?;
+            put(rt, out, ",");
         }
-        tell_token(out, files, file, meant.token())?;
-        let name = link.name_of(meant.symbol()).unwrap_or("no name");
-        write!(out, " {name}")?;
+        tell_token(rt, out, files, file, meant.token());
+        put(rt, out, " ");
+        put(rt, out, link.name_of(meant.symbol()).unwrap_or("no name"));
     }
-    Ok(())
 }
 
 /// What a link is asked.
-#[derive(Clone, Copy)]
+#[derive(Drop)]
 pub(crate) enum Ask {
     /// What the name is.
     Name,
@@ -207,51 +172,37 @@ pub(crate) enum Ask {
 /// What is asked, of which name, and the answer.
 pub(crate) type Told = (Ask, &'static str, &'static str);
 
-fn tell(
-    out: &mut String,
-    link: &Link,
-    files: &Files,
-    ask: Ask,
-    name: &str,
-) -> Result<(), NoMemory> {
-    match (ask, link.symbol(name)) {
-        (Ask::Name, Some(id)) | (Ask::Other(id), _) => tell_id(out, link, files, id),
-        (Ask::References, Some(id)) | (Ask::OtherReferences(id), _) => {
-            tell_references(out, files, link.references(id))
-        }
-        (Ask::Name | Ask::References, None) => Ok(out.push_str("unknown")?),
-        (Ask::MeantIn(file), _) => tell_meant(out, link, files, file),
-        (Ask::Seen(file), _) if link.visible(file, name) => Ok(out.push_str("seen")?),
-        (Ask::Seen(_), _) => Ok(out.push_str("not seen")?),
-        (Ask::Meant(file, token), _) => {
-            let meant = link.meant(file, token);
+// What the link says of a name of its own.
+fn tell_name<R: Abort>(rt: &R, out: &mut String, link: &Link, files: &Files, row: &Told) {
+    let (ask, name, _) = row;
+    match (link.symbol(name), ask) {
+        (Some(id), Ask::Name) => tell_id(rt, out, link, files, id),
+        (Some(id), _) => tell_references(rt, out, files, link.references(id)),
+        (None, _) => put(rt, out, "unknown"),
+    }
+}
+
+fn tell<R: Abort>(rt: &R, out: &mut String, link: &Link, files: &Files, row: &Told) {
+    let (ask, name, _) = row;
+    match ask {
+        Ask::Name | Ask::References => tell_name(rt, out, link, files, row),
+        Ask::Other(id) => tell_id(rt, out, link, files, *id),
+        Ask::OtherReferences(id) => tell_references(rt, out, files, link.references(*id)),
+        Ask::MeantIn(file) => tell_meant(rt, out, link, files, *file),
+        Ask::Seen(file) if link.visible(*file, name) => put(rt, out, "seen"),
+        Ask::Seen(_) => put(rt, out, "not seen"),
+        Ask::Meant(file, token) => {
+            let meant = link.meant(*file, *token);
             let name = meant.and_then(|id| link.name_of(id));
-            Ok(out.push_str(name.unwrap_or("nothing"))?)
+            put(rt, out, name.unwrap_or("nothing"));
         }
     }
 }
 
-fn expect_row<R: AllocGlobal + Abort>(
-    rt: &R,
-    link: &Link,
-    files: &Files,
-    row: &Told,
-) -> Result<(), NoMemory> {
-    let (ask, name, said) = *row;
-    let mut found = String::new(rt.alloc());
-    tell(&mut found, link, files, ask, name)?;
-    assert_eq!(rt; found.as_str(), said, "{name}");
-    Ok(())
-}
-
-fn expect_rows<R: AllocGlobal + Abort>(
-    rt: &R,
-    link: &Link,
-    files: &Files,
-    rows: &[Told],
-) -> Result<(), SchemaFault> {
+fn expect_rows<R: AllocGlobal + Abort>(rt: &R, link: &Link, files: &Files, rows: &[Told]) {
     for row in rows {
-        expect_row(rt, link, files, row)?;
+        let mut found = String::new(rt.alloc());
+        tell(rt, &mut found, link, files, row);
+        expect_text(rt, row.1, found.as_str(), row.2);
     }
-    Ok(())
 }

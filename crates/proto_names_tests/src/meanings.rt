@@ -1,191 +1,112 @@
 //! What references mean, and those that mean nothing.
 
 use super::calls::{Answer, Ask, expect_answers, expect_told};
-use std::test::Fail;
-
-const B: (&str, &str) = ("b.proto", "syntax = \"proto3\"; package b; message X {}");
-
-const C: (&str, &str) = ("c.proto", "syntax = \"proto3\"; package a.b;");
-
-// A file that refers to `C`, a file that declares it, and public imports.
-const A: (&str, &str) = (
-    "a.proto",
-    "syntax = \"proto3\"; import \"b.proto\"; message A { C c = 1; }",
-);
-
-const OF_C: &str = "syntax = \"proto3\"; message C {}";
-
-const TO_C: &str = "syntax = \"proto3\"; import public \"c.proto\";";
 
 const ROWS: &[Answer] = &[
     // The longest scope decides, beside files of the packages `b` and `a.b`.
     (
-        &[
-            (
-                "a.proto",
-                "syntax = \"proto3\"; package a; import \"b.proto\"; message A { b.X f = 1; }",
-            ),
-            B,
-            C,
-        ],
+        r#"a.proto syntax = "proto3"; package a; import "b.proto"; message A { b.X f = 1; }|b.proto syntax = "proto3"; package b; message X {}|c.proto syntax = "proto3"; package a.b;"#,
         "links",
     ),
     (
-        &[
-            (
-                "a.proto",
-                "syntax = \"proto3\"; package a; import \"b.proto\"; message A { message b {} b.X f = 1; }",
-            ),
-            B,
-            C,
-        ],
+        r#"a.proto syntax = "proto3"; package a; import "b.proto"; message A { message b {} b.X f = 1; }|b.proto syntax = "proto3"; package b; message X {}|c.proto syntax = "proto3"; package a.b;"#,
         "a.proto:73: 14 Unresolved",
     ),
     (
-        &[
-            (
-                "a.proto",
-                "syntax = \"proto3\"; package a; import \"b.proto\"; import \"c.proto\"; message A { b.X f = 1; }",
-            ),
-            B,
-            C,
-        ],
+        r#"a.proto syntax = "proto3"; package a; import "b.proto"; import "c.proto"; message A { b.X f = 1; }|b.proto syntax = "proto3"; package b; message X {}|c.proto syntax = "proto3"; package a.b;"#,
         "a.proto:78: 14 Unresolved",
     ),
     (
-        &[
-            (
-                "a.proto",
-                "syntax = \"proto3\"; package a; import \"b.proto\"; import \"c.proto\"; message A { .b.X f = 1; }",
-            ),
-            B,
-            C,
-        ],
+        r#"a.proto syntax = "proto3"; package a; import "b.proto"; import "c.proto"; message A { .b.X f = 1; }|b.proto syntax = "proto3"; package b; message X {}|c.proto syntax = "proto3"; package a.b;"#,
         "links",
     ),
     // Through public imports.
     (
-        &[A, ("b.proto", TO_C), ("c.proto", OF_C), ("d.proto", "")],
+        r#"a.proto syntax = "proto3"; import "b.proto"; message A { C c = 1; }|b.proto syntax = "proto3"; import public "c.proto";|c.proto syntax = "proto3"; message C {}|d.proto "#,
         "links",
     ),
     (
-        &[
-            A,
-            ("b.proto", TO_C),
-            ("c.proto", "import public \"d.proto\";"),
-            ("d.proto", OF_C),
-        ],
+        r#"a.proto syntax = "proto3"; import "b.proto"; message A { C c = 1; }|b.proto syntax = "proto3"; import public "c.proto";|c.proto import public "d.proto";|d.proto syntax = "proto3"; message C {}"#,
         "links",
     ),
     (
-        &[
-            A,
-            ("b.proto", "import \"c.proto\";"),
-            ("c.proto", OF_C),
-            ("d.proto", ""),
-        ],
+        r#"a.proto syntax = "proto3"; import "b.proto"; message A { C c = 1; }|b.proto import "c.proto";|c.proto syntax = "proto3"; message C {}|d.proto "#,
         "a.proto:49: 14 Unresolved",
     ),
     (
-        &[
-            A,
-            ("b.proto", TO_C),
-            ("c.proto", "import \"d.proto\";"),
-            ("d.proto", OF_C),
-        ],
+        r#"a.proto syntax = "proto3"; import "b.proto"; message A { C c = 1; }|b.proto syntax = "proto3"; import public "c.proto";|c.proto import "d.proto";|d.proto syntax = "proto3"; message C {}"#,
         "a.proto:49: 14 Unresolved",
     ),
     (
-        &[A, ("b.proto", ""), ("c.proto", OF_C), ("d.proto", "")],
+        r#"a.proto syntax = "proto3"; import "b.proto"; message A { C c = 1; }|b.proto |c.proto syntax = "proto3"; message C {}|d.proto "#,
         "a.proto:49: 14 Unresolved",
     ),
     // What fits decides.
     // of one word
     (
-        &[(
-            "a.proto",
-            "message A {} message M { optional int32 A = 1; optional A x = 2; }",
-        )],
+        "a.proto message A {} message M { optional int32 A = 1; optional A x = 2; }",
         "links",
     ),
     (
-        &[(
-            "a.proto",
-            "message A {} message M { enum E { A = 0; } optional A x = 2; }",
-        )],
+        "a.proto message A {} message M { enum E { A = 0; } optional A x = 2; }",
         "links",
     ),
     (
-        &[(
-            "a.proto",
-            "message A {} message M { oneof A { int32 n = 1; } optional A x = 2; }",
-        )],
+        "a.proto message A {} message M { oneof A { int32 n = 1; } optional A x = 2; }",
         "links",
     ),
     (
-        &[("a.proto", "package p; message M { optional p x = 1; }")],
+        "a.proto package p; message M { optional p x = 1; }",
         "a.proto:32: 14 Unresolved",
     ),
     (
-        &[("a.proto", "package p; message p { optional p x = 1; }")],
+        "a.proto package p; message p { optional p x = 1; }",
         "links",
     ),
     (
-        &[(
-            "a.proto",
-            "service S { rpc M (M) returns (.M); } message M {}",
-        )],
+        "a.proto service S { rpc M (M) returns (.M); } message M {}",
         "links",
     ),
     // of more words
     (
-        &[(
-            "a.proto",
-            "message A { message B {} } message M { optional int32 A = 1; optional A.B x = 2; }",
-        )],
+        "a.proto message A { message B {} } message M { optional int32 A = 1; optional A.B x = 2; }",
         "links",
     ),
     (
-        &[(
-            "a.proto",
-            "message A { message B {} } message M { message A {} optional A.B x = 2; }",
-        )],
+        "a.proto message A { message B {} } message M { message A {} optional A.B x = 2; }",
         "a.proto:61: 14 Unresolved",
     ),
     (
-        &[(
-            "a.proto",
-            "message A { message B {} } message M { enum A { V = 0; } optional A.B x = 2; }",
-        )],
+        "a.proto message A { message B {} } message M { enum A { V = 0; } optional A.B x = 2; }",
         "a.proto:66: 14 Unresolved",
     ),
     (
-        &[("a.proto", "package p; message p { optional p.p x = 1; }")],
+        "a.proto package p; message p { optional p.p x = 1; }",
         "a.proto:32: 14 Unresolved",
     ),
     (
-        &[("a.proto", "package p; message p { optional .p.p x = 1; }")],
+        "a.proto package p; message p { optional .p.p x = 1; }",
         "links",
     ),
     (
-        &[("a.proto", "package p; message M { optional .M x = 1; }")],
+        "a.proto package p; message M { optional .M x = 1; }",
         "a.proto:32: 14 Unresolved",
     ),
 ];
 
 #[test]
-fn what_references_mean(rt: HostRuntime) -> Result<(), Fail> {
-    Ok(expect_answers(&rt, ROWS)?)
+fn what_references_mean(rt: HostRuntime) {
+    expect_answers(&rt, ROWS);
 }
 
 const FIELD: &str =
-    "package p; message foo {} message A { optional string foo = 1; optional foo x = 2; }";
+    "a.proto package p; message foo {} message A { optional string foo = 1; optional foo x = 2; }";
 
 #[test]
-fn a_field_does_not_fit(rt: HostRuntime) -> Result<(), Fail> {
-    Ok(expect_told(
+fn a_field_does_not_fit(rt: HostRuntime) {
+    expect_told(
         &rt,
-        &[("a.proto", FIELD)],
+        FIELD,
         &[
             (Ask::References, "p.foo", "a.proto:72"),
             (Ask::References, "p.A.foo", ""),
@@ -193,27 +114,15 @@ fn a_field_does_not_fit(rt: HostRuntime) -> Result<(), Fail> {
             (Ask::References, "p", ""),
             (Ask::References, "foo", "unknown"),
         ],
-    )?)
+    );
 }
 
-const TEXTS: &[(&str, &str)] = &[
-    (
-        "b.proto",
-        "message M { optional M x = 1; message N { optional .M y = 1; } oneof o { M z = 2; } }",
-    ),
-    (
-        "c.proto",
-        "import \"b.proto\"; service S { rpc R (.M) returns (stream M.N); } message T { map<string,M> m = 1; }",
-    ),
-    (
-        "a.proto",
-        "import \"b.proto\"; message A { repeated M . N n = 1; repeated . M m = 2; }",
-    ),
-];
+const TEXTS: &str =
+    r#"b.proto message M { optional M x = 1; message N { optional .M y = 1; } oneof o { M z = 2; } }|c.proto import "b.proto"; service S { rpc R (.M) returns (stream M.N); } message T { map<string,M> m = 1; }|a.proto import "b.proto"; message A { repeated M . N n = 1; repeated . M m = 2; }"#;
 
 #[test]
-fn references_by_file_and_place(rt: HostRuntime) -> Result<(), Fail> {
-    Ok(expect_told(
+fn references_by_file_and_place(rt: HostRuntime) {
+    expect_told(
         &rt,
         TEXTS,
         &[
@@ -245,5 +154,5 @@ fn references_by_file_and_place(rt: HostRuntime) -> Result<(), Fail> {
             (Ask::Meant(3, 7), "", "nothing"),
             (Ask::Meant(4_294_967_295, 4_294_967_295), "", "nothing"),
         ],
-    )?)
+    );
 }

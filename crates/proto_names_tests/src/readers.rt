@@ -1,14 +1,11 @@
 //! What a link says of names.
 
 use super::calls::{Ask, Told, expect_told, given, read};
-use proto_faults::SchemaFault;
-use proto_files::Files;
 use proto_names::{Link, SymbolId};
-use std::alloc::Global;
-use std::test::Fail;
+use std::process::Abort;
 
 const SCHEMA: &str =
-    "syntax = \"proto3\"; package p.q; message M { message N {} map<string,N> n_to = 1; oneof o { int32 a = 2; } enum E { V = 0; } } service S { rpc R (M) returns (M.N); } enum F { W = 0; }";
+    r#"a.proto syntax = "proto3"; package p.q; message M { message N {} map<string,N> n_to = 1; oneof o { int32 a = 2; } enum E { V = 0; } } service S { rpc R (M) returns (M.N); } enum F { W = 0; }"#;
 
 const NAMES: &[Told] = &[
     (Ask::Name, "p", "p package nowhere"),
@@ -61,42 +58,35 @@ const NAMES: &[Told] = &[
 ];
 
 #[test]
-fn names_of_a_schema(rt: HostRuntime) -> Result<(), Fail> {
-    Ok(expect_told(&rt, &[("a.proto", SCHEMA)], NAMES)?)
+fn names_of_a_schema(rt: HostRuntime) {
+    expect_told(&rt, SCHEMA, NAMES);
 }
 
-// The last name of the schema, in the link of these files.
-fn last_in(alloc: Global, files: &Files) -> Result<Option<SymbolId>, SchemaFault> {
-    let link = Link::new(alloc, files)?;
-    Ok(link.symbol("p.q.W"))
-}
-
-fn last_name(alloc: Global) -> Result<Option<SymbolId>, SchemaFault> {
-    let files = read(alloc, given(alloc, &[("a.proto", SCHEMA)])?)?;
-    last_in(alloc, &files)
+// The last name of the schema, in its link.
+fn last_name<R: AllocGlobal + Abort>(rt: &R) -> SymbolId {
+    let files = read(rt, given(rt, SCHEMA)).expect(rt, "files");
+    let link = Link::new(rt.alloc(), &files).expect(rt, "a link");
+    link.symbol("p.q.W").expect(rt, "a name")
 }
 
 #[test]
-fn names_of_another_link(rt: HostRuntime) -> Result<(), Fail> {
-    let id = last_name(rt.alloc())?.ok_or("no name")?;
-    Ok(expect_told(
-        &rt,
-        &[("a.proto", "message M {}")],
-        &[
-            (Ask::Other(id), "", "no name no kind nowhere"),
-            (Ask::OtherReferences(id), "", ""),
-        ],
-    )?)
+fn names_of_another_link(rt: HostRuntime) {
+    let id = last_name(&rt);
+    let rows: [Told; 2] = [
+        (Ask::Other(id), "", "no name no kind nowhere"),
+        (Ask::OtherReferences(id), "", ""),
+    ];
+    expect_told(&rt, "a.proto message M {}", &rows);
 }
 
 const MAPS: &str =
-    "message M { map<int32,int32> _1 = 1; map<int32,int32> FooEntry = 2; map<int32,int32> a__bC_ = 3; map<int32,int32> _ = 4; }";
+    "a.proto message M { map<int32,int32> _1 = 1; map<int32,int32> FooEntry = 2; map<int32,int32> a__bC_ = 3; map<int32,int32> _ = 4; }";
 
 #[test]
-fn names_of_maps(rt: HostRuntime) -> Result<(), Fail> {
-    Ok(expect_told(
+fn names_of_maps(rt: HostRuntime) {
+    expect_told(
         &rt,
-        &[("a.proto", MAPS)],
+        MAPS,
         &[
             (Ask::Name, "M.1Entry", "M.1Entry entry a.proto:29"),
             (Ask::Name, "M.FooEntry", "M.FooEntry field a.proto:54"),
@@ -113,18 +103,15 @@ fn names_of_maps(rt: HostRuntime) -> Result<(), Fail> {
                 "M.Entry.value entry field a.proto:114",
             ),
         ],
-    )?)
+    );
 }
 
-const PACKAGES: &[(&str, &str)] = &[
-    ("b.proto", "package p; message B {}"),
-    ("a.proto", "package p.q.r; message A {}"),
-    ("a/c.proto", "message C {}"),
-];
+const PACKAGES: &str =
+    "b.proto package p; message B {}|a.proto package p.q.r; message A {}|a/c.proto message C {}";
 
 #[test]
-fn packages_of_many_files(rt: HostRuntime) -> Result<(), Fail> {
-    Ok(expect_told(
+fn packages_of_many_files(rt: HostRuntime) {
+    expect_told(
         &rt,
         PACKAGES,
         &[
@@ -136,5 +123,5 @@ fn packages_of_many_files(rt: HostRuntime) -> Result<(), Fail> {
             (Ask::Name, "C", "C message a/c.proto:8"),
             (Ask::Name, "p.q.A", "unknown"),
         ],
-    )?)
+    );
 }

@@ -1,27 +1,19 @@
 //! What a reference means in scopes that are given, declared or not.
 
-ghost use Rattle.std.specs.Prelude.{◌≡◌, ℕ, List, IfOk};
+ghost use Rattle.std.specs.Prelude.{◌≡◌, ℕ, List};
 ghost use Rattle.proto_meaning.specs.Joined.{joined, ArePlain};
 ghost use Rattle.proto_names.specs.LinkOfFiles.{IsLinkOf};
 
-use super::calls::{given, read};
+use super::calls::{expect_text, given, read};
+use proto_faults::NoMemory;
 use proto_files::{Files, Words};
 use proto_names::Link;
 use proto_tree::{Behind, Reference, Separated, Sequence};
 use std::alloc::Global;
 use std::process::Abort;
-use std::test::Fail;
 
-const TEXTS: [(&str, &str); 2] = [
-    (
-        "a.proto",
-        "package p; message foo {} message A { message foo {} optional foo x = 1; }",
-    ),
-    (
-        "b.proto",
-        "message b { message X {} } message A { message b {} optional .b.X y = 2; }",
-    ),
-];
+const TEXTS: &str =
+    "a.proto package p; message foo {} message A { message foo {} optional foo x = 1; }|b.proto message b { message X {} } message A { message b {} optional .b.X y = 2; }";
 
 // The token of the type of `x`.
 const FIELD_TYPE: u32 = 15;
@@ -35,23 +27,17 @@ const SEPARATOR: u32 = 18;
 
 const INNER: u32 = 19;
 
-fn link(alloc: Global, files: &Files) -> Result<Link, Fail>
-    ensures { IfOk result (IsLinkOf files.now) }
-{
-    Ok(Link::new(alloc, files)?)
-}
-
 // What the type of `x`, as a reference, means in a scope; it need not be that of `x`.
-fn meant<'a>(alloc: Global, link: &'a Link, files: &Files, scope: &str) -> Result<&'a str, Fail>
+fn meant<'a>(alloc: Global, link: &'a Link, files: &Files, scope: &str) -> &'a str
     requires link { IsLinkOf files.now link.now }
     requires scope { (path : List (List ℕ)) × ArePlain path × (scope.now ≡ joined path) }
 {
     if files.is_empty() {
-        return Err(Fail::from("no file"));
+        return "no file";
     }
     let words = Words::new(files, 0);
     if words.get(FIELD_TYPE) != "foo" {
-        return Err(Fail::from("another word"));
+        return "another word";
     }
     let reference = Reference {
         dot: None,
@@ -61,8 +47,8 @@ fn meant<'a>(alloc: Global, link: &'a Link, files: &Files, scope: &str) -> Resul
         },
     };
     match link.resolve(files, 0, scope, &reference) {
-        Some(id) => Ok(link.name_of(id).unwrap_or("no name")),
-        None => Ok("nothing"),
+        Some(id) => link.name_of(id).unwrap_or("no name"),
+        None => "nothing",
     }
 }
 
@@ -73,19 +59,19 @@ fn meant_of_two<'a>(
     files: &Files,
     scope: &str,
     dot: Option<u32>,
-) -> Result<&'a str, Fail>
+) -> Result<&'a str, NoMemory>
     requires link { IsLinkOf files.now link.now }
     requires scope { (path : List (List ℕ)) × ArePlain path × (scope.now ≡ joined path) }
 {
     if files.len() < 2 {
-        return Err(Fail::from("no second file"));
+        return Ok("no second file");
     }
     let words = Words::new(files, 1);
     if words.get(OUTER) != "b" {
-        return Err(Fail::from("another first word"));
+        return Ok("another first word");
     }
     if words.get(INNER) != "X" {
-        return Err(Fail::from("another second word"));
+        return Ok("another second word");
     }
     let mut rest = Sequence::new(alloc);
     rest.push(Behind {
@@ -102,49 +88,40 @@ fn meant_of_two<'a>(
     }
 }
 
-fn expect_name<R: AllocGlobal + Abort>(rt: &R, found: &str, said: &str) {
-    assert_eq!(rt; found, said);
-}
-
 // A scope need not be declared.
-fn expect_scopes<R: AllocGlobal + Abort>(rt: &R, link: &Link, files: &Files) -> Result<(), Fail>
+fn expect_scopes<R: AllocGlobal + Abort>(rt: &R, link: &Link, files: &Files)
     requires { IsLinkOf files.now link.now }
 {
     let alloc = rt.alloc();
-    expect_name(rt, meant(alloc, link, files, "p.A")?, "p.A.foo");
-    expect_name(rt, meant(alloc, link, files, "p")?, "p.foo");
-    expect_name(rt, meant(alloc, link, files, "")?, "nothing");
-    expect_name(rt, meant(alloc, link, files, "p.zzz.y")?, "p.foo");
-    expect_name(rt, meant(alloc, link, files, "q")?, "nothing");
-    Ok(())
+    expect_text(rt, "p.A", meant(alloc, link, files, "p.A"), "p.A.foo");
+    expect_text(rt, "p", meant(alloc, link, files, "p"), "p.foo");
+    expect_text(rt, "", meant(alloc, link, files, ""), "nothing");
+    expect_text(rt, "p.zzz.y", meant(alloc, link, files, "p.zzz.y"), "p.foo");
+    expect_text(rt, "q", meant(alloc, link, files, "q"), "nothing");
 }
 
 // Below `A` the first word means `A.b`, which has no `X`: the search does not go on outward. An absolute reference is not
 // looked for in the scope.
-fn expect_nearest<R: AllocGlobal + Abort>(rt: &R, link: &Link, files: &Files) -> Result<(), Fail>
+fn expect_nearest<R: AllocGlobal + Abort>(rt: &R, link: &Link, files: &Files)
     requires { IsLinkOf files.now link.now }
 {
     let alloc = rt.alloc();
-    expect_name(rt, meant_of_two(alloc, link, files, "A", None)?, "nothing");
-    expect_name(rt, meant_of_two(alloc, link, files, "", None)?, "b.X");
-    expect_name(rt, meant_of_two(alloc, link, files, "A", Some(DOT))?, "b.X");
-    Ok(())
+    let below = meant_of_two(alloc, link, files, "A", None).expect(rt, "memory");
+    expect_text(rt, "A", below, "nothing");
+    let outside = meant_of_two(alloc, link, files, "", None).expect(rt, "memory");
+    expect_text(rt, "", outside, "b.X");
+    let absolute = meant_of_two(alloc, link, files, "A", Some(DOT)).expect(rt, "memory");
+    expect_text(rt, "A", absolute, "b.X");
 }
 
-fn expect_meant<R: AllocGlobal + Abort>(rt: &R, link: &Link, files: &Files) -> Result<(), Fail>
-    requires { IsLinkOf files.now link.now }
-{
-    expect_scopes(rt, link, files)?;
-    expect_nearest(rt, link, files)
-}
-
-fn expect_linked<R: AllocGlobal + Abort>(rt: &R, files: &Files) -> Result<(), Fail> {
-    let link = link(rt.alloc(), files)?;
-    expect_meant(rt, &link, files)
+fn expect_meant<R: AllocGlobal + Abort>(rt: &R, files: &Files) {
+    let link = Link::new(rt.alloc(), files).expect(rt, "a link");
+    expect_scopes(rt, &link, files);
+    expect_nearest(rt, &link, files);
 }
 
 #[test]
-fn references_in_given_scopes(rt: HostRuntime) -> Result<(), Fail> {
-    let files = read(rt.alloc(), given(rt.alloc(), &TEXTS)?)?;
-    expect_linked(&rt, &files)
+fn references_in_given_scopes(rt: HostRuntime) {
+    let files = read(&rt, given(&rt, TEXTS)).expect(&rt, "files");
+    expect_meant(&rt, &files);
 }

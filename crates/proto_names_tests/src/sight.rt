@@ -1,28 +1,10 @@
 //! Which files see which names.
 
 use super::calls::{Ask, Told, expect_told};
-use std::test::Fail;
 
 // In the order of their paths, which is that of their numbers.
-const TEXTS: [(&str, &str); 5] = [
-    (
-        "a.proto",
-        "import \"b.proto\"; message A { optional int32 x = 1; }",
-    ),
-    (
-        "b.proto",
-        "import public \"c.proto\"; import \"e.proto\"; package p; message B {}",
-    ),
-    (
-        "c.proto",
-        "import public \"d.proto\"; package p.c; message C {}",
-    ),
-    (
-        "d.proto",
-        "package p.d.d; message D { optional int32 x = 1; }",
-    ),
-    ("e.proto", "package e.f; message E {} enum N { V = 0; }"),
-];
+const TEXTS: &str =
+    r#"a.proto import "b.proto"; message A { optional int32 x = 1; }|b.proto import public "c.proto"; import "e.proto"; package p; message B {}|c.proto import public "d.proto"; package p.c; message C {}|d.proto package p.d.d; message D { optional int32 x = 1; }|e.proto package e.f; message E {} enum N { V = 0; }"#;
 
 const ROWS: &[Told] = &[
     (Ask::Seen(0), "A", "seen"),
@@ -66,6 +48,6 @@ const ROWS: &[Told] = &[
 ];
 
 #[test]
-fn seen_names(rt: HostRuntime) -> Result<(), Fail> {
-    Ok(expect_told(&rt, &TEXTS, ROWS)?)
+fn seen_names(rt: HostRuntime) {
+    expect_told(&rt, TEXTS, ROWS);
 }

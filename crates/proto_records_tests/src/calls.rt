@@ -2,7 +2,9 @@
 
 use proto_entries::{Change, Entry, one_splice};
 use proto_faults::NoMemory;
-use proto_records::{JournalFault, Record, entry_text, read_entry, read_records};
+use proto_records::{
+    JournalFault, Record, State, entry_text, read_entry, read_records, with_record,
+};
 use std::process::Abort;
 
 /// The line of a rename of `b_c` to `d_e` in a file of 48 bytes.
@@ -12,33 +14,41 @@ pub(crate) const LINE: &str =
 pub(crate) const OPEN_LINE: &str =
     "{\"files\":[{\"after\":48,\"before\":48,\"path\":\"a.proto\",\"splices\":[{\"at\":38,\"new\":\"d_e\",\"old\":\"b_c\"}]}],\"state\":\"open\",\"version\":1}\n";
 
-/// The entry of one splice in place of `b_c` at byte 38 of a file of 48 bytes, if there is one.
+/// The entry of one splice in place of `b_c` at byte 38 of a file of 48 bytes.
 pub(crate) fn entry_of<R: AllocGlobal + Abort>(
     rt: &R,
     new: &str,
     after: u32,
-) -> Result<Option<Entry>, NoMemory> {
-    let mut changes = Vec::new(rt.alloc());
-    add_change(rt, &mut changes, new, after)?;
-    Ok(Entry::new(changes))
-}
-
-fn add_change<R: AllocGlobal + Abort>(
-    rt: &R,
-    changes: &mut Vec<Change>,
-    new: &str,
-    after: u32,
-) -> Result<(), NoMemory> {
+) -> Result<Entry, NoMemory> {
     assert!(rt; new.len() <= 100);
     let path = String::from_str(rt.alloc(), "a.proto")?;
     let splices = one_splice(rt.alloc(), 38, "b_c", new)?;
+    let mut changes = Vec::new(rt.alloc());
     changes.push(Change {
         path,
         before: 48,
         after,
         splices,
     })?;
+    Ok(Entry::new(changes).expect(rt, "an entry"))
+}
+
+/// Sees that a journal with one record more is this text.
+pub(crate) fn expect_longer<R: AllocGlobal + Abort>(
+    rt: &R,
+    journal: &str,
+    state: State,
+    wanted: &str,
+) -> Result<(), NoMemory> {
+    let entry = entry_of(rt, "d_e", 48)?;
+    let longer = with_record(rt.alloc(), journal.as_bytes(), state, &entry)?;
+    assert!(rt; longer.as_slice() == wanted.as_bytes());
     Ok(())
+}
+
+/// Ends the test with the row unless the answer is yes.
+pub(crate) fn expect<R: Abort>(rt: &R, is_row: bool, row: &str) {
+    assert!(rt; is_row, "{row}");
 }
 
 /// Sees that a fault has this number and name.
@@ -46,17 +56,12 @@ pub(crate) fn expect_fault<R: Abort>(rt: &R, fault: JournalFault, number: u32, n
     assert!(rt; fault.number() == number && fault.name() == name);
 }
 
-// The record has this text.
-fn expect_text<R: AllocGlobal + Abort>(rt: &R, noted: &Record, line: &str) {
-    let text = entry_text(rt.alloc(), noted).expect(rt, "memory");
-    assert!(rt; text.as_str() == line);
-}
-
 /// Whether a line is the text of a record. It then is read as one, and else BadJournal is answered.
 pub(crate) fn is_record<R: AllocGlobal + Abort>(rt: &R, line: &str) -> bool {
     match read_entry(rt.alloc(), line.as_bytes()) {
         Ok(noted) => {
-            expect_text(rt, &noted, line);
+            let text = entry_text(rt.alloc(), &noted).expect(rt, "memory");
+            assert!(rt; text.as_str() == line);
             true
         }
         Err(fault) => {
@@ -66,21 +71,25 @@ pub(crate) fn is_record<R: AllocGlobal + Abort>(rt: &R, line: &str) -> bool {
     }
 }
 
-// The records have this for their texts, one behind the other.
-fn expect_texts<R: AllocGlobal + Abort>(rt: &R, records: &[Record], bytes: &[u8]) {
+/// Sees that the records have this for their texts, one behind the other.
+pub(crate) fn expect_texts<R: AllocGlobal + Abort>(
+    rt: &R,
+    records: &[Record],
+    bytes: &[u8],
+) -> Result<(), NoMemory> {
     let mut texts = String::new(rt.alloc());
     for noted in records {
-        let text = entry_text(rt.alloc(), noted).expect(rt, "memory");
-        texts.push_str(text.as_str()).expect(rt, "memory");
+        texts.push_str(entry_text(rt.alloc(), noted)?.as_str())?;
     }
     assert!(rt; texts.as_bytes() == bytes);
+    Ok(())
 }
 
 /// Whether the bytes are a journal. Its records then are read, and else BadJournal is answered.
 pub(crate) fn is_journal<R: AllocGlobal + Abort>(rt: &R, bytes: &[u8]) -> bool {
     match read_records(rt.alloc(), bytes) {
         Ok(records) => {
-            expect_texts(rt, records.as_slice(), bytes);
+            expect_texts(rt, records.as_slice(), bytes).expect(rt, "memory");
             true
         }
         Err(fault) => {

@@ -1,8 +1,7 @@
 //! Journals: which bytes are one, and one record more or less.
 
 use super::calls::*;
-use proto_entries::Entry;
-use proto_records::{State, last_is_open, read_records, with_record, without_last};
+use proto_records::{State, last_is_open, read_records, without_last};
 use std::process::Abort;
 
 #[test]
@@ -13,15 +12,6 @@ fn no_front_of_a_line_is_a_journal(rt: HostRuntime) {
         assert!(rt; !is_journal(&rt, bytes.split_at(len).0));
     }
     assert!(rt; is_journal(&rt, &[]) && is_journal(&rt, bytes));
-}
-
-// The line with this byte at this place.
-fn with_byte<R: AllocGlobal + Abort>(rt: &R, place: usize, byte: u8) -> Vec<u8> {
-    let mut bytes = Vec::from_slice(rt.alloc(), LINE.as_bytes()).expect(rt, "memory");
-    if let Some(there) = bytes.get_mut(place) {
-        *there = byte;
-    }
-    bytes
 }
 
 // Whether the line with this byte at this place is a record's text, by the rules of docs/journal.md: the path may begin with
@@ -39,7 +29,10 @@ fn is_spelled(place: usize, byte: u8) -> bool {
 
 // Whether the line with this byte at this place is read exactly where it is a record's text.
 fn is_exact<R: AllocGlobal + Abort>(rt: &R, place: usize, byte: u8) -> bool {
-    let bytes = with_byte(rt, place, byte);
+    let mut bytes = Vec::from_slice(rt.alloc(), LINE.as_bytes()).expect(rt, "memory");
+    if let Some(there) = bytes.get_mut(place) {
+        *there = byte;
+    }
     is_journal(rt, bytes.as_slice()) == is_spelled(place, byte)
 }
 
@@ -75,53 +68,33 @@ const PAIRS: &[(&str, &str, bool)] = &[
 fn several_lines(rt: HostRuntime) {
     for (first, second, is_read) in PAIRS {
         let journal = joined(&rt, first, second);
-        assert!(rt;
-            is_journal(&rt, journal.as_bytes()) == *is_read,
-            "{first}{second}"
-        );
+        let is_so = is_journal(&rt, journal.as_bytes()) == *is_read;
+        expect(&rt, is_so, journal.as_str());
     }
-}
-
-// Whether the last record of a journal is open.
-fn is_open<R: AllocGlobal + Abort>(rt: &R, journal: &[u8]) -> bool {
-    let records = read_records(rt.alloc(), journal).expect(rt, "a journal");
-    last_is_open(records.as_slice())
 }
 
 // The last line of a journal, which is open or is not, and what stands before it.
 fn expect_last<R: AllocGlobal + Abort>(rt: &R, front: &str, last: &str, open: bool) {
     let journal = joined(rt, front, last);
-    assert!(rt; is_open(rt, journal.as_bytes()) == open);
+    let records = read_records(rt.alloc(), journal.as_bytes()).expect(rt, "a journal");
+    assert!(rt; last_is_open(records.as_slice()) == open);
     assert!(rt; without_last(journal.as_bytes()) == front.as_bytes());
 }
 
 #[test]
 fn the_last_record(rt: HostRuntime) {
-    assert!(rt; !is_open(&rt, &[]));
+    expect_last(&rt, "", "", false);
     expect_last(&rt, "", LINE, false);
     expect_last(&rt, "", OPEN_LINE, true);
     expect_last(&rt, LINE, LINE, false);
     expect_last(&rt, LINE, OPEN_LINE, true);
 }
 
-// This line stands behind the journal when the entry was added in this state.
-fn expect_more<R: AllocGlobal + Abort>(
-    rt: &R,
-    journal: &str,
-    state: State,
-    entry: &Entry,
-    line: &str,
-) {
-    let longer = with_record(rt.alloc(), journal.as_bytes(), state, entry).expect(rt, "memory");
-    assert!(rt; longer.as_slice() == joined(rt, journal, line).as_bytes());
-}
-
 #[test]
 fn one_record_more(rt: HostRuntime) {
-    let made = entry_of(&rt, "d_e", 48).expect(&rt, "memory");
-    let entry = made.expect(&rt, "an entry");
-    expect_more(&rt, LINE, State::Open, &entry, OPEN_LINE);
-    expect_more(&rt, "", State::Done, &entry, LINE);
+    let both = joined(&rt, LINE, OPEN_LINE);
+    expect_longer(&rt, LINE, State::Open, both.as_str()).expect(&rt, "memory");
+    expect_longer(&rt, "", State::Done, LINE).expect(&rt, "memory");
 }
 
 // So many copies of the line.

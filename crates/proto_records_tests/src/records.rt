@@ -6,11 +6,9 @@ use std::process::Abort;
 
 // The line of one splice.
 fn written<R: AllocGlobal + Abort>(rt: &R, new: &str, after: u32) -> String {
-    let made = entry_of(rt, new, after).expect(rt, "memory");
-    let entry = made.expect(rt, "an entry");
     let noted = Record {
         state: State::Done,
-        entry,
+        entry: entry_of(rt, new, after).expect(rt, "memory"),
     };
     entry_text(rt.alloc(), &noted).expect(rt, "memory")
 }
@@ -20,21 +18,13 @@ fn a_rename_is_written(rt: HostRuntime) {
     assert!(rt; written(&rt, "d_e", 48).as_str() == LINE);
 }
 
-// The line with these changes, done.
-fn with_files<R: AllocGlobal + Abort>(rt: &R, files: &str) -> String {
-    format!(in rt.alloc(); "{{\"files\":[{files}],\"state\":\"done\",\"version\":1}}\n").expect(
-        rt, "memory",
-    )
-}
-
 // The line of a new text, which has this for its part, and is read again.
 fn expect_written<R: AllocGlobal + Abort>(rt: &R, new: &str, after: u32, part: &str) {
-    let files = format!(in rt.alloc();
-        "{{\"after\":{after},\"before\":48,\"path\":\"a.proto\",\"splices\":[{{\"at\":38,\"new\":\"{part}\",\"old\":\"b_c\"}}]}}"
+    let line = format!(in rt.alloc();
+        "{{\"files\":[{{\"after\":{after},\"before\":48,\"path\":\"a.proto\",\"splices\":[{{\"at\":38,\"new\":\"{part}\",\"old\":\"b_c\"}}]}}],\"state\":\"done\",\"version\":1}}\n"
     ).expect(rt, "memory");
-    let line = with_files(rt, files.as_str());
-    assert!(rt; written(rt, new, after).as_str() == line.as_str(), "{part}");
-    assert!(rt; is_record(rt, line.as_str()), "{part}");
+    let is_so = written(rt, new, after).as_str() == line.as_str() && is_record(rt, line.as_str());
+    expect(rt, is_so, part);
 }
 
 // A new text, how long the file is then, and how the text is written.
@@ -58,17 +48,12 @@ fn texts_are_escaped(rt: HostRuntime) {
     }
 }
 
-// The line with the second text in place of the first.
-fn with_part<R: AllocGlobal + Abort>(rt: &R, from: &str, to: &str) -> String {
-    let (front, back) = LINE.split_once(from).expect(rt, "a part of the line");
-    format!(in rt.alloc(); "{front}{to}{back}").expect(rt, "memory")
-}
-
 // Whether the lines are read that have the second text of a row in place of the first.
 fn expect_read<R: AllocGlobal + Abort>(rt: &R, rows: &[(&str, &str)], is_read: bool) {
     for (from, to) in rows {
-        let line = with_part(rt, from, to);
-        assert!(rt; is_record(rt, line.as_str()) == is_read, "{to}");
+        let (front, back) = LINE.split_once(from).expect(rt, "a part of the line");
+        let line = format!(in rt.alloc(); "{front}{to}{back}").expect(rt, "memory");
+        expect(rt, is_record(rt, line.as_str()) == is_read, to);
     }
 }
 
@@ -189,95 +174,102 @@ fn texts_of_another_spelling_and_no_changes(rt: HostRuntime) {
     expect_read(&rt, NO_CHANGES, false);
 }
 
-// Whether the line with these files is read.
-fn expect_files<R: AllocGlobal + Abort>(rt: &R, files: &str, is_read: bool) {
-    let line = with_files(rt, files);
-    assert!(rt; is_record(rt, line.as_str()) == is_read, "{files}");
-}
+// The one file of the line.
+const FILE: &str =
+    r#"{"after":48,"before":48,"path":"a.proto","splices":[{"at":38,"new":"d_e","old":"b_c"}]}"#;
 
-const FIRST: &str =
-    "{\"after\":9,\"before\":8,\"path\":\"a.proto\",\"splices\":[{\"at\":0,\"new\":\"x\",\"old\":\"\"}]}";
+const FILES: &[(&str, &str)] = &[
+    (
+        FILE,
+        r#"{"after":9,"before":8,"path":"a.proto","splices":[{"at":0,"new":"x","old":""}]}"#,
+    ),
+    (
+        FILE,
+        r#"{"after":0,"before":1,"path":"b.proto","splices":[{"at":0,"new":"","old":"x"}]}"#,
+    ),
+    (
+        FILE,
+        r#"{"after":9,"before":8,"path":"a.proto","splices":[{"at":0,"new":"x","old":""}]},{"after":0,"before":1,"path":"b.proto","splices":[{"at":0,"new":"","old":"x"}]}"#,
+    ),
+];
 
-const SECOND: &str =
-    "{\"after\":0,\"before\":1,\"path\":\"b.proto\",\"splices\":[{\"at\":0,\"new\":\"\",\"old\":\"x\"}]}";
-
-// What stands behind a comma is of a second file.
-const FILES: &[(&str, &str, &str, bool)] = &[
-    ("", "", "", false),
-    ("null", "", "", false),
-    (FIRST, "", "", true),
-    (SECOND, "", "", true),
-    (FIRST, ",", SECOND, true),
-    (SECOND, ",", FIRST, false),
-    (FIRST, ",", FIRST, false),
+const NO_FILES: &[(&str, &str)] = &[
+    (FILE, ""),
+    (FILE, "null"),
+    (
+        FILE,
+        r#"{"after":0,"before":1,"path":"b.proto","splices":[{"at":0,"new":"","old":"x"}]},{"after":9,"before":8,"path":"a.proto","splices":[{"at":0,"new":"x","old":""}]}"#,
+    ),
+    (
+        FILE,
+        r#"{"after":9,"before":8,"path":"a.proto","splices":[{"at":0,"new":"x","old":""}]},{"after":9,"before":8,"path":"a.proto","splices":[{"at":0,"new":"x","old":""}]}"#,
+    ),
 ];
 
 #[test]
 fn files_rise(rt: HostRuntime) {
-    for (first, comma, second, is_read) in FILES {
-        let front = joined(&rt, first, comma);
-        let files = joined(&rt, front.as_str(), second);
-        expect_files(&rt, files.as_str(), *is_read);
-    }
+    expect_read(&rt, FILES, true);
+    expect_read(&rt, NO_FILES, false);
 }
 
-// Whether the line with these splices of one file is read.
-fn expect_splices<R: AllocGlobal + Abort>(rt: &R, splices: &str, is_read: bool) {
-    let files = format!(in rt.alloc();
-        "{{\"after\":8,\"before\":8,\"path\":\"a.proto\",\"splices\":[{splices}]}}"
-    ).expect(rt, "memory");
-    expect_files(rt, files.as_str(), is_read);
-}
+const SPLICES: &[(&str, &str)] = &[
+    (
+        FILE,
+        r#"{"after":8,"before":8,"path":"a.proto","splices":[{"at":1,"new":"x","old":"y"},{"at":2,"new":"x","old":"y"}]}"#,
+    ),
+    (
+        FILE,
+        r#"{"after":8,"before":8,"path":"a.proto","splices":[{"at":1,"new":"x","old":"y"},{"at":7,"new":"x","old":"y"}]}"#,
+    ),
+    (
+        FILE,
+        r#"{"after":8,"before":8,"path":"a.proto","splices":[{"at":1,"new":"x","old":"y"},{"at":2,"new":"x","old":"x"}]}"#,
+    ),
+];
 
-const SPLICES: &[(&str, bool)] = &[
+const NO_SPLICES: &[(&str, &str)] = &[
     (
-        "{\"at\":1,\"new\":\"x\",\"old\":\"y\"},{\"at\":2,\"new\":\"x\",\"old\":\"y\"}",
-        true,
+        FILE,
+        r#"{"after":8,"before":8,"path":"a.proto","splices":[{"at":2,"new":"x","old":"y"},{"at":1,"new":"x","old":"y"}]}"#,
     ),
     (
-        "{\"at\":1,\"new\":\"x\",\"old\":\"y\"},{\"at\":7,\"new\":\"x\",\"old\":\"y\"}",
-        true,
+        FILE,
+        r#"{"after":8,"before":8,"path":"a.proto","splices":[{"at":1,"new":"xx","old":"yy"},{"at":2,"new":"x","old":"y"}]}"#,
     ),
     (
-        "{\"at\":1,\"new\":\"x\",\"old\":\"y\"},{\"at\":2,\"new\":\"x\",\"old\":\"x\"}",
-        true,
+        FILE,
+        r#"{"after":8,"before":8,"path":"a.proto","splices":[{"at":1,"new":"x","old":"y"},{"at":8,"new":"x","old":"y"}]}"#,
     ),
     (
-        "{\"at\":2,\"new\":\"x\",\"old\":\"y\"},{\"at\":1,\"new\":\"x\",\"old\":\"y\"}",
-        false,
+        FILE,
+        r#"{"after":8,"before":8,"path":"a.proto","splices":[{"at":1,"new":"xx","old":"y"},{"at":2,"new":"x","old":"yy"}]}"#,
     ),
     (
-        "{\"at\":1,\"new\":\"xx\",\"old\":\"yy\"},{\"at\":2,\"new\":\"x\",\"old\":\"y\"}",
-        false,
-    ),
-    (
-        "{\"at\":1,\"new\":\"x\",\"old\":\"y\"},{\"at\":8,\"new\":\"x\",\"old\":\"y\"}",
-        false,
-    ),
-    (
-        "{\"at\":1,\"new\":\"xx\",\"old\":\"y\"},{\"at\":2,\"new\":\"x\",\"old\":\"yy\"}",
-        false,
-    ),
-    (
-        "{\"at\":1,\"new\":\"x\",\"old\":\"x\"},{\"at\":2,\"new\":\"y\",\"old\":\"y\"}",
-        false,
+        FILE,
+        r#"{"after":8,"before":8,"path":"a.proto","splices":[{"at":1,"new":"x","old":"x"},{"at":2,"new":"y","old":"y"}]}"#,
     ),
 ];
 
 #[test]
 fn splices_are_in_order(rt: HostRuntime) {
-    for (splices, is_read) in SPLICES {
-        expect_splices(&rt, splices, *is_read);
-    }
+    expect_read(&rt, SPLICES, true);
+    expect_read(&rt, NO_SPLICES, false);
 }
 
-const NO_OBJECTS: &[&str] = &[
-    "", "\n", "null\n", "[]\n", "{}\n", "1\n", "\"\"\n", "{\n", "}\n", "x",
+const NO_OBJECTS: &[(&str, &str)] = &[
+    (LINE, ""),
+    (LINE, "\n"),
+    (LINE, "null\n"),
+    (LINE, "[]\n"),
+    (LINE, "{}\n"),
+    (LINE, "1\n"),
+    (LINE, "\"\"\n"),
+    (LINE, "{\n"),
+    (LINE, "}\n"),
+    (LINE, "x"),
 ];
 
 #[test]
 fn what_is_no_object(rt: HostRuntime) {
-    for line in NO_OBJECTS {
-        assert!(rt; !is_record(&rt, line), "{line}");
-    }
+    expect_read(&rt, NO_OBJECTS, false);
 }
