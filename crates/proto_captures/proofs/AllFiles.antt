@@ -19,7 +19,7 @@ use Rattle.proto_meaning.specs.Grown.{At, at, all_used, file_used, used_in}
 use Rattle.proto_meaning.specs.Joined.{joined}
 use Rattle.proto_meaning.specs.Skeleton.{Token, Used, name_of, spell}
 use Rattle.proto_meaning.proofs.Edited.{map_append}
-use Rattle.proto_names.specs.FileReferences.{uses_of}
+use Rattle.proto_imports.specs.Links.{uses_of}
 use Rattle.proto_rename_laws.specs.Cases.{Captures, StandsBefore}
 use Rattle.proto_rename_laws.specs.Targets.{Target, name_map}
 use Rattle.proto_rename_laws.proofs.Inside.{tokens_are_inside}

@@ -24,7 +24,7 @@ use Rattle.proto_meaning.specs.declared.kind.Kind.{Kind}
 use Rattle.proto_meaning.specs.declared.kind.Kind.TheVariants.{Package, Entry}
 use Rattle.proto_meaning.specs.Skeleton.{Source, Token, EntryOf, IsAimEntry, Used, name_of, reference_of, spell, symbol_of}
 use Rattle.proto_meaning.proofs.Edited.{map_append, map_map}
-use Rattle.proto_names.specs.FileReferences.{uses_of}
+use Rattle.proto_imports.specs.Links.{uses_of}
 use Rattle.proto_names.specs.Laws.{VisibleIsShown}
 use Rattle.proto_names.specs.LinkOfFiles.{HoldsNames, IsLinkOf, meant_by_link, meant_by_use, TextMeant}
 use Rattle.proto_names.specs.Linking.{LinkOf, text_at}
@@ -33,8 +33,8 @@ use Rattle.proto_rename_laws.specs.Captures.{HasScope}
 use Rattle.proto_rename_laws.specs.Cases.{Captures}
 use Rattle.proto_rename_laws.specs.Targets.{Target, may_rename, name_map}
 use Rattle.proto_rename_laws.proofs.NoLinkFault.{files_are_linked, files_are_woven}
-use Rattle.proto_names.proofs.PlainNames.{name_in}
-use Rattle.proto_table.specs.Naming.{used_named}
+use Rattle.proto_imports.proofs.PlainNames.{name_in}
+use Rattle.proto_imports.specs.Links.{used_named}
 use Rattle.proto_captures.specs.Capturing.{captures_use, captures_words}
 use Rattle.proto_captures.specs.FirstCaptured.{AreNewNames, IsFirstIn, IsRenameOf, captures_by, first_of, or_nothing}
 use Rattle.proto_captures.specs.NewTexts.{NewTexts, entry_words}

@@ -21,14 +21,14 @@ use Rattle.proto_meaning.specs.Linked.{IsLinked}
 use Rattle.proto_meaning.specs.Names.{Reference, Workspace, meaning}
 use Rattle.proto_meaning.specs.Skeleton.{Used, name_of, reference_of}
 use Rattle.proto_meaning.proofs.Edited.{map_map}
-use Rattle.proto_names.specs.FileReferences.{uses_of}
+use Rattle.proto_imports.specs.Links.{uses_of}
 use Rattle.proto_names.specs.LinkOfFiles.{HoldsNames, IsLinkOf, meant_by_link, meant_by_use, TextMeant}
 use Rattle.proto_names.specs.Linking.{LinkOf, text_at}
 use Rattle.proto_names.specs.declared.references.Meant.{Meant}
 use Rattle.proto_rename_laws.specs.Captures.{HasScope}
 use Rattle.proto_rename_laws.proofs.NoLinkFault.{files_are_linked, files_are_woven}
-use Rattle.proto_names.proofs.PlainNames.{name_in}
-use Rattle.proto_table.specs.Naming.{used_named}
+use Rattle.proto_imports.proofs.PlainNames.{name_in}
+use Rattle.proto_imports.specs.Links.{used_named}
 use Rattle.proto_captures.specs.FirstCaptured.{first_of, or_nothing}
 use Rattle.proto_captures.specs.Overtaking.{IsFirstOvertaken, Overtakes, SeesMarked, TellsPackages, overtakes_by, overtakes_use, overtakes_words}
 use Rattle.proto_captures.proofs.FileCaptures.{use_there}

@@ -25,7 +25,7 @@ use Rattle.proto_meaning.specs.Tree.{Items, no_items, packaged, item, Member, fi
 use Rattle.proto_meaning.proofs.Edited.{map_append, map_map}
 use Rattle.proto_meaning.proofs.Items.{prefix_whole}
 use Rattle.proto_rename_laws.proofs.Declarations.{declared_by, declared_there}
-use Rattle.proto_names.proofs.PlainNames.{name_in}
+use Rattle.proto_imports.proofs.PlainNames.{name_in}
 use Rattle.proto_rename_laws.proofs.Scenes.{index_map}
 use Rattle.proto_table.proofs.Search.{joined_more}
 use Rattle.proto_tree.specs.Tree.{End}

@@ -13,7 +13,7 @@ use Rattle.proto_meaning.specs.Grown.{at, used_in}
 use Rattle.proto_meaning.specs.Joined.{IsPlain, joined}
 use Rattle.proto_meaning.specs.Edits.{target}
 use Rattle.proto_meaning.specs.Skeleton.{Used}
-use Rattle.proto_names.specs.FileReferences.{uses_of}
+use Rattle.proto_imports.specs.Links.{uses_of}
 use Rattle.proto_names.specs.Linking.{LinkOf, text_at}
 use Rattle.proto_names.specs.declared.link.RefId.{RefId}
 use Rattle.proto_names.specs.declared.references.Meant.{Meant}

@@ -9,7 +9,7 @@ use Rattle.proto_listing.specs.Listing.{read, used_by}
 use Rattle.proto_listing.specs.declared.listing.Listed.{Listed}
 use Rattle.proto_listing.specs.declared.listing.Use.{Use}
 use Rattle.proto_meaning.specs.Names.{Workspace}
-use Rattle.proto_names.specs.FileReferences.{uses_of}
+use Rattle.proto_imports.specs.Links.{uses_of}
 use Rattle.proto_names.specs.LinkOfFiles.{IsLinkOf}
 use Rattle.proto_names.specs.Linking.{LinkOf}
 use Rattle.proto_names.specs.declared.references.Meant.{Meant}

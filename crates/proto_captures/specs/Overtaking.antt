@@ -20,10 +20,10 @@ use Rattle.proto_meaning.specs.Marks.{MarksSeen}
 use Rattle.proto_meaning.specs.Names.{Workspace}
 use Rattle.proto_meaning.specs.Skeleton.{Used, name_of}
 use Rattle.proto_meaning.specs.Tree.{package_of}
-use Rattle.proto_names.specs.FileReferences.{uses_of}
+use Rattle.proto_imports.specs.Links.{uses_of}
 use Rattle.proto_names.specs.Linking.{LinkOf, NameOf, text_at}
 use Rattle.proto_names.specs.declared.references.Meant.{Meant}
-use Rattle.proto_table.specs.Naming.{used_named}
+use Rattle.proto_imports.specs.Links.{used_named}
 use Rattle.proto_captures.specs.Capturing.{bytes_before, is_cons, shown_from}
 use Rattle.proto_captures.specs.FirstCaptured.{or_nothing}
 use Rattle.proto_captures.specs.ShownTexts.{below, first_fits}

@@ -10,7 +10,7 @@ use Rattle.proto_files.specs.Faults.{FaultAt, ComesBefore, IsLeastFault, HasNoFa
 use Rattle.proto_files.specs.GivenFiles.{FileOf, AreWorkspaceFiles, file_at}
 use Rattle.proto_files.proofs.FaultOrder.{comes_before_cases}
 use Rattle.proto_files.specs.FilesRead.{ReadOf, AreRead, read_at}
-use Rattle.proto_names.proofs.LeastLinkFault.{file_before, one_file, one_token, token_before}
+use Rattle.proto_imports.proofs.LeastLinkFault.{file_before, one_file, one_token, token_before}
 use Rattle.proto_files.proofs.ReadOnce.{read_once}
 use Rattle.proto_numbers.specs.Flaws.{IsLeast, comes_before}
 use Rattle.proto_numbers.specs.declared.flaw.Flaw.{Flaw}

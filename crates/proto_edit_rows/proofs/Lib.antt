@@ -1,3 +1,5 @@
 mod Leading
+mod Lists
 mod Outcomes
+mod SameFiles
 mod WholeRows

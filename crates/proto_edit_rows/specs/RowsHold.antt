@@ -13,7 +13,7 @@ use Rattle.proto_edit.specs.Answers.{IsUndoRefusal}
 use Rattle.proto_edit.specs.Compiled.{AreCompiled}
 use Rattle.proto_edit.specs.Workspaces.{Asked, IsUndo, Run, accepted}
 use Rattle.proto_edit_rows.specs.declared.row.Row.{Row}
-use Rattle.proto_edit_calls.specs.Rows.{is_row_answer, row_edit, row_file}
+use Rattle.proto_edit_rows.specs.Rows.{is_row_answer, row_edit, row_file}
 use Rattle.proto_edit_rows.specs.Told.{told_of}
 
 -- ---- what rows write

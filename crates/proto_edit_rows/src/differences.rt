@@ -5,8 +5,8 @@ ghost use Rattle.proto_edit_rows.specs.RowsHold.{RowHolds, StepsHold, UndosHold,
 
 use crate::edited::{expect_row, expect_steps};
 use crate::row::{Row, Undo};
+use crate::step::Step;
 use crate::unlike::Unlike;
-use proto_edit_calls::Step;
 use proto_faults::NoMemory;
 use std::alloc::Global;
 

@@ -8,11 +8,12 @@ ghost use Rattle.proto_edit_rows.specs.RowsHold.{AreLed, IsLed, RowHolds, ShowsP
 ghost use Rattle.proto_edit_rows.specs.Told.{told_of};
 ghost use Rattle.proto_schema.specs.Whole.{IsSortedOf};
 
+use crate::calls::{are_texts, edit_of, is_said, open};
 use crate::row::{Row, Undo};
+use crate::step::Step;
 use crate::told::expect_told;
 use crate::unlike::{Name, Unlike, expect};
 use proto_edit::{Edit, Entry, Files, Refusal, Workspace, to_json};
-use proto_edit_calls::{Step, are_texts, edit_of, is_said, open};
 use proto_faults::NoMemory;
 use std::alloc::Global;
 

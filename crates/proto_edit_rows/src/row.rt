@@ -1,6 +1,6 @@
 //! The forms of rows.
 
-use proto_edit_calls::{Said, Step};
+use crate::step::{Said, Step};
 
 /// Files: paths and texts.
 pub type Texts = &'static [(&'static str, &'static str)];

@@ -25,8 +25,8 @@ use Rattle.proto_meaning.proofs.Seeing.{reaches_all, reaches_only}
 use Rattle.proto_files.specs.FilesRead.{ReadOf, AreRead, read_at}
 use Rattle.proto_imports.specs.Links.{link_skeleton, names_in, names_of_files, text_of}
 use Rattle.proto_imports.proofs.Walks.{marked_within}
-use Rattle.proto_table.specs.Naming.{used_named}
-use Rattle.proto_names.specs.FileReferences.{uses_of}
+use Rattle.proto_imports.specs.Links.{used_named}
+use Rattle.proto_imports.specs.Links.{uses_of}
 use Rattle.proto_names.specs.LinkOfFiles.{IsLinkRead, TextMeant, meant_by_link, meant_by_use}
 use Rattle.proto_names.specs.Linking.{LinkOf, NameOf, file_at, name_at, own_file}
 use Rattle.proto_names.proofs.MeantNames.{declared_as}

@@ -1,9 +1,13 @@
 mod CycleFaults
+pub mod FaultPlaces
 mod FilesAsked
 mod ImportFaults
 pub mod ImportGraph
+pub mod LeastLinkFault
 mod PathFaults
+pub mod PlainNames
 mod Ranks
 pub mod Resolving
+pub mod SeenFiles
 pub mod Turned
 pub mod Walks

@@ -1,5 +1,6 @@
 pub mod ImportSteps
 pub mod Importing
+pub mod LinkErrors
 pub mod Links
 pub mod Walks
 pub mod Written

@@ -11,11 +11,12 @@ use Rattle.proto_files.specs.GivenFiles.{FileOf, file_at, paths_of}
 use Rattle.proto_case.specs.Camel.{entry_name}
 use Rattle.proto_meaning.specs.Faults.{Fault, Asked, imports_of, ImportFault, NameFault, ReferenceFault}
 use Rattle.proto_listing.specs.FromTree.{Wanted, imports_in, items_in, file_names}
+pub use Rattle.proto_listing.specs.Listing.{used_named}
 use Rattle.proto_listing.specs.Listing.{IsSound, package_first, read, uses_in}
 use Rattle.proto_listing.specs.declared.listing.Listing.{Listing}
 use Rattle.proto_meaning.specs.Grown.{At, at, FileNames, skeleton_of_files}
 use Rattle.proto_meaning.specs.Names.{Import, Workspace}
-use Rattle.proto_meaning.specs.Skeleton.{Skeleton, workspace_of}
+use Rattle.proto_meaning.specs.Skeleton.{Skeleton, Used, workspace_of}
 
 -- the texts of all tokens
 abbrev pub text_of : List FileOf → List ReadOf → At → Text
@@ -45,6 +46,10 @@ all_wanted text file (r ∷ rs) =
 -- what a file that is read declares and refers to
 abbrev pub names_in : ReadOf → FileNames
 names_in r = file_names r.tree
+
+-- what a file refers to
+abbrev pub uses_of : List ReadOf → ℕ → List (Used ℕ)
+uses_of reads file = (names_in (read_at reads file)).used
 
 -- the imports between the files, by their numbers
 abbrev pub link_imports : List FileOf → List ReadOf → List Import

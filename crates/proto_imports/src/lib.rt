@@ -5,5 +5,6 @@ pub mod first_places;
 pub mod import;
 mod import_cycles;
 mod import_paths;
+pub mod sight;
 pub mod walk;
 pub mod written;

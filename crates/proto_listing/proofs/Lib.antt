@@ -8,5 +8,6 @@ mod MarkedNames
 mod MarkedTokens
 mod MarkedUses
 pub mod PackageFirst
+pub mod PlainEntries
 pub mod ReadTrees
 pub mod Roles

@@ -2,7 +2,10 @@
 use Rattle.std.specs.Prelude.{◌≡◌, ℕ, ◌+◌, ◌<◌, ◌≤◌, List, [], ◌∷◌, ◌++◌, length, get_or, map, Option, Some, None}
 use Rattle.std.specs.List.{All}
 use Rattle.proto_listing.specs.FromTree.{Wanted, used_as}
-use Rattle.proto_meaning.specs.Skeleton.{Source, Token, EntryOf, Given, Used}
+use Rattle.proto_case.specs.Camel.{entry_name}
+use Rattle.proto_meaning.specs.Grown.{At, used_in}
+use Rattle.proto_meaning.specs.Names.{Reference}
+use Rattle.proto_meaning.specs.Skeleton.{Source, Token, EntryOf, Given, Used, reference_of}
 use Rattle.proto_meaning.specs.Tree.{Placed, place, placed, prefixes, key_word, value_word, Items, no_items, packaged, item, package_of, token_of}
 use Rattle.proto_listing.specs.declared.listing.Above.{Above}
 use Rattle.proto_listing.specs.declared.listing.Above.TheVariants.{Outermost, Below}
@@ -112,3 +115,7 @@ pub record Adds (old new : Listing) (above : Above)
       ≡ read old.declared.items ++ placed (path_at (read old.declared.items) above)
   pub used : IsSound old → uses_in new
       ≡ uses_in old ++ uses (path_at (read old.declared.items) above)
+
+-- a reference of a file by its words
+abbrev pub used_named : (At → List ℕ) → ℕ → Used ℕ → Reference
+used_named text file u = reference_of text entry_name (used_in file u)

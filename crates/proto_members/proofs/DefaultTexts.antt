@@ -26,8 +26,8 @@ use Rattle.proto_meaning.proofs.Basics.{name_from_same, same_from_name}
 use Rattle.proto_meaning.proofs.Joined.{joined_apart}
 use Rattle.proto_meaning.proofs.Renamed.{meant}
 use Rattle.proto_imports.specs.Links.{names_of_files, text_of}
-use Rattle.proto_table.specs.Naming.{used_named}
-use Rattle.proto_names.specs.FileReferences.{uses_of}
+use Rattle.proto_imports.specs.Links.{used_named}
+use Rattle.proto_imports.specs.Links.{uses_of}
 use Rattle.proto_names.specs.LinkOfFiles.{IsLinkRead, TextMeant, meant_by_link, meant_by_use}
 use Rattle.proto_names.specs.Linking.{LinkOf, row_at, text_at}
 use Rattle.proto_names.specs.declared.references.Meant.{Meant}
@@ -35,7 +35,7 @@ use Rattle.proto_parts.specs.Parts.{BlockOf, FieldOf, blocks_in}
 use Rattle.proto_parts.specs.Scenes.{Scene, text}
 use Rattle.proto_scenes.specs.SceneOf.{meaning_of}
 use Rattle.proto_rename_laws.specs.Defaults.{default_words, fields_of_block, fields_of_file, meaning_from, means_value, renamed_default, type_meaning}
-use Rattle.proto_names.proofs.PlainNames.{names_are_plain}
+use Rattle.proto_imports.proofs.PlainNames.{names_are_plain}
 use Rattle.proto_members.specs.Blocks.{holders_in, may_hold}
 use Rattle.proto_members.specs.Defaults.{defaults_in, defaults_of, is_text, spelled, type_means}
 use Rattle.proto_members.specs.Members.{IsReadAs}

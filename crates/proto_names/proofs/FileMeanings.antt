@@ -1,5 +1,5 @@
 -- The references of a file by its listing are those of its tree.
-use Rattle.std.proofs.Common.{◌≡◌, ℕ, ◌<◌, Bool, List, [], ◌∷◌, length, get_or, map, refl, sym, ◌∙◌, ap, subst, arith}
+use Rattle.std.proofs.Common.{◌≡◌, ℕ, ◌<◌, Bool, List, [], ◌∷◌, length, get_or, map, sym, ◌∙◌, ap, subst, arith}
 use Rattle.std.specs.Global.{Vec}
 use Rattle.std.specs.List.{All, Contains}
 use Rattle.std.proofs.lemmas.List.{map-append, get_or-map as get_or-map_within}
@@ -22,7 +22,7 @@ use Rattle.proto_listing.specs.Listing.{read, whole, path_of, used_by}
 use Rattle.proto_meaning.specs.Names.{Reference, Workspace}
 use Rattle.proto_table.specs.Naming.{used_named}
 use Rattle.proto_names.specs.Referring.{reference_by, first_token, IsFaultless, IsFlawed, IsFirstBad, IsReferenceError, AreMeant}
-use Rattle.proto_meaning.specs.Skeleton.{Source, Token as TokenOf, EntryOf, Given, Used, name_of, shifted_source}
+use Rattle.proto_meaning.specs.Skeleton.{Source, Used, name_of, shifted_source}
 use Rattle.proto_meaning.specs.Tree.{Placed}
 use Rattle.proto_listing.specs.declared.listing.Listing.{Listing}
 use Rattle.proto_listing.specs.declared.listing.Use.{Use}
@@ -35,7 +35,7 @@ use Rattle.proto_text.proofs.Lists.{contains_map}
 use Rattle.proto_meaning.proofs.Edited.{map_agree, map_map}
 use Rattle.proto_files.proofs.ReadOnce.{one_reading}
 use Rattle.proto_listing.proofs.ReadTrees.{uses_plain}
-use Rattle.proto_names.proofs.PlainNames.{name_in}
+use Rattle.proto_imports.proofs.PlainNames.{name_in}
 
 -- ---- what is read of a file
 

@@ -1,5 +1,5 @@
 -- What a reference means in a scope, word by word of its tokens.
-use Rattle.std.proofs.Common.{◌≡◌, ◌≢◌, ℕ, zero, suc, ◌+◌, ◌<◌, ◌≤◌, Bool, false, List, [], ◌∷◌, ◌++◌, length, get_or, take, drop, map, Bor, Option, Some, None, option_map, if◌then◌else◌, refl, sym, ◌∙◌, ap, subst, inl, inr, arith}
+use Rattle.std.proofs.Common.{◌≡◌, ◌≢◌, ℕ, zero, suc, ◌+◌, ◌<◌, ◌≤◌, Bool, false, List, [], ◌∷◌, ◌++◌, length, get_or, take, drop, map, Bor, Option, Some, None, IfSome, option_map, if◌then◌else◌, refl, sym, ◌∙◌, ap, subst, inl, inr, arith}
 use Rattle.std.specs.Prelude.{◌==◌}
 use Rattle.std.proofs.lemmas.Bool.{cases_eq, cond-false, false_from_ne_true}
 use Rattle.std.proofs.lemmas.List.{take-append-drop, length-take-le, length-map}
@@ -46,6 +46,11 @@ text_behind ls b = record { ref_ptr = (0, 0); now = word_at ls b.item }
 
 pub empty_behind : (ls : List Lexeme) (bs : List (Behind ℕ)) → (length bs == 0) ≡ is_empty_list (words_by ls bs)
 empty_behind ls bs = ap (λ n. n == 0) (sym (length-map bs (text_behind ls))) ∙ empty_is (map (text_behind ls) bs) ∙ ap is_empty_list (map-map (λ w. w.now) (text_behind ls) bs)
+
+-- the row of a type that is seen is one of the table
+pub type_within : (t : Table) (seen : List Bool) (text : List ℕ) (o : Option ℕ) → IsTypeAt t seen text o → IfSome o (λ k. k < length t.rows.items)
+type_within t seen text None h = tt
+type_within t seen text (Some k) h = h.0
 
 -- ---- the scope's longest front that is a name
 

@@ -1,11 +1,9 @@
 mod EachFile
-pub mod FaultPlaces
 pub mod FileLists
 mod FileMeanings
 mod FirstTokens
 mod InScope
 mod LeastFlaws
-pub mod LeastLinkFault
 mod LinkErrors
 mod LinkIndex
 mod LinkLaws
@@ -15,7 +13,6 @@ mod Linking
 mod MeantBy
 pub mod MeantNames
 mod NameErrors
-pub mod PlainNames
 mod Referring
 mod Scopes
 mod TableNames

@@ -1,6 +1,7 @@
 -- The errors of the imports and of the references are the least fault of the files; and what references are read by.
-use Rattle.std.proofs.Common.{◌≡◌, ℕ, ◌<◌, Bool, List, [], length, get_or, map, subst}
+use Rattle.std.proofs.Common.{◌≡◌, ℕ, ◌<◌, Bool, List, [], length, get_or, map, Result, Ok, Err, sym, subst}
 use Rattle.std.specs.Global.{Vec}
+use Rattle.std.specs.Result.{IfErr, IsErrAnd}
 use Rattle.proto_faults.specs.declared.fault.FaultKind.{FaultKind}
 use Rattle.proto_faults.specs.FaultTable.{number_of as number_of_kind}
 use Rattle.proto_files.specs.GivenFiles.{FileOf, paths_of, AreWorkspaceFiles}
@@ -8,7 +9,7 @@ use Rattle.proto_meaning.specs.Faults.{Fault, fault, Asked, IsLeast, ImportFault
 use Rattle.proto_names.specs.FileReferences.{AreLinked, flaw_number}
 use Rattle.proto_meaning.specs.Grown.{at}
 use Rattle.proto_imports.specs.Importing.{fault_of, number_of}
-use Rattle.proto_names.specs.LinkErrors.{IsAtToken, IsLinkError}
+use Rattle.proto_imports.specs.LinkErrors.{IsAtToken, IsLinkError}
 use Rattle.proto_names.specs.LinkOfFiles.{AreNamesOf, HasNoImportFault, HasNoNameFault}
 use Rattle.proto_files.specs.FilesRead.{ReadOf, AreRead}
 use Rattle.proto_imports.specs.Links.{StandsAt, all_wanted, link_skeleton, names_of_files, text_of}
@@ -17,8 +18,8 @@ use Rattle.proto_imports.specs.declared.import.BadImport.{BadImport}
 use Rattle.proto_faults.specs.declared.fault.SchemaFault.{SchemaFault}
 use Rattle.proto_names.specs.declared.references.BadReference.{BadReference}
 use Rattle.proto_table.specs.declared.table.Table.{Table}
-use Rattle.proto_names.proofs.FaultPlaces.{import_found, reference_found}
-use Rattle.proto_names.proofs.LeastLinkFault.{least_import, least_reference, link_error}
+use Rattle.proto_imports.proofs.FaultPlaces.{import_found, reference_found}
+use Rattle.proto_imports.proofs.LeastLinkFault.{least_import, least_reference, link_error}
 
 module _ (files : List FileOf) (reads : List ReadOf) (are_read : AreRead files reads) where
   abbrev Imports : Fault → Type 0
@@ -66,3 +67,8 @@ are_linked files reads t seen rows marks names k l = record {
   plain = names.plain k l;
   named = λ j m. names.named k j l m;
 }
+
+-- what holds of the error that is known holds of whatever error there is
+pub error_is : {T E : Type 0} (r : Result T E) (Q : E → Type 0) (e : E) → IsErrAnd r (λ x. x ≡ e) → Q e → IfErr r Q
+error_is (Ok x) Q e h q = tt
+error_is (Err y) Q e h q = subst Q (sym h) q

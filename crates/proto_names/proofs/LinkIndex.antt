@@ -23,7 +23,7 @@ use Rattle.proto_names.specs.Scopes.{reference_in}
 use Rattle.proto_table.specs.Tables.{names_of}
 use Rattle.proto_table.specs.declared.table.Row.{Row}
 use Rattle.proto_table.specs.declared.table.Table.{Table}
-use Rattle.proto_names.proofs.PlainNames.{names_are_plain}
+use Rattle.proto_imports.proofs.PlainNames.{names_are_plain}
 use Rattle.proto_table.proofs.Search.{pick}
 
 row_of : (rows : List Row) (k : ℕ) (n : NameOf) → slice_get (map name_of_row rows) k ≡ Some n → (k < length rows) × ((d : Row) → name_of_row (get_or rows k d) ≡ n)

@@ -37,7 +37,7 @@ use Rattle.proto_text.proofs.Lists.{same_from_word, word_from_same}
 use Rattle.proto_meaning.proofs.Forest.{names_apart}
 use Rattle.proto_imports.proofs.ImportGraph.{import_in}
 use Rattle.proto_table.proofs.Search.{pick}
-use Rattle.proto_sight.proofs.SeenFiles.{imports_within}
+use Rattle.proto_imports.proofs.SeenFiles.{imports_within}
 
 -- ---- rows and names
 

@@ -1,12 +1,16 @@
 -- The names of a link are those of its table.
-use Rattle.std.proofs.Common.{◌≡◌, ◌≢◌, ◌⊎◌, ℕ, zero, suc, ◌<◌, Bool, true, false, ◌&&◌, ◌||◌, List, [], ◌∷◌, length, get_or, map, slice_get, option_map, Some, refl, sym, ◌∙◌, ap, subst, inl, inr, arith, string_bytes}
+use Rattle.std.proofs.Common.{◌≡◌, ◌≢◌, ◌⊎◌, ℕ, zero, suc, ◌<◌, ◌≤◌, Bool, true, false, ◌&&◌, ◌||◌, List, [], ◌∷◌, length, get_or, map, slice_get, Option, option_map, None, Some, refl, sym, ◌∙◌, ap, subst, inl, inr, arith, string_bytes}
+use Rattle.std.specs.Prelude.{if◌then◌else◌}
+use Rattle.std.specs.Global.{Vec}
 use Rattle.std.specs.List.{list_any, All}
+use Rattle.std.specs.Option.{option_and_then}
 use Rattle.std.specs.Str.{bytes_eq}
 use Rattle.std.proofs.lemmas.Bool.{cases_Bool, false_from_ne_true, both_ways, and_parts, and_from}
-use Rattle.std.proofs.lemmas.List.{get_or-map, get_or_default, length-map}
+use Rattle.std.proofs.lemmas.List.{get_or-map, get_or_default, get_or_past, length-map}
 use Rattle.std.proofs.lemmas.List.Folds.{list_any_at}
-use Rattle.std.proofs.lemmas.Option.{slice_get-get_or, none-some, same_Some}
+use Rattle.std.proofs.lemmas.Option.{slice_get-get_or, slice_get_past, slice_get_read, none-some, same_Some}
 use Rattle.proto_meaning.specs.Joined.{joined, ArePlain}
+use Rattle.proto_meaning.specs.Linked.{is_package}
 use Rattle.proto_meaning.specs.Names.{Workspace, shows}
 use Rattle.proto_table.specs.Resolved.{IsIndexOf}
 use Rattle.proto_meaning.specs.Marks.{MarksSeen}
@@ -19,6 +23,58 @@ use Rattle.proto_text.proofs.Lists.{any_to, any_map, word_from_same, same_from_w
 use Rattle.proto_meaning.proofs.Forest.{names_apart}
 use Rattle.proto_table.proofs.Resolved.{shows_from, shows_to}
 use Rattle.proto_table.proofs.Search.{pick}
+
+-- the list of the vector that stands at a place
+pub inner_at : {X : Type 0} (all : List (Vec X)) (lists : List (List X)) → map (λ v. v.items) all ≡ lists → (vs : List (Vec X)) → vs ≡ all → (i : ℕ) → i < length vs
+    → (v : Vec X) → v ≡ get_or vs i v → (xs : List X) → xs ≡ v.items → xs ≡ get_or lists i []
+inner_at all lists same vs vs_are i within v v_is xs xs_are =
+    xs_are ∙ ap (λ z. z.items) v_is ∙ sym (get_or-map (λ z. z.items) vs i v [] within) ∙ ap (λ (z : List (Vec _)). get_or (map (λ x. x.items) z) i []) vs_are ∙ ap (λ (z : List (List _)). get_or z i []) same
+
+-- past the last vector there is none
+pub inner_past : {X : Type 0} (all : List (Vec X)) (lists : List (List X)) → map (λ v. v.items) all ≡ lists → (vs : List (Vec X)) → vs ≡ all → (i : ℕ) → length vs ≤ i → [] ≡ get_or lists i []
+inner_past all lists same vs vs_are i past =
+    let n = length-map vs (λ z. z.items) in
+    sym (get_or_past (map (λ z. z.items) vs) i [] (omega (arith, past, n))) ∙ ap (λ (z : List (Vec _)). get_or (map (λ x. x.items) z) i []) vs_are ∙ ap (λ (z : List (List _)). get_or z i []) same
+
+-- what holds of each vector's list holds of the one at a place
+pub inner_has : {X : Type 0} (P : List X → Type 0) (all : List (Vec X)) → All (λ v. P v.items) all → (vs : List (Vec X)) → vs ≡ all → (i : ℕ) → i < length vs
+    → (v : Vec X) → v ≡ get_or vs i v → (xs : List X) → xs ≡ v.items → P xs
+inner_has P all each vs vs_are i within v v_is xs xs_are = subst P (sym (xs_are ∙ ap (λ z. z.items) v_is)) (subst (All (λ v. P v.items)) (sym vs_are) each i v within)
+
+module _ (rows : List Row) (names : List NameOf) (same : map name_of_row rows ≡ names) (given : List Row) (is : given ≡ rows) (row : ℕ) where
+  -- what a name has is what its row says
+  pub known_at : {A : Type 0} (f : NameOf → A) (r : Row) → row < length given → r ≡ get_or given row r → Some (f (name_of_row r)) ≡ option_map f (slice_get names row)
+  known_at f r within r_is =
+      let n = length-map given name_of_row in
+      sym (ap (λ (ns : List NameOf). option_map f (slice_get ns row)) (sym same ∙ ap (map name_of_row) (sym is))
+      ∙ ap (option_map f) (slice_get_read (map name_of_row given) (length given) row (name_of_row r) (sym n) within (ap name_of_row r_is ∙ sym (get_or-map name_of_row given row r (name_of_row r) within))))
+
+  -- past the last row there is no name
+  pub known_past : {A : Type 0} (f : NameOf → A) → length given ≤ row → None ≡ option_map f (slice_get names row)
+  known_past f past =
+      let n = length-map given name_of_row in
+      sym (ap (λ (ns : List NameOf). option_map f (slice_get ns row)) (sym same ∙ ap (map name_of_row) (sym is)) ∙ ap (option_map f) (slice_get_past (map name_of_row given) row (omega (arith, past, n))))
+
+  -- the same of a name that is no package's
+  pub own_known : (f : NameOf → ℕ) (found : Option Row) → found ≡ option_and_then (λ r. if is_package r.symbol.kind then None else Some r) (slice_get given row)
+      → option_map (λ r. f (name_of_row r)) found ≡ option_and_then (λ n. if is_package n.kind then None else Some (f n)) (slice_get names row)
+  own_known f found found_is =
+      ap (option_map (λ r. f (name_of_row r))) found_is ∙ go given row ∙ ap (λ (ns : List NameOf). option_and_then (λ n. if is_package n.kind then None else Some (f n)) (slice_get ns row)) (ap (map name_of_row) is ∙ same)
+    where
+      pick_own : (b : Bool) (r : Row) → option_map (λ r. f (name_of_row r)) (if b then None else Some r) ≡ (if b then None else Some (f (name_of_row r)))
+      pick_own true r = refl
+      pick_own false r = refl
+
+      go : (rs : List Row) (k : ℕ) → option_map (λ r. f (name_of_row r)) (option_and_then (λ r. if is_package r.symbol.kind then None else Some r) (slice_get rs k)) ≡ option_and_then (λ n. if is_package n.kind then None else Some (f n)) (slice_get (map name_of_row rs) k)
+      go [] k = refl
+      go (r ∷ rs) zero = pick_own (is_package r.symbol.kind) r
+      go (r ∷ rs) (suc k) = go rs k
+
+-- a row but for a package's, as `declared` answers it
+pub own_row : (rows : List Row) (k : ℕ) (r : Row) → k < length rows → r ≡ get_or rows k r → (b : Bool) → b ≡ is_package r.symbol.kind
+    → (if b then None else Some r) ≡ option_and_then (λ r. if is_package r.symbol.kind then None else Some r) (slice_get rows k)
+own_row rows k r within r_is b b_is =
+    ap (λ b. if b then None else Some r) b_is ∙ sym (ap (option_and_then (λ (r : Row). if is_package r.symbol.kind then None else Some r)) (slice_get_read rows (length rows) k r refl within r_is))
 
 text_row : (rows : List Row) (row : ℕ) → option_map (λ n. n.text) (slice_get (map name_of_row rows) row) ≡ slice_get (map (λ r. string_bytes r.name) rows) row
 text_row [] row = refl

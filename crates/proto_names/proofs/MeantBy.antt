@@ -1,8 +1,9 @@
 -- References by the names that they mean, file by file.
-use Rattle.std.proofs.Common.{◌≡◌, ℕ, suc, ◌+◌, ◌<◌, List, [], ◌∷◌, ◌++◌, length, get_or, map, take, sym, ◌∙◌, ap, arith, append_assoc}
+use Rattle.std.proofs.Common.{◌≡◌, ℕ, suc, ◌+◌, ◌<◌, Bool, true, false, cond, List, [], ◌∷◌, ◌++◌, length, get_or, map, take, refl, sym, ◌∙◌, ap, subst, arith, append_assoc, slice_set}
 use Rattle.std.specs.Prelude.{◌==◌}
 use Rattle.std.specs.List.{filter}
-use Rattle.std.proofs.lemmas.List.{map-append, append-nil, length-take-le}
+use Rattle.std.proofs.lemmas.Bool.Decides.{nat_tests}
+use Rattle.std.proofs.lemmas.List.{map-append, append-nil, get_or-set_other, get_or-set_same, length-take-le}
 use Rattle.std.proofs.lemmas.List.Elements.{filter-append}
 use Rattle.proto_names.specs.Linking.{MeantBy, meant_by, all_meant, references_to}
 use Rattle.proto_names.specs.declared.link.RefId.{RefId}
@@ -31,3 +32,27 @@ more_meant fs file row old new l was is =
     ∙ sym (ap (λ z. references_to row (all_meant 0 z)) (take_more fs file [] l)
     ∙ ap (references_to row) (all_meant_more 0 (take file fs) x ∙ ap (λ k. all_meant 0 (take file fs) ++ map (meant_by k) x) n)
     ∙ references_more row (all_meant 0 (take file fs)) (map (meant_by file) x))
+
+-- one reference more of a file
+pub more_put : (file : ℕ) (ms : List Meant) (i : ℕ) (m d : Meant) → i < length ms → m ≡ get_or ms i d → (lists new : List (List RefId)) → m.row < length lists
+    → new ≡ slice_set lists m.row (get_or lists m.row [] ++ record { file = file; token = m.token } ∷ []) → (row : ℕ) (before : List RefId)
+    → get_or lists row [] ≡ before ++ references_to row (map (meant_by file) (take i ms)) → get_or new row [] ≡ before ++ references_to row (map (meant_by file) (take (i + 1) ms))
+more_put file ms i m d l m_is lists new within new_is row before was =
+    ap (λ (ls : List (List RefId)). get_or ls row []) new_is
+    ∙ go (m.row == row) refl
+    ∙ ap (λ rs. rs ++ references_to row (meant_by file m ∷ [])) was
+    ∙ append_assoc before (references_to row (map (meant_by file) (take i ms))) (references_to row (meant_by file m ∷ []))
+    ∙ ap (λ rs. before ++ rs) (sym (ap (λ (zs : List Meant). references_to row (map (meant_by file) zs)) (take_more ms i d l ∙ ap (λ z. take i ms ++ z ∷ []) (sym m_is))
+    ∙ ap (references_to row) (map-append (meant_by file) (take i ms) (m ∷ []))
+    ∙ references_more row (map (meant_by file) (take i ms)) (meant_by file m ∷ [])))
+  where
+    go : (b : Bool) → (m.row == row) ≡ b → get_or (slice_set lists m.row (get_or lists m.row [] ++ record { file = file; token = m.token } ∷ [])) row [] ≡ get_or lists row [] ++ references_to row (meant_by file m ∷ [])
+    go true e =
+        let same : m.row ≡ row = grind (arith, nat_tests, e) in
+        subst (λ k. get_or (slice_set lists m.row (get_or lists m.row [] ++ record { file = file; token = m.token } ∷ [])) k [] ≡ get_or lists k [] ++ record { file = file; token = m.token } ∷ []) same
+        (get_or-set_same lists m.row _ [] within)
+        ∙ ap (λ b. get_or lists row [] ++ map (λ m. m.reference) (cond b (meant_by file m ∷ []) [])) (sym e)
+    go false e =
+        get_or-set_other lists m.row row _ [] (λ same. grind (arith, nat_tests, e, same))
+        ∙ sym (append-nil (get_or lists row []))
+        ∙ ap (λ b. get_or lists row [] ++ map (λ m. m.reference) (cond b (meant_by file m ∷ []) [])) (sym e)

@@ -4,15 +4,15 @@ use Rattle.proto_faults.specs.declared.fault.FaultKind.TheVariants as kinds
 use Rattle.proto_files.specs.GivenFiles.{FileOf, AreWorkspaceFiles}
 use Rattle.proto_meaning.specs.Faults.{Fault, fault, IsLeast, NameFault}
 use Rattle.proto_meaning.specs.Grown.{at}
-use Rattle.proto_names.specs.LinkErrors.{IsLinkError, IsAtToken}
+use Rattle.proto_imports.specs.LinkErrors.{IsLinkError, IsAtToken}
 use Rattle.proto_names.specs.LinkOfFiles.{HasNoImportFault}
 use Rattle.proto_files.specs.FilesRead.{AreRead, ReadOf}
 use Rattle.proto_imports.specs.Links.{link_skeleton, names_in, text_of}
 use Rattle.proto_table.specs.Naming.{tree_named}
 use Rattle.proto_table.specs.Spelled.{ClashFault, Named}
 use Rattle.proto_faults.specs.declared.fault.SchemaFault.{SchemaFault}
-use Rattle.proto_names.proofs.FaultPlaces.{name_found}
-use Rattle.proto_names.proofs.LeastLinkFault.{least_name, link_error}
+use Rattle.proto_imports.proofs.FaultPlaces.{name_found}
+use Rattle.proto_imports.proofs.LeastLinkFault.{least_name, link_error}
 use Rattle.proto_table.proofs.NameFaults.{clashes_are_faults}
 use Rattle.proto_names.proofs.TableNames.{are_spans}
 

@@ -1,8 +1,10 @@
 -- What a reference means by its row, and what is wrong with it.
-use Rattle.std.proofs.Common.{◌≡◌, ◌⊎◌, ℕ, suc, ◌+◌, ◌<◌, Bool, true, false, List, [], ◌∷◌, ◌++◌, length, get_or, slice_get, take, drop, map, Option, Some, None, option_map, refl, sym, ◌∙◌, ap, subst, inl, inr, arith, string_bytes}
+use Rattle.std.proofs.Common.{◌≡◌, ◌⊎◌, ℕ, suc, ◌+◌, ◌<◌, Bool, true, false, List, [], ◌∷◌, ◌++◌, length, get_or, slice_get, take, drop, map, Option, Some, None, option_map, Result, Ok, Err, Bor, refl, sym, ◌∙◌, ap, subst, inl, inr, arith, string_bytes}
+use Rattle.std.specs.Prelude.{ok_or}
 use Rattle.std.specs.List.{All, Contains}
+use Rattle.std.specs.Slice.{IsItemAt}
 use Rattle.std.proofs.lemmas.Bool.{cases_Bool, cases_lt, cond-true, cond-false}
-use Rattle.std.proofs.lemmas.Option.{none-some, same_Some, slice_get_cases}
+use Rattle.std.proofs.lemmas.Option.{none-some, same_Some, slice_get_cases, slice_get_past, slice_get_read}
 use Rattle.std.proofs.lemmas.List.{length-map, map-append, get_or_past, get_or-map, take-append-drop}
 use Rattle.std.proofs.lemmas.List.Elements.{All-append, All-cons, All-nil}
 use Rattle.std.proofs.Math.Seq.{drop-cons}
@@ -167,3 +169,26 @@ module _ (t : Table) (w : Workspace) (f : Use → Reference) where
     flawed = flawed;
     faultless = λ k d b. subst (IsFaultless w) (get_or-map f (take i uses) k d (f d) b) (a.faultless k (f d) (omega (arith, b, length-map (take i uses) f)));
   }
+
+-- what is wrong with a reference is what is wrong with the row that `get` answers
+pub row_got : (t : Table) (rows : List Row) → rows ≡ t.rows.items → (k : ℕ) (is_method : Bool) (row : Option ℕ) → row ≡ Some k → (got : Option (Bor Row)) → IsItemAt rows k got
+    → (found : Option (Bor Row)) → got ≡ found → row_flaw t row is_method ≡ found_flaw (option_map (λ r. r.now) found) is_method
+row_got t rows rows_are k is_method row row_is got item found found_is =
+    ap (λ o. row_flaw t o is_method) row_is ∙ ap (λ (rs : List Row). found_flaw (slice_get rs k) is_method) (sym rows_are)
+    ∙ ap (λ o. found_flaw o is_method) (there got item ∙ ap (option_map (λ r. r.now)) found_is)
+  where
+    there : (got : Option (Bor Row)) → IsItemAt rows k got → slice_get rows k ≡ option_map (λ r. r.now) got
+    there None h = slice_get_past rows k h.3
+    there (Some r) h = slice_get_read rows (length rows) k r.now refl h.3.0 h.1
+
+-- a flaw that stands for want of a value is the one that was given
+pub else_error : {X : Type 0} (o : Option X) (flaw : ReferenceFlaw) → ◌≡◌ {A = Result X ReferenceFlaw} (Err flaw) (ok_or o Unresolved) → Some Unresolved ≡ Some flaw
+else_error {X} o flaw h = ap Some (sym (ap error h ∙ given o))
+  where
+    error : Result X ReferenceFlaw → ReferenceFlaw
+    error (Ok x) = Unresolved
+    error (Err e) = e
+
+    given : (o : Option X) → error (ok_or o Unresolved) ≡ Unresolved
+    given None = refl
+    given (Some x) = refl

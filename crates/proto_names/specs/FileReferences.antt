@@ -9,7 +9,8 @@ use Rattle.proto_meaning.specs.Faults.{fault, IsLeast, ReferenceFault}
 use Rattle.proto_listing.specs.FromTree.{items_in}
 use Rattle.proto_meaning.specs.Grown.{At, at}
 use Rattle.proto_files.specs.FilesRead.{ReadOf, read_at}
-use Rattle.proto_imports.specs.Links.{text_of, names_in, link_skeleton, names_of_files}
+pub use Rattle.proto_imports.specs.Links.{uses_of}
+use Rattle.proto_imports.specs.Links.{text_of, link_skeleton, names_of_files}
 use Rattle.proto_listing.specs.Listing.{package_first, whole}
 use Rattle.proto_meaning.specs.Names.{Workspace}
 use Rattle.proto_table.specs.Naming.{used_named}
@@ -46,10 +47,6 @@ AreLinked t seen rows files reads =
     (k : ℕ) → k < length files
     → IsFileLinked t (get_or (map (λ v. v.items) seen) k [])
     (get_or (map (λ v. v.items) rows) k []) files reads k
-
--- what a file refers to
-abbrev pub uses_of : List ReadOf → ℕ → List (Used ℕ)
-uses_of reads file = (names_in (read_at reads file)).used
 
 -- these are what the references of the file mean
 abbrev pub AreFileMeant : Table → List FileOf → List ReadOf → ℕ → List Meant → Type 0

@@ -1,6 +1,5 @@
 pub mod FileReferences
 pub mod Laws
-pub mod LinkErrors
 pub mod LinkOfFiles
 pub mod Linking
 pub mod Referring

@@ -103,7 +103,6 @@ fn declared(rows: &[Row], index: usize) -> Option<&Row>
 }
 
 /// Whether a name of the table has this text, in a file that is marked.
-#[tactic(auto, using(crate::proofs::Linking::shows_row, crate::proofs::Linking::shows_none))]
 fn shows(table: &Table, seen: &[bool], name: &str) -> bool
     requires { IsTable table.now }
     ensures { result ≡ shows_text seen.now name.now (map name_of_row table.now.rows.items) }

@@ -1,7 +1,7 @@
 //! A fault at a token.
 
 ghost use Rattle.std.specs.Prelude.{◌<◌, length};
-ghost use Rattle.proto_names.specs.LinkErrors.{IsAtToken};
+ghost use Rattle.proto_imports.specs.LinkErrors.{IsAtToken};
 
 use proto_faults::{FaultKind, SchemaFault};
 use proto_files::Files;

@@ -15,7 +15,7 @@ use Rattle.proto_imports.specs.Links.{LinkFaults, link_skeleton, names_of_files,
 use Rattle.proto_rename_laws.specs.Targets.{Target, IsNamed, may_rename}
 use Rattle.proto_rename_laws.proofs.NoLinkFault.{files_are_linked}
 use Rattle.proto_rename_laws.proofs.OneTarget.{targets_are_one}
-use Rattle.proto_names.proofs.PlainNames.{names_are_plain}
+use Rattle.proto_imports.proofs.PlainNames.{names_are_plain}
 use Rattle.proto_targets.specs.Aims.{IsAimOf, IsAimedAt}
 use Rattle.proto_targets.specs.declared.aim.Aim.{Aim}
 

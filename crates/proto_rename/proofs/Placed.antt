@@ -17,7 +17,7 @@ use Rattle.proto_rename_laws.specs.Defaults.{defaults_from, default_words, field
 use Rattle.proto_rename_laws.specs.Places.{same_at, standing}
 use Rattle.proto_rename_laws.specs.Targets.{HasEnum, Target, name_map, renamed_words}
 use Rattle.proto_rename_laws.proofs.Places.{from_flat_map, is_listed, listed}
-use Rattle.proto_names.proofs.PlainNames.{names_are_plain}
+use Rattle.proto_imports.proofs.PlainNames.{names_are_plain}
 use Rattle.proto_rename.specs.Changes.{ArePlacesIn, HasDefaultsIn, IsChangeIn, IsFaultIn, IsValueOf, or_own, places_of}
 use Rattle.proto_rewording.specs.MadeChanges.{IsChangeAt, IsRewordFault, PutsAt}
 use Rattle.proto_rewording.specs.StandingTokens.{IsStandingIn}

@@ -30,7 +30,7 @@ use Rattle.proto_rename_laws.specs.Rewording.{AreReworded}
 use Rattle.proto_rename_laws.specs.Places.{renamed_places, same_at, standing}
 use Rattle.proto_rename_laws.specs.Targets.{Target, name_map, renamed_words}
 use Rattle.proto_rename_laws.proofs.Inside.{plain_inside}
-use Rattle.proto_names.proofs.PlainNames.{names_are_plain}
+use Rattle.proto_imports.proofs.PlainNames.{names_are_plain}
 use Rattle.proto_rename_laws.proofs.Rewording.{other_texts_stay, texts_are_changed}
 use Rattle.proto_rename_laws.proofs.Places.{listed, to_flat_map}
 use Rattle.proto_rename_described.specs.Allowed.{IsAllowed}

@@ -20,8 +20,8 @@ use Rattle.proto_meaning.specs.Skeleton.{Declared, Used, name_of, reference_of}
 use Rattle.proto_meaning.proofs.Basics.{name_from_same, same_from_name}
 use Rattle.proto_meaning.proofs.Renamed.{has_meaning, meant}
 use Rattle.proto_imports.specs.Links.{text_of, link_skeleton, names_of_files}
-use Rattle.proto_table.specs.Naming.{used_named}
-use Rattle.proto_names.specs.FileReferences.{uses_of}
+use Rattle.proto_imports.specs.Links.{used_named}
+use Rattle.proto_imports.specs.Links.{uses_of}
 use Rattle.proto_parts.specs.Parts.{BlockOf, blocks_in, values_in}
 use Rattle.proto_parts.specs.Scenes.{EnumOf, MeantOf, enum_meant}
 use Rattle.proto_checks.specs.FieldFlaws.{is_value_of}

@@ -36,8 +36,8 @@ use Rattle.proto_meaning.proofs.Renamed.{has_meaning, meant}
 use Rattle.proto_meaning.proofs.Symbols.{package_stays}
 use Rattle.proto_listing.specs.FromTree.{items_in}
 use Rattle.proto_imports.specs.Links.{link_skeleton, names_in, names_of_files, text_of}
-use Rattle.proto_table.specs.Naming.{used_named}
-use Rattle.proto_names.specs.FileReferences.{uses_of}
+use Rattle.proto_imports.specs.Links.{used_named}
+use Rattle.proto_imports.specs.Links.{uses_of}
 use Rattle.proto_parts.specs.Options.{is_named, text_option, value_named}
 use Rattle.proto_parts.specs.Parts.{BlockOf, FieldOf, OptionOf, blocks_in, fields_in, options_in}
 use Rattle.proto_parts.specs.Scenes.{EnumOf, MeantOf, Scene, enum_meant, meant_by, text, value}
@@ -50,7 +50,7 @@ use Rattle.proto_checks_laws.specs.Renamed.{DifferInNames, asked_tokens, block_t
 use Rattle.proto_described.specs.Described.{absolute, default_number, default_text, field_type_name, file_described, is_map, type_name_of}
 use Rattle.proto_scenes.specs.SceneOf.{meaning_of, meant_as, scene_of}
 use Rattle.proto_desc.specs.Checked.{described_from}
-use Rattle.proto_names.proofs.PlainNames.{name_in, names_are_plain}
+use Rattle.proto_imports.proofs.PlainNames.{name_in, names_are_plain}
 use Rattle.proto_rename_laws.specs.Defaults.{meaning_from, means_value}
 use Rattle.proto_rename_laws.specs.Roles.{HasDefaultRoles}
 use Rattle.proto_rename_laws.specs.Rewording.{AreReworded}

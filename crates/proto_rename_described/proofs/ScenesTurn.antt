@@ -20,11 +20,11 @@ use Rattle.proto_meaning.proofs.Ren.{last_parts}
 use Rattle.proto_meaning.proofs.Renamed.{has_meaning, meant}
 use Rattle.proto_listing.specs.FromTree.{items_in}
 use Rattle.proto_imports.specs.Links.{names_in, names_of_files, text_of, link_skeleton}
-use Rattle.proto_table.specs.Naming.{used_named}
-use Rattle.proto_names.specs.FileReferences.{uses_of}
+use Rattle.proto_imports.specs.Links.{used_named}
+use Rattle.proto_imports.specs.Links.{uses_of}
 use Rattle.proto_parts.specs.Scenes.{MeantOf, meant_by}
 use Rattle.proto_scenes.specs.SceneOf.{meaning_of, meant_as, scene_of}
-use Rattle.proto_names.proofs.PlainNames.{name_in, names_are_plain}
+use Rattle.proto_imports.proofs.PlainNames.{name_in, names_are_plain}
 use Rattle.proto_rename_laws.specs.Scenes.{IsRename}
 use Rattle.proto_rename_roles.proofs.TokenRoles.{placed_declared}
 use Rattle.proto_rename_laws.proofs.Scenes.{find_agree, find_there, meaning_after, used_here, uses_stay}

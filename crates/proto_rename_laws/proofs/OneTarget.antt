@@ -24,7 +24,7 @@ use Rattle.proto_meaning.proofs.Joined.{joined_apart}
 use Rattle.proto_imports.specs.Links.{link_skeleton, names_of_files, text_of}
 use Rattle.proto_parts.specs.Parts.{BlockOf, blocks_in, values_in}
 use Rattle.proto_scenes.specs.SceneOf.{is_enum_at}
-use Rattle.proto_names.proofs.PlainNames.{names_are_plain}
+use Rattle.proto_imports.proofs.PlainNames.{names_are_plain}
 use Rattle.proto_rename_laws.specs.OneTarget.{TargetsAreOne}
 use Rattle.proto_rename_laws.specs.Targets.{HasEnum, IsNamed, Target, may_rename}
 use Rattle.proto_rename_laws.proofs.Blocks.{one_block}

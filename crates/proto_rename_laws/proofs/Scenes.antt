@@ -36,8 +36,8 @@ use Rattle.proto_meaning.proofs.Renamed.{each_means, has_meaning, meant}
 use Rattle.proto_meaning.proofs.Symbols.{ren_apart}
 use Rattle.proto_listing.specs.FromTree.{file_names}
 use Rattle.proto_imports.specs.Links.{text_of, names_in, link_skeleton, names_of_files}
-use Rattle.proto_table.specs.Naming.{used_named}
-use Rattle.proto_names.specs.FileReferences.{uses_of}
+use Rattle.proto_imports.specs.Links.{used_named}
+use Rattle.proto_imports.specs.Links.{uses_of}
 use Rattle.proto_parts.specs.Numbers.{number_of}
 use Rattle.proto_parts.specs.Parts.{BlockOf, blocks_in, statements, values_in}
 use Rattle.proto_parts.specs.Scenes.{EnumOf, MeantOf, is_proto3, is_proto3_statement, string_of, value_or_none}

@@ -14,7 +14,7 @@ use Rattle.proto_files.specs.FilesRead.{ReadOf}
 use Rattle.proto_meaning.specs.Grown.{At, at}
 use Rattle.proto_meaning.specs.Names.{same_name}
 use Rattle.proto_imports.specs.Links.{text_of}
-use Rattle.proto_names.specs.FileReferences.{uses_of}
+use Rattle.proto_imports.specs.Links.{uses_of}
 use Rattle.proto_parts.specs.Options.{is_named}
 use Rattle.proto_parts.specs.Parts.{FieldOf, blocks_in, fields_in}
 use Rattle.proto_checks_laws.specs.Renamed.{constant_tokens}

@@ -27,8 +27,8 @@ use Rattle.proto_meaning.proofs.Basics.{name_from_same, same_from_name}
 use Rattle.proto_meaning.proofs.Edited.{map_append}
 use Rattle.proto_meaning.proofs.Renamed.{has_meaning, meant}
 use Rattle.proto_imports.specs.Links.{LinkFaults, link_skeleton, names_in, names_of_files, text_of}
-use Rattle.proto_table.specs.Naming.{used_named}
-use Rattle.proto_names.specs.FileReferences.{uses_of}
+use Rattle.proto_imports.specs.Links.{used_named}
+use Rattle.proto_imports.specs.Links.{uses_of}
 use Rattle.proto_names.specs.LinkOfFiles.{IsLinkRead, TextMeant, meant_by_link, meant_by_use}
 use Rattle.proto_names.specs.Linking.{LinkOf, text_at}
 use Rattle.proto_names.specs.declared.references.Meant.{Meant}
@@ -37,7 +37,7 @@ use Rattle.proto_rename_laws.specs.Targets.{Target, IsNamed, name_map}
 use Rattle.proto_rename_laws.proofs.NoLinkFault.{files_are_linked}
 use Rattle.proto_rename_laws.proofs.Places.{from_flat_map, stands_at, to_flat_map}
 use Rattle.proto_rename_laws.proofs.PlacesSuit.{meaning_parts}
-use Rattle.proto_names.proofs.PlainNames.{names_are_plain}
+use Rattle.proto_imports.proofs.PlainNames.{names_are_plain}
 use Rattle.proto_rewording.specs.StandingTokens.{counted, from_end, listed, standing_tokens, words_behind}
 use Rattle.proto_rewording.proofs.EndTokens.{cons_parts, end_split, is_listed, listed_is, same_fronts, split_end, split_map}
 use Rattle.proto_rewording.proofs.NameTexts.{behind_is, is_behind}

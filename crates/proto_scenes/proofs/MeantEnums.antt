@@ -6,7 +6,7 @@ use Rattle.std.proofs.lemmas.Option.{none-some, same_Some, slice_get-get_or}
 use Rattle.proto_files.specs.GivenFiles.{FileOf}
 use Rattle.proto_case.specs.Camel.{entry_name}
 use Rattle.proto_meaning.specs.Faults.{place_of}
-use Rattle.proto_names.specs.FileReferences.{uses_of}
+use Rattle.proto_imports.specs.Links.{uses_of}
 use Rattle.proto_meaning.specs.Grown.{At, at}
 use Rattle.proto_meaning.specs.Joined.{joined}
 use Rattle.proto_meaning.specs.Linked.{is_package}
@@ -17,7 +17,7 @@ use Rattle.proto_imports.specs.Links.{link_skeleton, names_of_files, text_of}
 use Rattle.proto_meaning.specs.Names.{Symbol, is_type, same_name}
 use Rattle.proto_meaning.specs.declared.kind.Kind.{Kind}
 use Rattle.proto_meaning.specs.declared.kind.Kind.TheVariants.{Package, Message, Entry, Enum, Service, Field, EntryField, Oneof, Value, Method}
-use Rattle.proto_table.specs.Naming.{used_named}
+use Rattle.proto_imports.specs.Links.{used_named}
 use Rattle.proto_meaning.specs.Skeleton.{Declared, Used, name_of, symbol_of}
 use Rattle.proto_names.specs.declared.references.Meant.{Meant}
 use Rattle.proto_text.proofs.Lists.{contains_cases, contains_head, contains_later, contains_map, from_map}

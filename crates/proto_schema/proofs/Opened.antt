@@ -12,10 +12,10 @@ use Rattle.proto_faults.specs.declared.fault.SchemaFault.{SchemaFault}
 use Rattle.proto_faults.specs.declared.fault.SchemaFault.TheVariants.{Schema, NoMemory}
 use Rattle.proto_files.proofs.FaultOrder.{comes_before_cases}
 use Rattle.proto_files.proofs.OneOrder.{one_order, paths_are_phase_0, texts_are_phase_1, grammar_is_phase_2}
-use Rattle.proto_names.specs.LinkErrors.{IsLinkError}
+use Rattle.proto_imports.specs.LinkErrors.{IsLinkError}
 use Rattle.proto_files.specs.FilesRead.{read_at}
 use Rattle.proto_imports.specs.Links.{LinkFaults, of_import, of_name, of_reference}
-use Rattle.proto_names.proofs.FaultPlaces.{import_found, name_found, reference_found}
+use Rattle.proto_imports.proofs.FaultPlaces.{import_found, name_found, reference_found}
 use Rattle.proto_checks.proofs.Phases.{flaws_are_of_checks}
 use Rattle.proto_desc.specs.Checked.{CheckFaults, of_flaw, IsCheckError}
 use Rattle.proto_scenes.specs.SceneOf.{scene_of}

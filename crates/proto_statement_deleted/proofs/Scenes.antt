@@ -24,8 +24,8 @@ use Rattle.proto_meaning.proofs.Edited.{map_agree, map_append, map_map}
 use Rattle.proto_meaning.proofs.Renamed.{has_meaning, meant}
 use Rattle.proto_listing.specs.FromTree.{file_names}
 use Rattle.proto_imports.specs.Links.{link_skeleton, names_in, names_of_files, text_of}
-use Rattle.proto_table.specs.Naming.{used_named}
-use Rattle.proto_names.specs.FileReferences.{uses_of}
+use Rattle.proto_imports.specs.Links.{used_named}
+use Rattle.proto_imports.specs.Links.{uses_of}
 use Rattle.proto_parts.specs.Scenes.{EnumOf, MeantOf, Scene}
 use Rattle.proto_scenes.specs.SceneOf.{enum_named, is_proto3_file, lexemes_of, meaning_of, meant_as, means_of}
 use Rattle.proto_checks_laws.proofs.MovedParts.{maps_moved}

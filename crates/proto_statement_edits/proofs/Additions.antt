@@ -15,7 +15,7 @@ use Rattle.proto_meaning.specs.Edits.{IsOvertaken}
 use Rattle.proto_meaning.specs.Grown.{At, at, used_in}
 use Rattle.proto_meaning.specs.Names.{Workspace}
 use Rattle.proto_meaning.specs.Skeleton.{Used, reference_of}
-use Rattle.proto_names.specs.FileReferences.{uses_of}
+use Rattle.proto_imports.specs.Links.{uses_of}
 use Rattle.proto_captures.specs.Overtaking.{IsFirstOvertaken, Overtakes}
 use Rattle.proto_rename_laws.specs.Cases.{IsFirstPlace, StandsBefore}
 use Rattle.proto_statement_changes.specs.ImportChanges.{splice_of_addition}

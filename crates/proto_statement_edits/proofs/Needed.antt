@@ -26,13 +26,13 @@ use Rattle.proto_meaning.proofs.Joined.{joined_apart}
 use Rattle.proto_meaning.proofs.Rename.{typed_is}
 use Rattle.proto_meaning.proofs.Sound.{package_from}
 use Rattle.proto_meaning.proofs.Symbols.{one_symbol, shown}
-use Rattle.proto_names.specs.FileReferences.{uses_of}
+use Rattle.proto_imports.specs.Links.{uses_of}
 use Rattle.proto_names.specs.LinkOfFiles.{HoldsNames, IsLinkOf, TextMeant, meant_by_link, meant_by_use}
 use Rattle.proto_names.specs.Linking.{LinkOf, NameOf, file_at, name_at, own_file, text_at}
 use Rattle.proto_names.specs.declared.references.Meant.{Meant}
 use Rattle.proto_rename_laws.specs.Cases.{StandsBefore}
 use Rattle.proto_rename_laws.proofs.NoLinkFault.{files_are_linked}
-use Rattle.proto_table.specs.Naming.{used_named}
+use Rattle.proto_imports.specs.Links.{used_named}
 use Rattle.proto_statement_names.specs.Cases.{IsNeededIn, with_dropped}
 use Rattle.proto_statement_edits.specs.Steps.{AreSeenIn, IsFirstNeeded, first_hidden, hidden_in, is_hidden}
 

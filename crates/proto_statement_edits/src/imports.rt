@@ -12,9 +12,9 @@ ghost use Rattle.proto_statement_names.specs.Cases.{IsPlaceOf, with_added, with_
 use proto_faults::NoMemory;
 use proto_files::{Files, Words, all_paths, are_read};
 use proto_imports::import::{FileImport, ImportError, WrittenImport, resolve_imports};
+use proto_imports::sight::all_seen;
 use proto_imports::written::written;
 use proto_listing::wanted::imports;
-use proto_sight::all_seen;
 use std::alloc::Global;
 
 /// The imports of each file with their paths.

@@ -8,8 +8,8 @@ use Rattle.proto_meaning.specs.Names.{meaning}
 use Rattle.proto_meaning.specs.Skeleton.{Used, shifted_used}
 use Rattle.proto_meaning.proofs.Edited.{map_agree, map_map}
 use Rattle.proto_imports.specs.Links.{names_of_files, text_of}
-use Rattle.proto_table.specs.Naming.{used_named}
-use Rattle.proto_names.specs.FileReferences.{uses_of}
+use Rattle.proto_imports.specs.Links.{used_named}
+use Rattle.proto_imports.specs.Links.{uses_of}
 use Rattle.proto_parts.specs.Scenes.{MeantOf}
 use Rattle.proto_scenes.specs.SceneOf.{meaning_of, meant_as, means_of}
 use Rattle.proto_statement_names.specs.Kept.{MeanTheSame}

@@ -17,8 +17,8 @@ use Rattle.proto_meaning.specs.Skeleton.{EntryOf, Given, Source, Token, Used, na
 use Rattle.proto_meaning.proofs.Edited.{map_agree, map_map}
 use Rattle.proto_listing.specs.FromTree.{file_names}
 use Rattle.proto_imports.specs.Links.{link_skeleton, names_in, names_of_files, text_of}
-use Rattle.proto_table.specs.Naming.{used_named}
-use Rattle.proto_names.specs.FileReferences.{uses_of}
+use Rattle.proto_imports.specs.Links.{used_named}
+use Rattle.proto_imports.specs.Links.{uses_of}
 use Rattle.proto_parts.specs.Scenes.{EnumOf, MeantOf, Scene, is_proto3, string_of}
 use Rattle.proto_scenes.specs.SceneOf.{enum_named, lexemes_of, meaning_of, meant_as, means_of}
 use Rattle.proto_statement_names.specs.Kept.{MeanTheSame}

@@ -18,7 +18,7 @@ use Rattle.proto_rename_laws.specs.Cases.{IsUnknown, RenameCase, unknown_target 
 use Rattle.proto_rename_laws.specs.Targets.{Target, may_rename}
 use Rattle.proto_rename_laws.proofs.NoLinkFault.{files_are_linked}
 use Rattle.proto_rename_laws.proofs.OneTarget.{targets_are_one}
-use Rattle.proto_names.proofs.PlainNames.{names_are_plain}
+use Rattle.proto_imports.proofs.PlainNames.{names_are_plain}
 use Rattle.proto_rename_laws.proofs.TargetThere.{targets_are_there}
 use Rattle.proto_statement_names.specs.Cases.{DeletionCase, IsField, kind_not_allowed, last_of_oneof, unknown_target}
 use Rattle.proto_statement_names.specs.Fields.{FieldsAreOne, FieldsAreThere, FieldsMayGo}

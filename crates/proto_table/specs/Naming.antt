@@ -3,12 +3,12 @@ use Rattle.std.specs.Prelude.{◌≡◌, ℕ, suc, ◌<◌, List, [], ◌∷◌,
 use Rattle.std.specs.List.{All, Contains}
 use Rattle.proto_meaning.specs.declared.kind.Kind.TheVariants.{Enum, Entry}
 use Rattle.proto_meaning.specs.Names.{Symbol, Reference, Workspace, meaning}
-use Rattle.proto_case.specs.Camel.{entry_name}
+pub use Rattle.proto_listing.specs.Listing.{used_named}
 pub use Rattle.proto_table.specs.LastWords.{named_as}
-use Rattle.proto_meaning.specs.Skeleton.{Used, reference_of}
+use Rattle.proto_meaning.specs.Skeleton.{Used}
 use Rattle.proto_meaning.specs.Tree.{ItemsSpan}
 use Rattle.proto_listing.specs.Listing.{package_first}
-use Rattle.proto_meaning.specs.Grown.{FileNames, At, at, used_in}
+use Rattle.proto_meaning.specs.Grown.{FileNames, At, at}
 use Rattle.proto_meaning.specs.Faults.{Fault, fault}
 use Rattle.proto_table.specs.Spelled.{Named}
 
@@ -21,10 +21,6 @@ tree_named text n (f ∷ fs) =
 -- the tokens of each file are in order
 abbrev pub AreSpans : List FileNames → Type 0
 AreSpans fs = All (λ f. (low high : ℕ) × ItemsSpan low high f.items) fs
-
--- a reference of a file by its words
-abbrev pub used_named : (At → List ℕ) → ℕ → Used ℕ → Reference
-used_named text file u = reference_of text entry_name (used_in file u)
 
 -- what is wrong with a reference, by the fault's number
 pub data ReferenceFlaw (w : Workspace) (r : Reference) : ℕ → Type 0 where

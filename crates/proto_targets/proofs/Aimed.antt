@@ -27,7 +27,7 @@ use Rattle.proto_rename_laws.specs.Targets.{Target, IsNamed, may_rename}
 use Rattle.proto_rename_laws.proofs.Declarations.{EndsAs, IsDeclaredBy, declared_by, path_of, placed_ends, is_written}
 use Rattle.proto_rename_laws.proofs.NoLinkFault.{files_are_linked, files_are_woven}
 use Rattle.proto_rename_laws.proofs.OneTarget.{place_last}
-use Rattle.proto_names.proofs.PlainNames.{names_are_plain}
+use Rattle.proto_imports.proofs.PlainNames.{names_are_plain}
 use Rattle.proto_rename_laws.proofs.TargetThere.{targets_are_there}
 use Rattle.proto_rename_laws.specs.Inside.{IsInside}
 use Rattle.proto_rename_laws.proofs.Inside.{tokens_are_inside}

@@ -19,13 +19,13 @@ use Rattle.proto_meaning.specs.Names.{Symbol}
 use Rattle.proto_meaning.specs.Skeleton.{Token, EntryOf, IsAimEntry, name_of, renaming_of, spell, symbol_of}
 use Rattle.proto_meaning.proofs.Edited.{map_append}
 use Rattle.proto_meaning.proofs.Joined.{joined_apart}
-use Rattle.proto_table.proofs.SpelledNames.{entry_plain}
+use Rattle.proto_listing.proofs.PlainEntries.{entry_plain}
 use Rattle.proto_imports.specs.Links.{LinkFaults, link_skeleton, names_of_files, text_of}
 use Rattle.proto_names.specs.LinkOfFiles.{IsLinkRead}
 use Rattle.proto_names.specs.Linking.{LinkOf, NameOf, name_at}
 use Rattle.proto_rename_laws.specs.Targets.{Target, IsNamed, may_rename, name_map}
 use Rattle.proto_rename_laws.proofs.NoLinkFault.{files_are_linked}
-use Rattle.proto_names.proofs.PlainNames.{names_are_plain}
+use Rattle.proto_imports.proofs.PlainNames.{names_are_plain}
 use Rattle.proto_meaning.specs.Grown.{at}
 use Rattle.proto_targets.specs.Aims.{IsAimedAt}
 use Rattle.proto_targets.specs.declared.aim.Aim.{Aim}

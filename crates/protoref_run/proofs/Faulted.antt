@@ -10,7 +10,7 @@ use Rattle.std.proofs.lemmas.List.Sorted.{Contains-permutation, IsPermutation-sy
 use Rattle.proto_meaning.specs.Faults.{Fault}
 use Rattle.proto_files.specs.FilesRead.{ReadOf}
 use Rattle.proto_imports.specs.Links.{StandsAt, LinkFaults, of_import, of_name, of_reference}
-use Rattle.proto_names.proofs.FaultPlaces.{import_found, name_found, reference_found}
+use Rattle.proto_imports.proofs.FaultPlaces.{import_found, name_found, reference_found}
 use Rattle.proto_desc.specs.Checked.{CheckFaults, of_flaw}
 use Rattle.proto_schema.specs.Whole.{FileFaults, of_read, of_link, of_check, WorkspaceFaults, of_path, of_files}
 use Rattle.proto_recovery.specs.Known.{Over}

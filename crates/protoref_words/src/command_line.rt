@@ -16,7 +16,7 @@ use crate::commands::program;
 use crate::request::{Request, WordsFault};
 use clap::error::ErrorKind;
 use clap::{ArgMatches, Error};
-use proto_lint::{Rule, RuleSet};
+use proto_findings::{Rule, RuleSet};
 use std::alloc::Global;
 
 /// Reads the words, of which the first is the program's name. Behind the command each word is the

@@ -3,7 +3,7 @@
 ghost use Rattle.std.specs.Prelude.{◌≡◌};
 
 use proto_faults::NoMemory;
-use proto_lint::RuleSet;
+use proto_findings::RuleSet;
 use std::alloc::{AllocError, AllocFailed};
 use thiserror::Error;
 

@@ -1,7 +1,7 @@
 use Rattle.std.proofs.Common.{◌≡◌, ◌∙◌, sym, true}
 use Rattle.std.proofs.lemmas.Result.{on_ok_weaker}
 use Rattle.proto_edit_rows.specs.RowsHold.{row_files}
-use Rattle.proto_edit_calls.proofs.SameFiles.{same_files}
+use Rattle.proto_edit_rows.proofs.SameFiles.{same_files}
 use Rattle.proto_edit_rows.proofs.edited.expect_files.Goals as goal
 
 pub returns : goal.returns

@@ -10,7 +10,7 @@ use Rattle.proto_listing.specs.declared.listing.Listing.{Listing}
 use Rattle.proto_names.specs.declared.references.Meant.{Meant}
 use Rattle.proto_names.proofs.FileMeanings.{linked_at}
 use Rattle.proto_names.proofs.LeastFlaws.{all_clean, least_error}
-use Rattle.proto_sight.proofs.SeenFiles.{pushed}
+use Rattle.proto_imports.proofs.SeenFiles.{pushed}
 use Rattle.proto_names.proofs.all_references.all_meanings.Goals as goal
 
 pub file_meanings-requires-clause-listing : goal.file_meanings-requires-clause-listing

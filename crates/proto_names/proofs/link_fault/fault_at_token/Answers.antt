@@ -6,7 +6,7 @@ use Rattle.proto_faults.specs.declared.fault.SchemaFault.TheVariants.{Schema, No
 use Rattle.proto_files.specs.FileTokens.{IsAtToken as IsAtTokenOf}
 use Rattle.proto_files.specs.FilesRead.{read_at}
 use Rattle.proto_files.specs.GivenFiles.{FileOf}
-use Rattle.proto_names.specs.LinkErrors.{IsAtToken}
+use Rattle.proto_imports.specs.LinkErrors.{IsAtToken}
 use Rattle.proto_names.proofs.link_fault.fault_at_token.Goals as goal
 
 at_token : (files : List FileOf) (file token : ℕ) (kind : FaultKind) (e : SchemaFault) → file < length files → IsAtTokenOf files file token kind e → IsAtToken files file token kind e

@@ -1,11 +1,12 @@
 use Rattle.std.proofs.Common.{◌∷◌, [], get_or, option_map, is_some, None, sym, ◌∙◌, ap, subst, arith, string_bytes}
 use Rattle.std.proofs.lemmas.List.{length-map}
+use Rattle.std.proofs.lemmas.Option.{MatchOption-from_none}
 use Rattle.std.proofs.lemmas.Simd.{map-map}
 use Rattle.proto_text.specs.Texts.{word_at}
 use Rattle.proto_meaning.specs.Joined.{IsPlain, ArePlain}
 use Rattle.proto_table.specs.Resolved.{IsTypeAt, under_all}
 use Rattle.proto_table.specs.Tables.{names_of}
-use Rattle.proto_names.proofs.InScope.{empty_behind, words_by, scoped_is, scoped_none}
+use Rattle.proto_names.proofs.InScope.{empty_behind, type_within, words_by, scoped_is, scoped_none}
 use Rattle.proto_names.proofs.Referring.{same_words}
 use Rattle.proto_table.proofs.Resolved.{absolute_is, absolute_none}
 use Rattle.proto_names.proofs.resolve.row_in_scope.Goals as goal
@@ -64,3 +65,21 @@ returns-in_ok-start-in-None-clause-meant c = λ w r index marks plain scope word
     let pw : ArePlain (c.get-first.result.now ∷ words_by c.args.words.now c.as_slice-rest.result.now) = (subst IsPlain (sym c.get-first.ensures) c.requires.plain.0, subst ArePlain rest c.requires.plain.1) in
     scoped_is c.args.table.now c.requires.table c.args.seen.now w r index marks first ws pw (same_words words (sym c.get-first.ensures) rest) plain c.scope_number-number.result (c.scope_number-number.ensures.front r.scope plain scope) (abs ∙ ap is_some c.in-None.is)
     c.is_empty.result (c.is_empty.ensures ∙ empty_behind c.args.words.now c.as_slice-rest.result.now) c.in_ok-start-in-None.start c.in_ok-start-in-None.ensures.hit c.visible_type-in-None.result c.visible_type-in-None.ensures)
+
+pub search-requires : goal.search-requires
+search-requires c = record { table = c.requires.table; within = c.scope_number-number.ensures.within; plain = subst IsPlain (sym c.get-first.ensures) c.requires.plain.0 }
+
+pub returns-in_err-top-in-Some-clause-within : goal.returns-in_err-top-in-Some-clause-within
+returns-in_err-top-in-Some-clause-within c = MatchOption-from_none c.from_residual.result _ c.from_residual.ensures
+
+pub returns-in_err-start-in-None-clause-within : goal.returns-in_err-start-in-None-clause-within
+returns-in_err-start-in-None-clause-within c = MatchOption-from_none c.from_residual-in_err-start-in-None.result _ c.from_residual-in_err-start-in-None.ensures
+
+pub visible_type-requires-in-None-clause-within : goal.visible_type-requires-in-None-clause-within
+visible_type-requires-in-None-clause-within c = c.in_ok-start-in-None.ensures.row
+
+pub returns-in_ok-top-in-Some-clause-within : goal.returns-in_ok-top-in-Some-clause-within
+returns-in_ok-top-in-Some-clause-within c = type_within c.args.table.now c.args.seen.now _ c.visible_type.result c.visible_type.ensures
+
+pub returns-in_ok-start-in-None-clause-within : goal.returns-in_ok-start-in-None-clause-within
+returns-in_ok-start-in-None-clause-within c = type_within c.args.table.now c.args.seen.now _ c.visible_type-in-None.result c.visible_type-in-None.ensures

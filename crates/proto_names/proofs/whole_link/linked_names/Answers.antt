@@ -1,6 +1,9 @@
-use Rattle.std.proofs.Common.{map, subst}
+use Rattle.std.proofs.Common.{length, map, sym, ◌∙◌, ap, subst, arith}
+use Rattle.std.specs.List.{All}
+use Rattle.std.proofs.lemmas.List.{length-map}
+use Rattle.std.proofs.lemmas.Result.{err_from_is_err_and}
 use Rattle.proto_table.specs.Filling.{IsNameError}
-use Rattle.proto_table.specs.Spelled.{ClashFault, all_named}
+use Rattle.proto_table.specs.Spelled.{AreSpelled, ClashFault, all_named}
 use Rattle.proto_table.specs.declared.filling.NameError.TheVariants.{Clash}
 use Rattle.proto_names.proofs.NameErrors.{clash_error, clash_within, no_name_fault}
 use Rattle.proto_names.proofs.TableNames.{spelled_of, names_of_table, rows_listed, rows_within}
@@ -43,3 +46,19 @@ returns-in-Err-Clash-clause-fault c =
     let clash : IsNameError (ClashFault ds) (Clash c.in-Err-Clash.file c.in-Err-Clash.token) = subst (IsNameError (ClashFault ds)) c.in-Err-Clash.field-0-is c.in-Err-Clash.ensures.fault in
     clash_error c.args.files.now c.are_read.ensures.0 c.are_read.ensures.1 ds (spelled.names c.are_read.ensures.0 c.are_read.ensures.1)
     c.len-count.ensures.workspace c.requires.imports c.in-Err-Clash.file c.in-Err-Clash.token c.fault_at_token.result clash c.fault_at_token.ensures
+
+pub declare_all-requires-clause-count : goal.declare_all-requires-clause-count
+declare_all-requires-clause-count c = omega (arith, ap length c.deref.ensures.value, c.in_ok-spelled.ensures.len, c.len-count.ensures.workspace.few)
+
+pub declare_all-requires-clause-spelled : goal.declare_all-requires-clause-spelled
+declare_all-requires-clause-spelled c = subst (All (λ v. AreSpelled v.items)) (sym c.deref.ensures.value) c.in_ok-spelled.ensures.spelled
+
+pub returns-in-Ok-clause-table : goal.returns-in-Ok-clause-table
+returns-in-Ok-clause-table c = c.in-Ok.ensures.table
+
+pub returns-in-Ok-clause-paired : goal.returns-in-Ok-clause-paired
+returns-in-Ok-clause-paired c =
+    sym (length-map c.in-Ok.names.1.items (λ v. v.items)) ∙ c.in-Ok.ensures.rows.paired ∙ length-map c.deref.result.now (λ v. v.items) ∙ ap length c.deref.ensures.value ∙ c.in_ok-spelled.ensures.len
+
+pub returns-in_err-spelled : goal.returns-in_err-spelled
+returns-in_err-spelled c = let e = err_from_is_err_and c.from_residual.result c.from_residual.ensures.1 in rw (e.1, e.2) (record { table = tt; names = tt; paired = tt; rows = tt; within = tt; clean = tt; fault = tt })

@@ -33,3 +33,10 @@ returns-in-Err-Bad-clause-fault c =
     let linked = are_linked files reads c.args.table.now c.args.seen.now c.args.rows.now (c.requires.marks reads are) (c.requires.names reads are) in
     reference_error files reads are c.len.ensures.workspace c.requires.no_import_fault c.requires.no_name_fault c.in-Err-Bad.bad c.reference_kind-kind.result c.fault_at_token.result
     (subst (IsLeastBad files reads) c.in-Err-Bad.field-0-is (c.in-Err-Bad.ensures.fault reads are linked)) c.reference_kind-kind.ensures c.fault_at_token.ensures
+
+pub returns-in-Ok-clause-len : goal.returns-in-Ok-clause-len
+returns-in-Ok-clause-len c = c.in-Ok.ensures.len
+
+pub all_meanings-requires : goal.all_meanings-requires
+all_meanings-requires c =
+    record { table = c.requires.table; listings = c.requires.listings; seen = c.requires.seen; paired = c.requires.paired; rows = c.requires.rows; within = c.requires.within }

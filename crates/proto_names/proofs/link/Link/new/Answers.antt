@@ -1,12 +1,18 @@
 use Rattle.std.proofs.Common.{Bool, List, [], ℕ, ◌<◌, length, get_or, map, sym, ◌∙◌, ap, subst, ◌≡◌, arith}
 use Rattle.std.specs.Global.{Vec}
+use Rattle.std.specs.List.{All}
 use Rattle.std.proofs.lemmas.List.{length-map}
+use Rattle.std.proofs.lemmas.Result.{err_from_is_err_and}
+use Rattle.proto_files.specs.FilesRead.{Each}
+use Rattle.proto_imports.specs.declared.import.FileImport.{FileImport}
+use Rattle.proto_listing.specs.declared.listing.Listing.{Listing}
 use Rattle.proto_names.specs.FileReferences.{AreFileMeant}
+use Rattle.proto_names.specs.LinkOfFiles.{AreNamesOf}
 use Rattle.proto_names.specs.Linking.{LinkOf, all_meant, name_of_row, references_to}
 use Rattle.proto_imports.specs.Links.{AreListings, names_of_files}
 use Rattle.proto_meaning.specs.Marks.{MarksSeen}
 use Rattle.proto_names.specs.declared.references.Meant.{Meant}
-use Rattle.proto_names.proofs.LeastLinkFault.{no_fault}
+use Rattle.proto_imports.proofs.LeastLinkFault.{no_fault}
 use Rattle.proto_names.proofs.LinkMeanings.{all_tokens_rise, is_link_read}
 use Rattle.proto_names.proofs.LinkParts.{files_between, is_link, marks_seen}
 use Rattle.proto_names.proofs.link.Link.new.Goals as goal
@@ -65,3 +71,74 @@ returns-clause-clean c =
 
 pub returns-clause-read : goal.returns-clause-read
 returns-clause-read c = c.are_read.ensures
+
+pub returns-in_err-imports : goal.returns-in_err-imports
+returns-in_err-imports c = let e = err_from_is_err_and c.from_residual.result c.from_residual.ensures.1 in rw (e.1, e.2) (record { link = tt; clean = tt; read = tt; fault = c.in_err-imports.ensures.fault })
+
+pub returns-in_err-seen : goal.returns-in_err-seen
+returns-in_err-seen c = let e = err_from_is_err_and c.from_residual-in_err-seen.result c.from_residual-in_err-seen.ensures.1 in rw (e.1, e.2) (record { link = tt; clean = tt; read = tt; fault = tt })
+
+pub returns-in_err-listings : goal.returns-in_err-listings
+returns-in_err-listings c = let e = err_from_is_err_and c.from_residual-in_err-listings.result c.from_residual-in_err-listings.ensures.1 in rw (e.1, e.2) (record { link = tt; clean = tt; read = tt; fault = tt })
+
+pub returns-in_err-table : goal.returns-in_err-table
+returns-in_err-table c = let e = err_from_is_err_and c.from_residual-in_err-table.result c.from_residual-in_err-table.ensures.1 in rw (e.1, e.2) (record { link = tt; clean = tt; read = tt; fault = c.in_err-table.ensures.fault })
+
+pub returns-in_err-meant : goal.returns-in_err-meant
+returns-in_err-meant c = let e = err_from_is_err_and c.from_residual-in_err-meant.result c.from_residual-in_err-meant.ensures.1 in rw (e.1, e.2) (record { link = tt; clean = tt; read = tt; fault = c.in_err-meant.ensures.fault })
+
+pub returns-in_err-references : goal.returns-in_err-references
+returns-in_err-references c = let e = err_from_is_err_and c.from_residual-in_err-references.result c.from_residual-in_err-references.ensures.1 in rw (e.1, e.2) (record { link = tt; clean = tt; read = tt; fault = tt })
+
+pub references_by_name-requires-clause-count : goal.references_by_name-requires-clause-count
+references_by_name-requires-clause-count c = omega (arith, ap length c.deref-6.ensures.value, c.in_ok-meant.ensures.len, c.len-count.ensures.workspace.few)
+
+pub references_by_name-requires-clause-within : goal.references_by_name-requires-clause-within
+references_by_name-requires-clause-within c =
+    let n : length c.in_ok-table.table.rows.items ≡ c.len.result = omega (arith, c.len.ensures, c.in_ok-table.table.rows.ok.0) in
+    subst (λ (k : ℕ). All (λ (v : Vec Meant). All (λ m. m.row < k) v.items) c.deref-6.result.now) n
+    (subst (All (λ (v : Vec Meant). All (λ m. m.row < length c.in_ok-table.table.rows.items) v.items)) (sym c.deref-6.ensures.value) c.in_ok-meant.ensures.within)
+
+pub from_parts-requires-clause-paired : goal.from_parts-requires-clause-paired
+from_parts-requires-clause-paired c = omega (arith, c.in_ok-references.ensures.len, c.len.ensures, c.in_ok-table.table.rows.ok.0)
+
+pub linked_references-requires-clause-seen : goal.linked_references-requires-clause-seen
+linked_references-requires-clause-seen c = ap length c.deref-3.ensures.value ∙ c.in_ok-seen.ensures.len ∙ ap length c.deref.ensures.value ∙ c.in_ok-imports.ensures.len
+
+pub linked_references-requires-clause-paired : goal.linked_references-requires-clause-paired
+linked_references-requires-clause-paired c = ap length c.deref-4.ensures.value ∙ c.in_ok-table.ensures.paired
+
+pub linked_references-requires-clause-rows : goal.linked_references-requires-clause-rows
+linked_references-requires-clause-rows c =
+    subst (Each (λ k (v : Vec ℕ). (d : Listing) → length v.items ≡ length (get_or c.deref-5.result.now k d).declared.items)) (sym c.deref-4.ensures.value)
+    (subst (λ (ls : List Listing). Each (λ k (v : Vec ℕ). (d : Listing) → length v.items ≡ length (get_or ls k d).declared.items) c.in_ok-table.rows.items) (c.deref-2.ensures.value ∙ sym c.deref-5.ensures.value) c.in_ok-table.ensures.rows)
+
+pub linked_references-requires-clause-within : goal.linked_references-requires-clause-within
+linked_references-requires-clause-within c = subst (All (λ (v : Vec ℕ). All (λ r. r < length c.in_ok-table.table.rows.items) v.items)) (sym c.deref-4.ensures.value) c.in_ok-table.ensures.within
+
+pub linked_references-requires-clause-names : goal.linked_references-requires-clause-names
+linked_references-requires-clause-names c = λ reads are. subst (AreNamesOf c.args.files.now reads c.in_ok-table.table) (sym c.deref-4.ensures.value) (c.in_ok-table.ensures.names reads are)
+
+pub all_seen-requires : goal.all_seen-requires
+all_seen-requires c =
+    let n : length c.args.files.now ≡ length c.deref.result.now = omega (arith, ap length c.deref.ensures.value, c.in_ok-imports.ensures.len) in
+    record {
+      count = omega (arith, n, c.len-count.ensures.workspace.few);
+      within = subst (λ (k : ℕ). All (λ (v : Vec FileImport). All (λ i. i.to < k) v.items) c.deref.result.now) n
+          (subst (All (λ (v : Vec FileImport). All (λ i. i.to < length c.args.files.now) v.items)) (sym c.deref.ensures.value) c.in_ok-imports.ensures.within);
+    }
+
+pub linked_names-requires-clause-imports : goal.linked_names-requires-clause-imports
+linked_names-requires-clause-imports c = c.in_ok-imports.ensures.clean
+
+pub linked_references-requires-clause-table : goal.linked_references-requires-clause-table
+linked_references-requires-clause-table c = c.in_ok-table.ensures.table
+
+pub linked_references-requires-clause-no_import_fault : goal.linked_references-requires-clause-no_import_fault
+linked_references-requires-clause-no_import_fault c = c.in_ok-imports.ensures.clean
+
+pub linked_references-requires-clause-no_name_fault : goal.linked_references-requires-clause-no_name_fault
+linked_references-requires-clause-no_name_fault c = c.in_ok-table.ensures.clean
+
+pub from_parts-requires-clause-table : goal.from_parts-requires-clause-table
+from_parts-requires-clause-table c = c.in_ok-table.ensures.table

@@ -1,6 +1,0 @@
-//! What each file of a workspace sees.
-#![tactic(auto)]
-
-mod sight;
-
-pub use sight::all_seen;
