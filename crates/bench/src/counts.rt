@@ -7,7 +7,6 @@ ghost use Rattle.bench.specs.Reports.{AreCounts};
 
 use crate::kind::Kind;
 use proto_tree::{File, Item};
-use std::fmt;
 
 /// The items that a file has at its top, by their kind. Nested ones are not counted.
 #[derive(Clone, Copy)]
@@ -58,21 +57,5 @@ pub fn counts_of(file: &File) -> Counts
         services: count_of(items, Kind::Service),
         imports: count_of(items, Kind::Import),
         options: count_of(items, Kind::Option),
-    }
-}
-
-impl fmt::Display for Counts {
-    fn fmt<W: fmt::Write>(&self, f: &mut fmt::Formatter<W>) -> fmt::Result {
-        let Counts {
-            messages,
-            enums,
-            services,
-            imports,
-            options,
-        } = *self;
-        write!(
-            f,
-            "{messages} messages, {enums} enums, {services} services, {imports} imports, {options} options"
-        )
     }
 }

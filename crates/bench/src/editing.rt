@@ -1,5 +1,6 @@
 //! An edit, and the time that it takes beside opening the files.
 
+use crate::files_at;
 use proto_entries::{Change, Refusal, put_all};
 use proto_files::are_read;
 use proto_rename::rename;
@@ -8,20 +9,20 @@ use proto_statement_deleted::laws::numbers_are_read;
 use proto_statement_edits::{add_import, delete_field, drop_import};
 use std::alloc::Global;
 use std::io;
-use std::rt::Clock;
+use std::rt::{Clock, Files};
 use std::time::Instant;
 
-/// What is asked.
+// What is asked.
 #[derive(Clone, Copy)]
-pub(crate) enum Edit<'a> {
+enum Edit<'a> {
     Rename { name: &'a str, to: &'a str },
     DeleteField { name: &'a str },
     AddImport { file: &'a str, path: &'a str },
     DropImport { file: &'a str, path: &'a str },
 }
 
-/// The edit that words begin with, and the words behind it.
-pub(crate) fn read_edit(words: &[String]) -> Option<(Edit<'_>, &[String])> {
+// The edit that words begin with, and the words behind it.
+fn read_edit(words: &[String]) -> Option<(Edit<'_>, &[String])> {
     let [command, first, rest @ ..] = words else {
         return None;
     };
@@ -32,26 +33,15 @@ pub(crate) fn read_edit(words: &[String]) -> Option<(Edit<'_>, &[String])> {
     let [second, rest @ ..] = rest else {
         return None;
     };
-    let edit = edit_of_two(command, first, second.as_str())?;
+    let (name, to) = (first, second.as_str());
+    let (file, path) = (name, to);
+    let edit = match command {
+        "rename" => Edit::Rename { name, to },
+        "add-import" => Edit::AddImport { file, path },
+        "drop-import" => Edit::DropImport { file, path },
+        _ => return None,
+    };
     Some((edit, rest))
-}
-
-fn edit_of_two<'a>(command: &str, first: &'a str, second: &'a str) -> Option<Edit<'a>> {
-    match command {
-        "rename" => Some(Edit::Rename {
-            name: first,
-            to: second,
-        }),
-        "add-import" => Some(Edit::AddImport {
-            file: first,
-            path: second,
-        }),
-        "drop-import" => Some(Edit::DropImport {
-            file: first,
-            path: second,
-        }),
-        _ => None,
-    }
 }
 
 fn changes_of(alloc: Global, schema: &Schema, edit: Edit) -> Result<Vec<Change>, Refusal> {
@@ -70,69 +60,79 @@ fn changes_of(alloc: Global, schema: &Schema, edit: Edit) -> Result<Vec<Change>,
 // Whether what the changes leave is opened.
 fn opens_with(alloc: Global, schema: &Schema, changes: &[Change]) -> bool {
     match put_all(alloc, schema.files(), changes) {
-        Ok(Some(files)) => Schema::open(alloc, files).is_ok(),
+        Ok(Some(files)) => match Schema::open(alloc, files) {
+            Ok(opened) => {
+                opened.release();
+                true
+            }
+            Err(_fault) => false,
+        },
         _ => false,
     }
 }
 
-fn micros_since<R: Clock>(rt: &R, start: Instant) -> io::Result<u128> {
-    Ok(start.elapsed(rt)?.as_micros())
+fn micros(from: Instant, to: Instant) -> u128 {
+    to.duration_since(from).as_micros()
 }
 
-// What the changes of an edit leave, after so many microseconds of opening and of the answer.
-fn accepted<R: AllocGlobal + Clock>(
+// The answer to an edit that is asked at a time, where the opening of the files began at another,
+// and what it leaves.
+fn print_answer<R: Print + Clock + AllocGlobal>(
     rt: &R,
     schema: &Schema,
-    changes: Vec<Change>,
-    opening: u128,
-    editing: u128,
-) -> io::Result<String> {
-    let start = Instant::now(rt)?;
-    let end = if opens_with(rt.alloc(), schema, &changes) {
-        "opened anew"
-    } else {
-        "not opened anew"
-    };
-    let reopening = micros_since(rt, start)?;
-    let count = changes.len();
-    Ok(format!(in rt.alloc();
-        "{count} files: opened {opening}, edited {editing}, {end} {reopening}\n"
-    )?)
-}
-
-// The answer to an edit, and what it leaves, after the files were opened since then.
-fn answered<R: AllocGlobal + Clock>(
-    rt: &R,
-    schema: &Schema,
-    edit: Edit,
-    opened: Instant,
-) -> io::Result<String> {
-    let opening = micros_since(rt, opened)?;
-    let start = Instant::now(rt)?;
-    let answer = changes_of(rt.alloc(), schema, edit);
-    let editing = micros_since(rt, start)?;
+    answer: &Result<Vec<Change>, Refusal>,
+    begun: Instant,
+    asked: Instant,
+) -> io::Result<()> {
+    let answered = Instant::now(rt)?;
+    let (opening, editing) = (micros(begun, asked), micros(asked, answered));
     match answer {
-        Ok(changes) => accepted(rt, schema, changes, opening, editing),
+        Ok(changes) => {
+            let end = if opens_with(rt.alloc(), schema, changes) {
+                "opened anew"
+            } else {
+                "not opened anew"
+            };
+            let (count, reopening) = (changes.len(), micros(answered, Instant::now(rt)?));
+            println!(rt; "{count} files: opened {opening}, edited {editing}, {end} {reopening}")
+        }
         Err(refusal) => {
             let (number, name) = (refusal.number(), refusal.name());
-            Ok(format!(in rt.alloc();
-                "refused {number} {name}: opened {opening}, edited {editing}\n"
-            )?)
+            println!(rt; "refused {number} {name}: opened {opening}, edited {editing}")
         }
     }
 }
 
-/// How many files an edit changes, and three times in microseconds: of opening the files, of the
-/// edit's answer, and of putting its changes and opening what they leave. Of a refused edit why it
-/// is, and the first two times.
-pub(crate) fn timed<R: AllocGlobal + Clock>(
+// The answer is borrowed by what has early exits.
+fn answer<R: Print + Clock + AllocGlobal>(
     rt: &R,
+    schema: &Schema,
     edit: Edit,
-    files: Vec<(String, Vec<u8>)>,
-) -> io::Result<String> {
-    let start = Instant::now(rt)?;
-    match Schema::open(rt.alloc(), files) {
-        Ok(schema) => answered(rt, &schema, edit, start),
-        Err(_) => Ok(String::from_str(rt.alloc(), "not opened\n")?),
+    begun: Instant,
+) -> io::Result<()> {
+    let asked = Instant::now(rt)?;
+    let answer = changes_of(rt.alloc(), schema, edit);
+    print_answer(rt, schema, &answer, begun, asked)
+}
+
+/// Prints how many files an edit changes, and three times in microseconds: of opening the files, of
+/// the edit's answer, and of putting its changes and opening what they leave. Of a refused edit why
+/// it is, and the first two times.
+pub(crate) fn time_edit<R: Files + Print + Clock + AllocGlobal>(
+    rt: &R,
+    words: &[String],
+) -> io::Result<()> {
+    let Some((edit, paths)) = read_edit(words) else {
+        return println!(rt; "no edit");
+    };
+    let given = files_at(rt, paths)?;
+    let begun = Instant::now(rt)?;
+    match Schema::open(rt.alloc(), given) {
+        Ok(schema) => {
+            let printed = answer(rt, &schema, edit, begun);
+            schema.release();
+            printed
+        }
+        Err(_fault) => println!(rt; "not opened"),
     }
 }

@@ -13,40 +13,37 @@ mod kind;
 mod report;
 mod steps;
 
-use crate::editing::{read_edit, timed};
-use crate::steps::answer;
+use crate::editing::time_edit;
+use crate::steps::{compile, count, lex_all, parse_all};
 use std::rt::{Clock, Files};
 use std::{env, fs, io};
 
+/// Files by path, with their bytes.
+type Given = Vec<(String, Vec<u8>)>;
+
 fn main(rt: HostRuntime) -> io::Result<()> {
     let words: Vec<String> = env::args(&rt)?.collect(rt.alloc())?;
-    // The first word is the name of the program itself.
-    let [_program, step, words @ ..] = words.as_slice() else {
-        return println!(rt; "no step");
-    };
-    if step.as_str() == "edit" {
-        let text = edited(&rt, words)?;
-        return print!(rt; "{text}");
-    }
-    match answer(rt.alloc(), step.as_str(), files_at(&rt, words)?) {
-        Ok(text) => print!(rt; "{text}"),
-        Err(_) => println!(rt; "no memory"),
-    }
+    answer(&rt, words.as_slice())
 }
 
-// The times of the edit that words name, over the files that the other words name.
-fn edited<R: Files + Clock + AllocGlobal>(rt: &R, words: &[String]) -> io::Result<String> {
-    match read_edit(words) {
-        Some((edit, paths)) => timed(rt, edit, files_at(rt, paths)?),
-        None => Ok(String::from_str(rt.alloc(), "no edit\n")?),
+// The first word is the name of the program itself.
+fn answer<R: Files + Clock + Print + AllocGlobal>(rt: &R, words: &[String]) -> io::Result<()> {
+    let [_program, step, words @ ..] = words else {
+        return println!(rt; "no step");
+    };
+    match step.as_str() {
+        "lex" => lex_all(rt, words),
+        "parse" => parse_all(rt, words),
+        "link" => count(rt, files_at(rt, words)?, false),
+        "lint" => count(rt, files_at(rt, words)?, true),
+        "compile" => compile(rt, files_at(rt, words)?),
+        "edit" => time_edit(rt, words),
+        _ => println!(rt; "no such step"),
     }
 }
 
 // The files with their bytes.
-fn files_at<R: Files + AllocGlobal>(
-    rt: &R,
-    paths: &[String],
-) -> io::Result<Vec<(String, Vec<u8>)>> {
+fn files_at<R: Files + AllocGlobal>(rt: &R, paths: &[String]) -> io::Result<Given> {
     let mut files = Vec::new(rt.alloc());
     for path in paths {
         let bytes = fs::read(rt, path.as_str())?;

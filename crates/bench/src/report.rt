@@ -9,7 +9,6 @@ use crate::counts::{Counts, counts_of};
 use proto_text::{Source, TextFault, lex};
 use proto_tree::{ParseFault, parse};
 use std::alloc::Global;
-use std::fmt;
 
 /// A fault as the table of faults has it.
 #[derive(Clone, Copy)]
@@ -71,21 +70,5 @@ pub fn report_on(alloc: Global, bytes: Vec<u8>) -> Report
     match Source::new(bytes) {
         Ok(source) => report_text(alloc, &source),
         Err(_) => Report::NoText,
-    }
-}
-
-impl fmt::Display for Fault {
-    fn fmt<W: fmt::Write>(&self, f: &mut fmt::Formatter<W>) -> fmt::Result {
-        write!(f, "{} {} {}", self.number, self.name, self.offset)
-    }
-}
-
-impl fmt::Display for Report {
-    fn fmt<W: fmt::Write>(&self, f: &mut fmt::Formatter<W>) -> fmt::Result {
-        match self {
-            Report::Counts(counts) => write!(f, "{counts}"),
-            Report::Fault(fault) => write!(f, "{fault}"),
-            Report::NoText => f.write_str("too large or no text"),
-        }
     }
 }

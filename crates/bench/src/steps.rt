@@ -1,106 +1,137 @@
-//! The steps, each over files that are given by path and bytes, and the text that is printed.
+//! The steps over files, and what is printed of them.
 
-use crate::report::report_on;
+use crate::counts::Counts;
+use crate::report::{Report, report_on};
+use crate::{Given, files_at};
 use proto_desc::{Descriptors, to_json};
-use proto_faults::{Fault, NoMemory, SchemaFault};
+use proto_faults::{NoMemory, SchemaFault};
 use proto_files::{Files, Paths};
 use proto_lint::{RuleSet, lint};
 use proto_names::Link;
 use proto_schema::Schema;
 use proto_text::{Source, lex};
 use std::alloc::Global;
-
-/// What a step says of files: whole lines.
-pub(crate) fn answer(
-    alloc: Global,
-    step: &str,
-    files: Vec<(String, Vec<u8>)>,
-) -> Result<String, NoMemory> {
-    match step {
-        "lex" => lexed(alloc, files),
-        "parse" => parsed(alloc, files),
-        "link" => match counted(alloc, files, false) {
-            Some(count) => Ok(format!(in alloc; "{count} files link\n")?),
-            None => Ok(String::from_str(alloc, "no link\n")?),
-        },
-        "lint" => match counted(alloc, files, true) {
-            Some(count) => Ok(format!(in alloc; "{count} findings\n")?),
-            None => Ok(String::from_str(alloc, "no link\n")?),
-        },
-        "compile" => compiled(alloc, files),
-        _ => Ok(String::from_str(alloc, "no such step\n")?),
-    }
-}
+use std::{fs, io, rt};
 
 // How many tokens the text of the bytes has, if it has tokens.
 fn token_count(alloc: Global, bytes: Vec<u8>) -> Option<usize> {
-    let source = Source::new(bytes).ok()?;
-    let tokens = lex(alloc, &source).ok()?;
-    Some(tokens.len())
-}
-
-// How many tokens all files have.
-fn lexed(alloc: Global, files: Vec<(String, Vec<u8>)>) -> Result<String, NoMemory> {
-    let mut all: usize = 0;
-    for (_path, bytes) in files {
-        match token_count(alloc, bytes) {
-            Some(count) => all = all.saturating_add(count),
-            None => return Ok(String::from_str(alloc, "no tokens\n")?),
-        }
-    }
-    Ok(format!(in alloc; "{all} tokens\n")?)
-}
-
-// A line for each file: what it declares, or its fault.
-fn parsed(alloc: Global, files: Vec<(String, Vec<u8>)>) -> Result<String, NoMemory> {
-    let mut text = String::new(alloc);
-    for (path, bytes) in files {
-        let found = report_on(alloc, bytes);
-        let line = format!(in alloc; "{path}: {found}\n")?;
-        text.push_str(line.as_str())?;
-    }
-    Ok(text)
-}
-
-// How many files link, or how many findings they have.
-fn counted_in(alloc: Global, files: &Files, is_linted: bool) -> Option<usize> {
-    let link = match Link::new(alloc, files) {
-        Ok(link) => link,
-        Err(_) => return None,
-    };
-    if !is_linted {
-        return Some(files.len());
-    }
-    match lint(alloc, files, &link, &RuleSet::all()) {
-        Ok(found) => Some(found.len()),
+    match Source::new(bytes) {
+        Ok(source) => match lex(alloc, &source) {
+            Ok(tokens) => Some(tokens.len()),
+            Err(_) => None,
+        },
         Err(_) => None,
     }
 }
 
-// The same of given files, if they can be read and link.
-fn counted(alloc: Global, given: Vec<(String, Vec<u8>)>, is_linted: bool) -> Option<usize> {
-    let paths = Paths::new(alloc, given).ok()?;
-    let files = Files::read(alloc, paths).ok()?;
-    counted_in(alloc, &files, is_linted)
+/// Prints how many tokens all files have.
+pub(crate) fn lex_all<R: rt::Files + Print + AllocGlobal>(
+    rt: &R,
+    paths: &[String],
+) -> io::Result<()> {
+    let mut all: usize = 0;
+    for path in paths {
+        match token_count(rt.alloc(), fs::read(rt, path.as_str())?) {
+            Some(count) => all = all.saturating_add(count),
+            None => return println!(rt; "no tokens"),
+        }
+    }
+    println!(rt; "{all} tokens")
 }
 
-// The descriptors as JSON, or the fault as `path:offset: number name`.
-fn compiled(alloc: Global, files: Vec<(String, Vec<u8>)>) -> Result<String, NoMemory> {
-    match Schema::open(alloc, files) {
-        Ok(schema) => json_line(alloc, schema.descriptors()),
-        Err(SchemaFault::Schema(fault)) => fault_line(alloc, &fault),
-        Err(SchemaFault::NoMemory) => Err(NoMemory),
+/// Prints a line for each file: what it declares, or its fault.
+pub(crate) fn parse_all<R: rt::Files + Print + AllocGlobal>(
+    rt: &R,
+    paths: &[String],
+) -> io::Result<()> {
+    for path in paths {
+        let said = report_on(rt.alloc(), fs::read(rt, path.as_str())?);
+        print_report(rt, path.as_str(), &said)?;
+    }
+    Ok(())
+}
+
+fn print_report<R: Print>(rt: &R, path: &str, report: &Report) -> io::Result<()> {
+    match report {
+        Report::Counts(counts) => {
+            let Counts {
+                messages,
+                enums,
+                services,
+                imports,
+                options,
+            } = *counts;
+            println!(rt;
+                "{path}: {messages} messages, {enums} enums, {services} services, {imports} imports, {options} options"
+            )
+        }
+        Report::Fault(fault) => {
+            let (number, name, offset) = (fault.number, fault.name, fault.offset);
+            println!(rt; "{path}: {number} {name} {offset}")
+        }
+        Report::NoText => println!(rt; "{path}: too large or no text"),
     }
 }
 
-fn json_line(alloc: Global, descriptors: &Descriptors) -> Result<String, NoMemory> {
-    let mut text = to_json(alloc, descriptors)?;
-    text.push('\n')?;
-    Ok(text)
+fn read(alloc: Global, given: Given) -> Result<Files, SchemaFault> {
+    let paths = Paths::new(alloc, given)?;
+    Files::read(alloc, paths)
 }
 
-fn fault_line(alloc: Global, fault: &Fault) -> Result<String, NoMemory> {
-    let (path, offset) = (fault.path.as_str(), fault.offset);
-    let (number, name) = (fault.number(), fault.name());
-    Ok(format!(in alloc; "{path}:{offset}: {number} {name}\n")?)
+// How many files link, or how many findings they have, if they link.
+fn count_in(alloc: Global, files: &Files, is_linted: bool) -> Option<usize> {
+    match Link::new(alloc, files) {
+        Ok(link) => {
+            if is_linted {
+                match lint(alloc, files, &link, &RuleSet::all()) {
+                    Ok(found) => Some(found.len()),
+                    Err(_) => None,
+                }
+            } else {
+                Some(files.len())
+            }
+        }
+        Err(_) => None,
+    }
+}
+
+/// Prints how many files link, or how many findings they have.
+pub(crate) fn count<R: Print + AllocGlobal>(
+    rt: &R,
+    given: Given,
+    is_linted: bool,
+) -> io::Result<()> {
+    let what = if is_linted { "findings" } else { "files link" };
+    let count = match read(rt.alloc(), given) {
+        Ok(files) => count_in(rt.alloc(), &files, is_linted),
+        Err(_) => None,
+    };
+    match count {
+        Some(count) => println!(rt; "{count} {what}"),
+        None => println!(rt; "no link"),
+    }
+}
+
+/// Prints the descriptors as JSON, or the fault as `path:offset: number name`.
+pub(crate) fn compile<R: Print + AllocGlobal>(rt: &R, given: Given) -> io::Result<()> {
+    match Schema::open(rt.alloc(), given) {
+        Ok(schema) => {
+            let printed = print_json(rt, schema.descriptors());
+            schema.release();
+            printed
+        }
+        Err(SchemaFault::Schema(fault)) => {
+            let (path, offset) = (fault.path.as_str(), fault.offset);
+            let (number, name) = (fault.number(), fault.name());
+            println!(rt; "{path}:{offset}: {number} {name}")
+        }
+        Err(SchemaFault::NoMemory) => println!(rt; "no memory"),
+    }
+}
+
+fn print_json<R: Print + AllocGlobal>(rt: &R, descriptors: &Descriptors) -> io::Result<()> {
+    match to_json(rt.alloc(), descriptors) {
+        Ok(text) => println!(rt; "{text}"),
+        Err(NoMemory) => println!(rt; "no memory"),
+    }
 }

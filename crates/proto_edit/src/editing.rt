@@ -16,6 +16,7 @@ use proto_rename::rename;
 use proto_statement_deleted::laws::numbers_are_read;
 use proto_statement_edits::{add_import, delete_field, drop_import};
 use std::alloc::Global;
+use std::mem;
 
 impl Workspace {
     // What a rename changes, file by file, or the least case that refuses it.
@@ -128,7 +129,7 @@ impl Workspace {
             (asked edit) r × (self.new ≡ self.old)) }
     {
         let (next, entry) = self.with_edit(alloc, &edit)?;
-        *self = next;
+        mem::replace(self, next).release();
         Ok(entry)
     }
 
@@ -138,7 +139,8 @@ impl Workspace {
         ensures err { IfErr result (λ r. IsUndoRefusal self.old entry.now r
             × (self.new ≡ self.old)) }
     {
-        *self = self.without_entry(alloc, entry)?;
+        let before = self.without_entry(alloc, entry)?;
+        mem::replace(self, before).release();
         Ok(())
     }
 
@@ -178,13 +180,22 @@ impl Workspace {
         for edit in edits {
             let answer = match workspace.with_edit(alloc, edit) {
                 Ok((next, entry)) => {
-                    workspace = next;
+                    mem::replace(&mut workspace, next).release();
                     Ok(entry)
                 }
-                Err(Refusal::NoMemory) => return Err(NoMemory),
+                Err(Refusal::NoMemory) => {
+                    workspace.release();
+                    return Err(NoMemory);
+                }
                 Err(refusal) => Err(refusal),
             };
-            answers.push(answer)?;
+            match answers.push(answer) {
+                Ok(()) => {}
+                Err(_) => {
+                    workspace.release();
+                    return Err(NoMemory);
+                }
+            }
         }
         Ok((workspace, answers))
     }
@@ -200,7 +211,13 @@ impl Workspace {
         statements_are_known();
         let mut workspace = self.copied(alloc)?;
         for entry in entries.iter().rev() {
-            workspace = workspace.without_entry(alloc, entry)?;
+            match workspace.without_entry(alloc, entry) {
+                Ok(before) => mem::replace(&mut workspace, before).release(),
+                Err(refusal) => {
+                    workspace.release();
+                    return Err(refusal);
+                }
+            }
         }
         Ok(workspace)
     }

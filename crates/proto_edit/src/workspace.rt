@@ -76,4 +76,9 @@ impl Workspace {
     {
         self.schema.descriptors()
     }
+
+    /// Lets the workspace go, as `Schema::release` does.
+    pub fn release(self) {
+        self.schema.release();
+    }
 }

@@ -285,7 +285,9 @@ fn expect_back_at_once(
 ) -> Result<(), Unlike> {
     let entries = edited.entries.as_slice();
     let back = edited.workspace.undo_all(alloc, entries)?;
-    expect_first(alloc, &back, files, first)
+    let held = expect_first(alloc, &back, files, first);
+    back.release();
+    held
 }
 
 // They lead back one by one, as undos say, if there are any.
@@ -391,7 +393,9 @@ fn expect_run(
     let (workspace, answers) = run(alloc, workspace, row.steps)?;
     let entries = Vec::new(alloc);
     let mut ran = Edited { workspace, entries };
-    expect_ran(alloc, &mut ran, answers, row, first, undos)
+    let held = expect_ran(alloc, &mut ran, answers, row, first, undos);
+    ran.workspace.release();
+    held
 }
 
 // ---- a row
@@ -437,7 +441,9 @@ pub(crate) fn expect_steps(
     ensures { OnOk result (StepsHold (row_files files.now) (map step_of steps.now)) }
 {
     let mut edited = begun(alloc, files)?;
-    expect_answers(alloc, &mut edited, steps)
+    let held = expect_answers(alloc, &mut edited, steps);
+    edited.workspace.release();
+    held
 }
 
 /// The row holds as one run and step by step, with the way back at once and one by one, as undos
@@ -447,5 +453,7 @@ pub(crate) fn expect_row(alloc: Global, row: &Row, undos: &[Undo]) -> Result<(),
     ensures undos { OnOk result (UndosHold (row_of row.now) (map undo_of undos.now)) }
 {
     let mut edited = begun(alloc, row.files)?;
-    expect_edited(alloc, &mut edited, row, undos)
+    let held = expect_edited(alloc, &mut edited, row, undos);
+    edited.workspace.release();
+    held
 }

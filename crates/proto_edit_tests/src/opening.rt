@@ -2,35 +2,24 @@
 
 use proto_edit::to_json;
 use proto_edit_rows::{Texts, are_texts, open};
-use proto_faults::{Fault, NoMemory, SchemaFault};
-use std::alloc::Global;
+use proto_faults::SchemaFault;
 use std::process::Abort;
-use std::test::Fail;
 
-// A fault as `path:offset: number name`.
-fn told_of_fault(alloc: Global, fault: &Fault) -> Result<String, NoMemory> {
-    let (offset, number, name) = (fault.offset, fault.number(), fault.name());
-    let path = fault.path.as_str();
-    Ok(format!(in alloc; "{path}:{offset}: {number} {name}")?)
-}
-
-// The descriptors of files, or their fault.
-fn answer(alloc: Global, texts: &[(&str, &str)]) -> Result<String, NoMemory> {
-    match open(alloc, texts) {
-        Ok(workspace) => to_json(alloc, workspace.descriptors()),
-        Err(SchemaFault::Schema(fault)) => told_of_fault(alloc, &fault),
-        Err(SchemaFault::NoMemory) => Err(NoMemory),
+// The descriptors of files, or their fault as `path:offset: number name`.
+fn answer<R: AllocGlobal + Abort>(rt: &R, files: Texts) -> String {
+    match open(rt.alloc(), files) {
+        Ok(workspace) => {
+            let json = to_json(rt.alloc(), workspace.descriptors()).expect(rt, "memory");
+            workspace.release();
+            json
+        }
+        Err(SchemaFault::Schema(fault)) => {
+            let (offset, number, name) = (fault.offset, fault.number(), fault.name());
+            let path = fault.path.as_str();
+            format!(in rt.alloc(); "{path}:{offset}: {number} {name}").expect(rt, "memory")
+        }
+        Err(SchemaFault::NoMemory) => panic!(rt; "no memory"),
     }
-}
-
-fn expect_answer<R: AllocGlobal + Abort>(
-    rt: &R,
-    texts: &[(&str, &str)],
-    wanted: &str,
-) -> Result<(), NoMemory> {
-    let answer = answer(rt.alloc(), texts)?;
-    assert!(rt; answer.as_str() == wanted, "{answer}");
-    Ok(())
 }
 
 const A: (&str, &str) = (
@@ -66,20 +55,16 @@ const ANSWERS: &[(Texts, &str)] = &[
 ];
 
 #[test]
-fn tells_descriptors_or_the_least_fault(rt: HostRuntime) -> Result<(), Fail> {
-    for &(files, wanted) in ANSWERS {
-        expect_answer(&rt, files, wanted)?;
+fn tells_descriptors_or_the_least_fault(rt: HostRuntime) {
+    for (files, wanted) in ANSWERS {
+        let answer = answer(&rt, files);
+        assert!(rt; answer.as_str() == *wanted, "{answer}");
     }
-    Ok(())
-}
-
-fn opens_as(alloc: Global, given: Texts, files: Texts) -> Result<bool, SchemaFault> {
-    let workspace = open(alloc, given)?;
-    Ok(are_texts(&workspace, files))
 }
 
 #[test]
-fn sorts_the_files_by_their_paths(rt: HostRuntime) -> Result<(), Fail> {
-    assert!(rt; opens_as(rt.alloc(), PACKAGES, SORTED)?);
-    Ok(())
+fn sorts_the_files_by_their_paths(rt: HostRuntime) {
+    let workspace = open(rt.alloc(), PACKAGES).expect(&rt, "a workspace");
+    assert!(rt; are_texts(&workspace, SORTED));
+    workspace.release();
 }

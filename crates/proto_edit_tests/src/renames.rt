@@ -6,42 +6,41 @@ use proto_edit_rows::{
 };
 use proto_faults::NoMemory;
 use std::process::Abort;
-use std::test::Fail;
 
-pub(crate) fn expect_rows<R: AllocGlobal + Abort>(rt: &R, rows: &[Row]) -> Result<(), NoMemory> {
-    let told = difference(rt.alloc(), rows)?;
+/// Ends the test with what is told, if there is anything.
+pub(crate) fn expect_none<R: Abort>(rt: &R, told: Result<String, NoMemory>) {
+    let told = told.expect(rt, "memory");
     assert!(rt; told.is_empty(), "{told}");
-    Ok(())
 }
 
 #[test]
-fn of_members_are_answered_and_undone(rt: HostRuntime) -> Result<(), Fail> {
-    Ok(expect_rows(&rt, MEMBERS)?)
+fn of_members_are_answered_and_undone(rt: HostRuntime) {
+    expect_none(&rt, difference(rt.alloc(), MEMBERS));
 }
 
 #[test]
-fn of_map_fields_are_answered_and_undone(rt: HostRuntime) -> Result<(), Fail> {
-    Ok(expect_rows(&rt, MAPS)?)
+fn of_map_fields_are_answered_and_undone(rt: HostRuntime) {
+    expect_none(&rt, difference(rt.alloc(), MAPS));
 }
 
 #[test]
-fn of_types_are_answered_and_undone(rt: HostRuntime) -> Result<(), Fail> {
-    Ok(expect_rows(&rt, TYPES)?)
+fn of_types_are_answered_and_undone(rt: HostRuntime) {
+    expect_none(&rt, difference(rt.alloc(), TYPES));
 }
 
 #[test]
-fn are_refused(rt: HostRuntime) -> Result<(), Fail> {
-    Ok(expect_rows(&rt, NAMES)?)
+fn are_refused(rt: HostRuntime) {
+    expect_none(&rt, difference(rt.alloc(), NAMES));
 }
 
 #[test]
-fn are_refused_where_references_would_mean_something_else(rt: HostRuntime) -> Result<(), Fail> {
-    Ok(expect_rows(&rt, CAPTURES)?)
+fn are_refused_where_references_would_mean_something_else(rt: HostRuntime) {
+    expect_none(&rt, difference(rt.alloc(), CAPTURES));
 }
 
 #[test]
-fn in_runs_are_answered_and_undone(rt: HostRuntime) -> Result<(), Fail> {
-    Ok(expect_rows(&rt, RUNS)?)
+fn in_runs_are_answered_and_undone(rt: HostRuntime) {
+    expect_none(&rt, difference(rt.alloc(), RUNS));
 }
 
 const TWICE: Row = Row {
@@ -62,10 +61,8 @@ const BACK: &[Undo] = &[
 ];
 
 #[test]
-fn are_undone_from_the_last_one_on(rt: HostRuntime) -> Result<(), Fail> {
-    let told = difference_of_undos(rt.alloc(), &TWICE, BACK)?;
-    assert!(rt; told.is_empty(), "{told}");
-    Ok(())
+fn are_undone_from_the_last_one_on(rt: HostRuntime) {
+    expect_none(&rt, difference_of_undos(rt.alloc(), &TWICE, BACK));
 }
 
 // ---- a full file
@@ -81,15 +78,9 @@ const FULL: &[Step] = &[
     ("rename", "A.b_c", "b_c_d", "1 UnknownTarget"),
 ];
 
-fn expect_full<R: AllocGlobal + Abort>(rt: &R, text: &str) -> Result<(), NoMemory> {
-    let told = difference_of_answers(rt.alloc(), &[("a.proto", text)], FULL)?;
-    assert!(rt; told.is_empty(), "{told}");
-    Ok(())
-}
-
 #[test]
-fn do_not_fit_a_full_file(rt: HostRuntime) -> Result<(), Fail> {
-    let text = filled(rt.alloc(), TEXT, 1048576)?;
-    expect_full(&rt, text.as_str())?;
-    Ok(())
+fn do_not_fit_a_full_file(rt: HostRuntime) {
+    let text = filled(rt.alloc(), TEXT, 1048576).expect(&rt, "memory");
+    let files = [("a.proto", text.as_str())];
+    expect_none(&rt, difference_of_answers(rt.alloc(), &files, FULL));
 }

@@ -18,7 +18,7 @@ use Rattle.proto_recovery.specs.ReadJournals.{IsReady, IsReadyWith}
 use Rattle.proto_recovery.specs.Known.{CountsFault, Over, OverBoth}
 use Rattle.proto_journal.specs.Loads.{IsUnready}
 use Rattle.proto_recovery.specs.Torn.{IsBetween, IsTornBetween, Keeps}
-use Rattle.proto_journal.specs.Written.{AddsTo, IsUnprepared, Passes, held}
+use Rattle.proto_journal.specs.Written.{AddsTo, IsUnprepared, IsUnwritten, Passes, held}
 use Rattle.proto_journal.proofs.Recorded.{text_more}
 
 pub stays : (from : List FileOf) (old new : Option Held) → new ≡ old → Stays from from old new
@@ -39,6 +39,16 @@ not_ready e from old new (fault.Refused x) same r = absurd r
 pub refused : (from : List FileOf) (e : Asked) (journal : List ℕ) (r : Refusal) → IsRefusal from e r → IsUnprepared from e journal (fault_of r)
 refused from e journal refusal.NoMemory is = tt
 refused from e journal r is = is
+
+pub unwritten : (from : List FileOf) (e : Asked) (journal : List ℕ) (entry : List ChangeOf) (made : List FileOf) (f : JournalFault) → IsMappedStep from e entry made → IsUnwritten journal entry f
+    → IsUnprepared from e journal f
+unwritten from e journal entry made fault.JournalFull step long = (entry, made, step, long)
+unwritten from e journal entry made fault.NoMemory step is = tt
+unwritten from e journal entry made fault.BadJournal step is = absurd is
+unwritten from e journal entry made fault.NothingToUndo step is = absurd is
+unwritten from e journal entry made fault.OpenEntry step is = absurd is
+unwritten from e journal entry made fault.Store step is = absurd is
+unwritten from e journal entry made (fault.Refused r) step is = absurd is
 
 full_there : (old : Option Held) (journal : List ℕ) (entry : List ChangeOf) → Over old IsReady → HoldsJournal old journal → journal_limit < length (journal ++ record_text (done entry))
     → Over old (λ then. (records : List Record) × IsReadyWith records then × (journal_limit < length (journal_text (records ++ done entry ∷ []))))

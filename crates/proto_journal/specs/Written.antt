@@ -63,12 +63,23 @@ abbrev pub Reopens : Text → List ChangeOf → Text → Type 0
 Reopens journal entry text = (records : List Record)
     → IsJournal journal (records ++ done entry ∷ []) → IsJournal text (records ++ opened entry ∷ [])
 
+-- Why this journal is not written with an entry: it would pass the limit, or memory is wanting.
+abbrev pub IsUnwritten : Text → List ChangeOf → JournalFault → Type 0
+IsUnwritten journal entry fault.JournalFull =
+    journal_limit < length (journal ++ record_text (done entry))
+IsUnwritten journal entry fault.NoMemory = Unit {0}
+IsUnwritten journal entry fault.BadJournal = ⊥
+IsUnwritten journal entry fault.NothingToUndo = ⊥
+IsUnwritten journal entry fault.OpenEntry = ⊥
+IsUnwritten journal entry fault.Store = ⊥
+IsUnwritten journal entry (fault.Refused r) = ⊥
+
 -- Why a commit over this journal is not prepared: the edit is refused, or the journal with its
 -- entry would pass the limit.
 abbrev pub IsUnprepared : List FileOf → Asked → Text → JournalFault → Type 0
 IsUnprepared from e journal fault.JournalFull =
     (entry : List ChangeOf) × (made : List FileOf) × IsMappedStep from e entry made
-    × (journal_limit < length (journal ++ record_text (done entry)))
+    × IsUnwritten journal entry fault.JournalFull
 IsUnprepared from e journal fault.NoMemory = Unit {0}
 IsUnprepared from e journal fault.BadJournal = ⊥
 IsUnprepared from e journal fault.NothingToUndo = ⊥

@@ -5,7 +5,7 @@ ghost use Rattle.proto_edit.specs.Answers.{asked};
 ghost use Rattle.proto_edit.specs.Workspaces.{IsMappedStep};
 ghost use Rattle.proto_journal.specs.Commits.{CommitOutcome};
 ghost use Rattle.proto_recovery.specs.Known.{CountsStore};
-ghost use Rattle.proto_journal.specs.Written.{AddsTo, IsUnprepared};
+ghost use Rattle.proto_journal.specs.Written.{AddsTo, IsUnprepared, IsUnwritten};
 ghost use Rattle.proto_records.specs.Journals.{done, opened};
 ghost use Rattle.proto_store.specs.Stores.{HoldsFiles};
 
@@ -16,6 +16,7 @@ use proto_records::laws::{journals_grow_and_shrink, records_have_one_text};
 use proto_records::{JournalFault, State, with_record};
 use proto_store::{Store, StoreFault};
 use std::alloc::Global;
+use std::mem;
 
 /// How many bytes a journal has at most.
 const MAX_LEN: usize = 16_777_216;
@@ -43,20 +44,39 @@ fn prepare(
     ensures err { IfErr result (IsUnprepared workspace.now (asked edit.now) journal.now) }
 {
     let (next, entry) = workspace.with_edit(alloc, edit)?;
-    let first = with_record(alloc, journal, State::Open, &entry)?;
-    let last = with_record(alloc, journal, State::Done, &entry)?;
+    match with_entry(alloc, journal, &entry) {
+        Ok((first, last)) => Ok(Prepared {
+            next,
+            entry,
+            first,
+            last,
+        }),
+        Err(fault) => {
+            next.release();
+            Err(fault)
+        }
+    }
+}
+
+// The journal with an entry, open and done.
+fn with_entry(
+    alloc: Global,
+    journal: &[u8],
+    entry: &Entry,
+) -> Result<(Vec<u8>, Vec<u8>), JournalFault>
+    ensures first { IfOk result (λ made. AddsTo journal.now (opened entry.now) made.0.items) }
+    ensures last { IfOk result (λ made. AddsTo journal.now (done entry.now) made.1.items) }
+    ensures err { IfErr result (IsUnwritten journal.now entry.now) }
+{
+    let first = with_record(alloc, journal, State::Open, entry)?;
+    let last = with_record(alloc, journal, State::Done, entry)?;
     if last.len() > MAX_LEN {
         return Err(JournalFault::JournalFull);
     }
     // Both are journals: the text of an entry is as long while it is open.
     records_have_one_text();
     journals_grow_and_shrink();
-    Ok(Prepared {
-        next,
-        entry,
-        first,
-        last,
-    })
+    Ok((first, last))
 }
 
 /// Makes an edit: writes it into the journal as open, replaces the changed
@@ -87,9 +107,12 @@ pub fn commit<S: Store>(
     let last = made.last.as_slice();
     match write_through(store, first, workspace.files(), made.next.files(), last) {
         Ok(()) => {
-            *workspace = made.next;
+            mem::replace(workspace, made.next).release();
             Ok(made.entry)
         }
-        Err(StoreFault::Failed) => Err(JournalFault::Store),
+        Err(StoreFault::Failed) => {
+            made.next.release();
+            Err(JournalFault::Store)
+        }
     }
 }

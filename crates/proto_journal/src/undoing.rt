@@ -13,6 +13,7 @@ use proto_records::laws::{journals_grow_and_shrink, records_have_one_text};
 use proto_records::{JournalFault, State, last_is_open, read_records, with_record, without_last};
 use proto_store::{Store, StoreFault};
 use std::alloc::Global;
+use std::mem;
 
 // The last entry of a journal, which is done.
 fn last_entry(alloc: Global, journal: &[u8]) -> Result<Entry, JournalFault>
@@ -73,8 +74,8 @@ pub fn undo_last<S: Store>(
     };
     let text = journal.as_slice();
     let entry = last_entry(alloc, text)?;
-    let next = workspace.without_entry(alloc, &entry)?;
     let first = reopened(alloc, text, &entry)?;
+    let next = workspace.without_entry(alloc, &entry)?;
     let last = shortened(text);
     match write_through(
         store,
@@ -84,9 +85,12 @@ pub fn undo_last<S: Store>(
         last,
     ) {
         Ok(()) => {
-            *workspace = next;
+            mem::replace(workspace, next).release();
             Ok(entry)
         }
-        Err(StoreFault::Failed) => Err(JournalFault::Store),
+        Err(StoreFault::Failed) => {
+            next.release();
+            Err(JournalFault::Store)
+        }
     }
 }

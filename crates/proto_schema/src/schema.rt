@@ -87,4 +87,8 @@ impl Schema {
         are_read(&self.files);
         &self.descriptors
     }
+
+    /// Lets the schemas go. A crate that ends them by this call need not prove how each of their
+    /// parts is dropped.
+    pub fn release(self) {}
 }

@@ -46,7 +46,9 @@ fn committed<S: Store>(
     ensures count { CountsStore (S.failure_count store.old) (S.failure_count store.new) result }
 {
     let outcome = commit(alloc, store, &mut workspace, edit);
-    outcome_answer(alloc, workspace.files(), outcome)
+    let answer = outcome_answer(alloc, workspace.files(), outcome);
+    workspace.release();
+    answer
 }
 
 /// Undoes the last entry of a store's journal. A journal that is none or whose last entry is open
@@ -78,5 +80,7 @@ fn undone<S: Store>(
     ensures count { CountsStore (S.failure_count store.old) (S.failure_count store.new) result }
 {
     let outcome = undo_last(alloc, store, &mut workspace);
-    outcome_answer(alloc, workspace.files(), outcome)
+    let answer = outcome_answer(alloc, workspace.files(), outcome);
+    workspace.release();
+    answer
 }

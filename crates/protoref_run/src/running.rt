@@ -59,7 +59,11 @@ fn compile_answer<S: Store>(alloc: Global, store: &mut S) -> Result<Answer, RunF
 {
     let opening = open(alloc, store)?;
     match opening {
-        Opening::Whole(schema) => described(alloc, schema.descriptors()),
+        Opening::Whole(schema) => {
+            let answer = described(alloc, schema.descriptors());
+            schema.release();
+            answer
+        }
         Opening::Faulty(answer) => Ok(answer),
     }
 }
@@ -71,7 +75,11 @@ fn lint_answer<S: Store>(alloc: Global, rules: RuleSet, store: &mut S) -> Result
 {
     let opening = open(alloc, store)?;
     match opening {
-        Opening::Whole(schema) => linted(alloc, &schema, &rules),
+        Opening::Whole(schema) => {
+            let answer = linted(alloc, &schema, &rules);
+            schema.release();
+            answer
+        }
         Opening::Faulty(answer) => Ok(answer),
     }
 }

@@ -60,10 +60,10 @@ returns-in-Ok-clause-outcome g c =
     let there : HoldsJournal old journal = subst (λ (t : List ℕ). HoldsJournal old t) (sym c.as_slice.ensures.value) c.in_ok-journal.ensures.bytes in
     let first : AddsTo journal (opened entry) c.as_slice-first.result.now = subst (λ (t : List ℕ). AddsTo journal (opened entry) t) (sym c.as_slice-first.ensures.value) c.in_ok-made.ensures.first in
     let last : AddsTo journal (done entry) c.as_slice-last.result.now = subst (λ (t : List ℕ). AddsTo journal (done entry) t) (sym c.as_slice-last.ensures.value) c.in_ok-made.ensures.last in
-    committed journal c.as_slice-first.result.now c.as_slice-last.result.now entry first last c.args.workspace.now c.in_ok-made.made.next (asked c.args.edit) c.in_ok-made.ensures.step old
+    rw c.replace.ensures.after (committed journal c.as_slice-first.result.now c.as_slice-last.result.now entry first last c.args.workspace.now c.in_ok-made.made.next (asked c.args.edit) c.in_ok-made.ensures.step old
     (g.S.Store.holds c.write_through.new.store) c.in_ok-journal.ensures.outcome there
     (through_from c.files-2.result.now c.in_ok-made.made.next c.as_slice-last.result.now (g.S.Store.holds c.ready_journal.new.store) old (g.S.Store.holds c.write_through.new.store)
-    c.files-2.ensures.files c.ready_journal.ensures.same c.in-Ok.ensures.ok)
+    c.files-2.ensures.files c.ready_journal.ensures.same c.in-Ok.ensures.ok))
 
 pub returns-in_err-journal-clause-count : goal.returns-in_err-journal-clause-count
 returns-in_err-journal-clause-count g c =

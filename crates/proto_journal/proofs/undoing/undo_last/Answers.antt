@@ -56,10 +56,10 @@ returns-in-Ok-write_through-clause-outcome g c =
     let entry : List ChangeOf = c.in_ok-entry.entry in
     let there : HoldsJournal old journal = subst (λ (t : List ℕ). HoldsJournal old t) (sym c.as_slice-text.ensures.value) c.in-Ok.ensures.bytes in
     let first : Reopens journal entry c.as_slice.result.now = subst (λ (t : List ℕ). Reopens journal entry t) (sym c.as_slice.ensures.value) c.in_ok-first.ensures in
-    undone journal c.as_slice.result.now c.shortened-last.result.now entry first c.shortened-last.ensures c.args.workspace.now c.in_ok-next.next
+    rw c.replace.ensures.after (undone journal c.as_slice.result.now c.shortened-last.result.now entry first c.shortened-last.ensures c.args.workspace.now c.in_ok-next.next
     (undo_paths c.args.workspace.now c.in_ok-next.next entry c.in_ok-next.ensures.ok) c.in_ok-next.ensures.ok old (g.S.Store.holds c.write_through.new.store) c.in_ok-entry.ensures there
     (through_from c.files-2.result.now c.in_ok-next.next c.shortened-last.result.now (g.S.Store.holds c.read_journal.new.self) old (g.S.Store.holds c.write_through.new.store)
-    c.files-2.ensures.files c.read_journal.ensures.same c.in-Ok-write_through.ensures.ok)
+    c.files-2.ensures.files c.read_journal.ensures.same c.in-Ok-write_through.ensures.ok))
 
 pub returns-in_err-entry-clause-count : goal.returns-in_err-entry-clause-count
 returns-in_err-entry-clause-count g c =

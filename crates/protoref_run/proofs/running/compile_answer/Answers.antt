@@ -23,8 +23,8 @@ pub returns-in-Whole-clause-outcome : goal.returns-in-Whole-clause-outcome
 returns-in-Whole-clause-outcome g c =
     let held : Option Held = g.S.Store.holds c.args.store.now in
     let after : Option Held = g.S.Store.holds c.open.new.store in
-    described_prints held after c.in-Whole.schema (files_desc c.descriptors.result.now) c.described.result (subst (Opens held) c.in-Whole.is c.in_ok-opening.ensures.opens) c.open.ensures.same
-    c.descriptors.ensures.described c.descriptors.ensures.read c.described.ensures.text c.described.ensures.status c.described.ensures.err
+    described_prints held after c.in-Whole.schema (files_desc c.descriptors.result.now) c.described-answer.result (subst (Opens held) c.in-Whole.is c.in_ok-opening.ensures.opens) c.open.ensures.same
+    c.descriptors.ensures.described c.descriptors.ensures.read c.described-answer.ensures.text c.described-answer.ensures.status c.described-answer.ensures.err
 
 pub returns-in-Faulty-clause-outcome : goal.returns-in-Faulty-clause-outcome
 returns-in-Faulty-clause-outcome g c =

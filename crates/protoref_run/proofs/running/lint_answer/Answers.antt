@@ -22,7 +22,7 @@ pub returns-in-Whole-clause-outcome : goal.returns-in-Whole-clause-outcome
 returns-in-Whole-clause-outcome g c =
     let held : Option Held = g.S.Store.holds c.args.store.now in
     let after : Option Held = g.S.Store.holds c.open.new.store in
-    linted_prints held after c.in-Whole.schema c.args.rules c.linted.result (subst (Opens held) c.in-Whole.is c.in_ok-opening.ensures.opens) c.open.ensures.same c.linted.ensures.linted c.linted.ensures.err
+    linted_prints held after c.in-Whole.schema c.args.rules c.linted-answer.result (subst (Opens held) c.in-Whole.is c.in_ok-opening.ensures.opens) c.open.ensures.same c.linted-answer.ensures.linted c.linted-answer.ensures.err
 
 pub returns-in-Faulty-clause-outcome : goal.returns-in-Faulty-clause-outcome
 returns-in-Faulty-clause-outcome g c =

@@ -1,4 +1,4 @@
-use Rattle.std.proofs.Common.{◌≢◌, ◌+◌, List, map, take, sym, subst, rules}
+use Rattle.std.proofs.Common.{◌≢◌, ◌+◌, ◌∙◌, List, map, take, sym, subst, rules}
 use Rattle.proto_edit.specs.Answers.{asked}
 use Rattle.proto_entries.specs.declared.refusal.Refusal.TheVariants as refusal
 use Rattle.proto_edit.specs.Workspaces.{Run}
@@ -14,8 +14,8 @@ loop-edit-preserved c =
     let answer = c.match-with_edit.answer in
     let edits = c.args.edits.now in
     let edit = c.edit-item.result in
-    subst (λ (z : List Answer). Run w (map asked (take (i + 1) edits)) z to) (sym c.in_ok-push.ensures.items)
+    subst (λ (z : List Answer). Run w (map asked (take (i + 1) edits)) z to) (sym c.in-Ok-push.ensures.items)
     (run_next w c.loop-edit.workspace to edits i c.loop-edit.answers.items edit answer c.loop-edit-test.true c.edit-item.is c.loop-edit.invariant (elim c.match-with_edit.branch [
-      | in-Ok-with_edit w ↦ run_accepted c.loop-edit.workspace (asked edit) answer w.in-Ok-with_edit.entry to w.in-Ok-with_edit.next w.answer-is w.workspace-is w.in-Ok-with_edit.ensures.ok
+      | in-Ok-with_edit w ↦ run_accepted c.loop-edit.workspace (asked edit) answer w.in-Ok-with_edit.entry to w.in-Ok-with_edit.next w.answer-is (w.workspace-is ∙ w.replace.ensures.after) w.in-Ok-with_edit.ensures.ok
       | in-Err-with_edit w ↦ (let ne : w.in-Err-with_edit.refusal ≢ refusal.NoMemory = search rules in run_refused c.loop-edit.workspace (asked edit) answer w.in-Err-with_edit.refusal to w.answer-is w.workspace-is w.in-Err-with_edit.ensures.err ne)
     ]))
