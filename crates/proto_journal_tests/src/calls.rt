@@ -6,7 +6,6 @@ use proto_faults::NoMemory;
 use proto_journal::*;
 use std::alloc::Global;
 use std::process::Abort;
-use std::test::Fail;
 
 pub(crate) const BEFORE: &str = "syntax = \"proto3\"; message A { string b_c = 1; }";
 
@@ -21,7 +20,7 @@ pub(crate) const OPEN: &str =
 /// A fault's number and name, or 0 and `done`; and the number of a refusal, or 0.
 pub(crate) type Said = (u32, &'static str, u32);
 
-/// The name that becomes `d_e`, or none for an undo; and the failure that is to come: the number of the store's call, or 0, and
+/// The name that becomes `d_e`, or none for an undo; and the failure that is to come: the number of the store's call, and
 /// whether the new bytes land.
 pub(crate) type Call = (&'static str, u64, bool);
 
@@ -31,9 +30,15 @@ pub(crate) type Answer = (Said, &'static str);
 /// The text and the journal of a store.
 pub(crate) type Left = (&'static str, &'static str);
 
-pub(crate) const RENAME: Call = ("A.b_c", 0, false);
+/// A call that is answered so, and how the store is then left.
+pub(crate) type Turn = (Call, Answer, Left);
 
-pub(crate) const UNDO: Call = ("", 0, false);
+/// The number of a call that does not come.
+pub(crate) const NEVER: u64 = u64::MAX;
+
+pub(crate) const RENAME: Call = ("A.b_c", NEVER, false);
+
+pub(crate) const UNDO: Call = ("", NEVER, false);
 
 pub(crate) const READY: Said = (0, "done", 0);
 
@@ -41,7 +46,7 @@ pub(crate) const MADE: Answer = ((0, "done", 0), AFTER);
 
 pub(crate) const TAKEN_BACK: Answer = ((0, "done", 0), BEFORE);
 
-pub(crate) fn said<T: Drop>(answer: Result<T, JournalFault>) -> Said {
+fn said<T: Drop>(answer: Result<T, JournalFault>) -> Said {
     match answer {
         Ok(_) => (0, "done", 0),
         Err(JournalFault::Refused(refusal)) => (0, refusal.name(), refusal.number()),
@@ -57,33 +62,16 @@ pub(crate) fn store_of(alloc: Global, (text, journal): Left) -> Result<MemorySto
     MemoryStore::new(alloc, files, journal.as_bytes().to_vec(alloc)?)
 }
 
-fn rename(alloc: Global, name: &str, to: &str) -> Result<Edit, NoMemory> {
-    Ok(Edit::Rename {
-        name: String::from_str(alloc, name)?,
-        to: String::from_str(alloc, to)?,
-    })
-}
-
-// Lets a call fail, if its number is not 0.
-fn plan(store: &mut MemoryStore, number: u64, lands: bool)
-    ensures held { store.new.held ≡ store.old.held }
-    ensures failures { store.new.failures ≡ store.old.failures }
-{
-    if number > 0 {
-        store.fail_at(number, lands);
-    }
-}
-
-fn has_text(workspace: &Workspace, text: &str) -> bool {
-    let files = workspace.files();
-    files.len() == 1 && files.source(0).as_bytes() == text.as_bytes()
-}
-
 // Which of the two texts the workspace has, or none.
 fn text_of(workspace: &Workspace) -> &'static str {
-    if has_text(workspace, BEFORE) {
+    let files = workspace.files();
+    if files.len() != 1 {
+        return "";
+    }
+    let bytes = files.source(0).as_bytes();
+    if bytes == BEFORE.as_bytes() {
         BEFORE
-    } else if has_text(workspace, AFTER) {
+    } else if bytes == AFTER.as_bytes() {
         AFTER
     } else {
         ""
@@ -91,8 +79,8 @@ fn text_of(workspace: &Workspace) -> &'static str {
 }
 
 // Commits a rename of this name, or undoes the last entry where there is none.
-fn answered<R: AllocGlobal>(
-    rt: &R,
+fn answered(
+    alloc: Global,
     store: &mut MemoryStore,
     workspace: &mut Workspace,
     name: &str,
@@ -101,10 +89,12 @@ fn answered<R: AllocGlobal>(
     requires loaded { workspace.old ≡ store.old.held.files }
 {
     if name.is_empty() {
-        return Ok(said(undo_last(rt.alloc(), store, workspace)));
+        return Ok(said(undo_last(alloc, store, workspace)));
     }
-    let edit = rename(rt.alloc(), name, "d_e")?;
-    Ok(said(commit(rt.alloc(), store, workspace, edit)))
+    let name = String::from_str(alloc, name)?;
+    let to = String::from_str(alloc, "d_e")?;
+    let edit = Edit::Rename { name, to };
+    Ok(said(commit(alloc, store, workspace, edit)))
 }
 
 /// Commits a rename, or undoes the last entry, over a workspace that is loaded from the store.
@@ -113,46 +103,16 @@ pub(crate) fn called<R: AllocGlobal + Abort>(
     store: &mut MemoryStore,
     (name, number, lands): Call,
 ) -> Result<Answer, LoadFault> {
-    assert!(rt; store.failures() < u64::MAX);
+    assert!(rt; store.failures() < u64::MAX && number > 0);
     let mut workspace = load(rt.alloc(), store)?;
-    plan(store, number, lands);
-    match answered(rt, store, &mut workspace, name) {
-        Ok(said) => Ok((said, text_of(&workspace))),
+    store.fail_at(number, lands);
+    let answer = answered(rt.alloc(), store, &mut workspace, name);
+    let text = text_of(&workspace);
+    workspace.release();
+    match answer {
+        Ok(said) => Ok((said, text)),
         Err(NoMemory) => Err(LoadFault::NoMemory),
     }
-}
-
-// What `ready` answers.
-fn said_ready<R: AllocGlobal + Abort>(rt: &R, store: &mut MemoryStore) -> Said {
-    assert!(rt; store.failures() < u64::MAX);
-    said(ready(rt.alloc(), store))
-}
-
-fn is_one(files: &[(String, Vec<u8>)], text: &str) -> bool {
-    match files {
-        [(path, bytes)] => path.as_str() == "a.proto" && bytes.as_slice() == text.as_bytes(),
-        _ => false,
-    }
-}
-
-fn has_file<R: AllocGlobal + Abort>(
-    rt: &R,
-    store: &mut MemoryStore,
-    text: &str,
-) -> Result<bool, LoadFault> {
-    assert!(rt; store.failures() < u64::MAX);
-    let files = all_files(rt.alloc(), store)?;
-    Ok(is_one(&files, text))
-}
-
-fn has_journal<R: Abort>(
-    rt: &R,
-    store: &mut MemoryStore,
-    journal: &str,
-) -> Result<bool, LoadFault> {
-    assert!(rt; store.failures() < u64::MAX);
-    let held = store.read_journal()?;
-    Ok(held.as_slice() == journal.as_bytes())
 }
 
 /// Whether the store has `a.proto` with this text alone, and this journal.
@@ -161,35 +121,18 @@ pub(crate) fn is_left<R: AllocGlobal + Abort>(
     store: &mut MemoryStore,
     (text, journal): Left,
 ) -> Result<bool, LoadFault> {
-    Ok(has_file(rt, store, text)? && has_journal(rt, store, journal)?)
-}
-
-/// A call that is answered so, and how the store is then left.
-pub(crate) type Turn = (Call, Answer, Left);
-
-/// A store, what `ready` answers, and the calls that come then, one behind the other.
-pub(crate) type Row<'a> = (Left, Said, &'a [Turn]);
-
-/// The row holds over a store of its own.
-pub(crate) fn expect_row<R: AllocGlobal + Abort>(
-    rt: &R,
-    (left, ready, turns): Row,
-) -> Result<(), Fail> {
-    let mut store = store_of(rt.alloc(), left)?;
-    expect_turns(rt, &mut store, ready, turns)
-}
-
-fn expect_turns<R: AllocGlobal + Abort>(
-    rt: &R,
-    store: &mut MemoryStore,
-    ready: Said,
-    turns: &[Turn],
-) -> Result<(), Fail> {
-    assert!(rt; said_ready(rt, store) == ready, "ready");
-    for turn in turns {
-        expect_turn(rt, store, *turn)?;
-    }
-    Ok(())
+    assert!(rt; store.failures() < u64::MAX);
+    let held = store.read_journal()?;
+    assert!(rt; store.failures() < u64::MAX);
+    let files = all_files(rt.alloc(), store)?;
+    Ok(match files.as_slice() {
+        [(path, bytes)] => {
+            path.as_str() == "a.proto"
+                && bytes.as_slice() == text.as_bytes()
+                && held.as_slice() == journal.as_bytes()
+        }
+        _ => false,
+    })
 }
 
 fn expect_turn<R: AllocGlobal + Abort>(
@@ -198,11 +141,38 @@ fn expect_turn<R: AllocGlobal + Abort>(
     (call, answer, left): Turn,
 ) -> Result<(), LoadFault> {
     let (name, number, lands) = call;
-    let answered = called(rt, store, call)?;
-    assert!(rt; answered == answer, "{name}, call {number}, {lands}");
+    let is_answer = called(rt, store, call)? == answer;
     // A failure that did not come is not to come now.
-    plan(store, u64::MAX, false);
+    store.fail_at(NEVER, false);
     let is_left = is_left(rt, store, left)?;
-    assert!(rt; is_left, "the store, {name}, call {number}, {lands}");
+    assert!(rt;
+        is_answer && is_left,
+        "{name}, call {number}, {lands}: {is_answer}, {is_left}"
+    );
     Ok(())
+}
+
+// What `ready` answers, and then the calls, one behind the other.
+fn expect_turns<R: AllocGlobal + Abort>(
+    rt: &R,
+    store: &mut MemoryStore,
+    is_ready: Said,
+    turns: &[Turn],
+) {
+    assert!(rt; store.failures() < u64::MAX);
+    assert!(rt; said(ready(rt.alloc(), store)) == is_ready, "ready");
+    for turn in turns {
+        expect_turn(rt, store, *turn).expect(rt, "files");
+    }
+}
+
+/// The same over a store of its own.
+pub(crate) fn expect_row<R: AllocGlobal + Abort>(
+    rt: &R,
+    left: Left,
+    is_ready: Said,
+    turns: &[Turn],
+) {
+    let mut store = store_of(rt.alloc(), left).expect(rt, "memory");
+    expect_turns(rt, &mut store, is_ready, turns);
 }

@@ -2,105 +2,117 @@
 //! one allocation this test still passes, whichever it is.
 
 use crate::calls::*;
+use proto_desc::to_json;
 use proto_faults::{NoMemory, SchemaFault};
+use proto_lint::{Finding, RuleSet, lint};
 use proto_schema::Schema;
 use std::alloc::Global;
-use std::test::Fail;
+use std::fmt::Write;
+use std::process::Abort;
 
-/// Files, their descriptors, and what all rules find in them.
-struct Row {
-    files: Texts,
-    json: &'static str,
-    found: &'static str,
-}
+/// Files, their descriptors, and what all rules find in them, each finding as `path:offset RULE name;`.
+pub(crate) type Row = (&'static str, &'static str, &'static str);
 
-const ROWS: [Row; 3] = [
-    Row {
-        files: &[(
-            "a.proto",
-            "syntax = \"proto3\"; message A { string b_c = 1; }",
-        )],
-        json: "{\"file\":[{\"messageType\":[{\"field\":[{\"jsonName\":\"bC\",\"label\":\"LABEL_OPTIONAL\",\"name\":\"b_c\",\"number\":1,\"type\":\"TYPE_STRING\"}],\"name\":\"A\"}],\"name\":\"a.proto\",\"syntax\":\"proto3\"}]}",
-        found: "a.proto:0 PACKAGE_DEFINED -;",
-    },
-    Row {
-        files: &[
-            (
-                "a.proto",
-                "syntax = \"proto3\"; import \"b.proto\"; message A { C c = 1; }",
-            ),
-            ("b.proto", "syntax = \"proto3\"; import public \"c.proto\";"),
-            ("c.proto", "syntax = \"proto3\"; message C {}"),
-        ],
-        json: "{\"file\":[{\"dependency\":[\"b.proto\"],\"messageType\":[{\"field\":[{\"jsonName\":\"c\",\"label\":\"LABEL_OPTIONAL\",\"name\":\"c\",\"number\":1,\"type\":\"TYPE_MESSAGE\",\"typeName\":\".C\"}],\"name\":\"A\"}],\"name\":\"a.proto\",\"syntax\":\"proto3\"},{\"dependency\":[\"c.proto\"],\"name\":\"b.proto\",\"publicDependency\":[0],\"syntax\":\"proto3\"},{\"messageType\":[{\"name\":\"C\"}],\"name\":\"c.proto\",\"syntax\":\"proto3\"}]}",
-        found: "a.proto:0 PACKAGE_DEFINED -;b.proto:0 PACKAGE_DEFINED -;b.proto:19 IMPORT_NO_PUBLIC c.proto;c.proto:0 PACKAGE_DEFINED -;",
-    },
-    Row {
-        files: &[(
-            "p/v1/c.proto",
-            "syntax = \"proto3\"; package p.v1; enum Color { RED = 0; }",
-        )],
-        json: "{\"file\":[{\"enumType\":[{\"name\":\"Color\",\"value\":[{\"name\":\"RED\",\"number\":0}]}],\"name\":\"p/v1/c.proto\",\"package\":\"p.v1\",\"syntax\":\"proto3\"}]}",
-        found: "p/v1/c.proto:46 ENUM_VALUE_PREFIX p.v1.RED;p/v1/c.proto:46 ENUM_ZERO_VALUE_SUFFIX p.v1.RED;",
-    },
+const ROWS: &[Row] = &[
+    (
+        "a.proto syntax = \"proto3\"; message A { string b_c = 1; }",
+        "{\"file\":[{\"messageType\":[{\"field\":[{\"jsonName\":\"bC\",\"label\":\"LABEL_OPTIONAL\",\"name\":\"b_c\",\"number\":1,\"type\":\"TYPE_STRING\"}],\"name\":\"A\"}],\"name\":\"a.proto\",\"syntax\":\"proto3\"}]}",
+        "a.proto:0 PACKAGE_DEFINED -;",
+    ),
+    (
+        "a.proto syntax = \"proto3\"; import \"b.proto\"; message A { C c = 1; }|b.proto syntax = \"proto3\"; import public \"c.proto\";|c.proto syntax = \"proto3\"; message C {}",
+        "{\"file\":[{\"dependency\":[\"b.proto\"],\"messageType\":[{\"field\":[{\"jsonName\":\"c\",\"label\":\"LABEL_OPTIONAL\",\"name\":\"c\",\"number\":1,\"type\":\"TYPE_MESSAGE\",\"typeName\":\".C\"}],\"name\":\"A\"}],\"name\":\"a.proto\",\"syntax\":\"proto3\"},{\"dependency\":[\"c.proto\"],\"name\":\"b.proto\",\"publicDependency\":[0],\"syntax\":\"proto3\"},{\"messageType\":[{\"name\":\"C\"}],\"name\":\"c.proto\",\"syntax\":\"proto3\"}]}",
+        "a.proto:0 PACKAGE_DEFINED -;b.proto:0 PACKAGE_DEFINED -;b.proto:19 IMPORT_NO_PUBLIC c.proto;c.proto:0 PACKAGE_DEFINED -;",
+    ),
+    (
+        "p/v1/c.proto syntax = \"proto3\"; package p.v1; enum Color { RED = 0; }",
+        "{\"file\":[{\"enumType\":[{\"name\":\"Color\",\"value\":[{\"name\":\"RED\",\"number\":0}]}],\"name\":\"p/v1/c.proto\",\"package\":\"p.v1\",\"syntax\":\"proto3\"}]}",
+        "p/v1/c.proto:46 ENUM_VALUE_PREFIX p.v1.RED;p/v1/c.proto:46 ENUM_ZERO_VALUE_SUFFIX p.v1.RED;",
+    ),
 ];
 
-// Whether files and descriptors, asked twice if need be, are those of the row.
-fn is_row(alloc: Global, schema: &Schema, row: &Row) -> bool {
-    let has_json = match has_json(alloc, schema, row.json) {
-        Err(NoMemory) => has_json(alloc, schema, row.json),
-        answer => answer,
-    };
-    matches!(has_json, Ok(true)) && are_texts(schema, row.files)
+// Whether these are the files, in the order of their paths.
+fn are_texts(schema: &Schema, texts: &str) -> bool {
+    let files = schema.files();
+    let mut place = 0;
+    for file in texts.split('|') {
+        let (path, text) = file.split_once(' ').unwrap_or((file, ""));
+        if place >= files.len()
+            || files.path(place) != path
+            || files.source(place).as_bytes() != text.as_bytes()
+        {
+            return false;
+        }
+        place += 1;
+    }
+    place == files.len()
 }
 
-// Whether lint finds what the row says; and where there is no memory for it, that all is as before, and that the next call
-// finds it.
-fn is_found(alloc: Global, schema: &Schema, row: &Row) -> bool {
-    match finds(alloc, schema, row.found) {
-        Ok(finds) => finds,
-        Err(NoMemory) => {
-            is_row(alloc, schema, row) && matches!(finds(alloc, schema, row.found), Ok(true))
-        }
+fn told(alloc: Global, found: &[Finding]) -> Result<String, NoMemory> {
+    let mut text = String::new(alloc);
+    for finding in found {
+        let (path, offset) = (finding.path.as_str(), finding.offset);
+        let (rule, name) = (finding.rule.name(), finding.name.as_str());
+        write!(text, "{path}:{offset} {rule} {name};")?;
+    }
+    Ok(text)
+}
+
+// Files, descriptors and findings are those of the row, or memory is wanting.
+fn expect_row<R: AllocGlobal + Abort>(
+    rt: &R,
+    schema: &Schema,
+    (texts, json, found): Row,
+) -> Result<(), NoMemory> {
+    assert!(rt; are_texts(schema, texts), "{texts}");
+    expect_text(
+        rt,
+        to_json(rt.alloc(), schema.descriptors())?.as_str(),
+        json,
+    );
+    let findings = lint(rt.alloc(), schema.files(), schema.link(), &RuleSet::all())?;
+    expect_text(rt, told(rt.alloc(), findings.as_slice())?.as_str(), found);
+    Ok(())
+}
+
+/// The row, if there is one, holds twice, and once more where memory was wanting for one of them.
+pub(crate) fn expect_kept<R: AllocGlobal + Abort>(rt: &R, schema: &Schema, row: Option<Row>) {
+    if let Some(row) = row {
+        let first = expect_row(rt, schema, row).is_ok();
+        let second = expect_row(rt, schema, row).is_ok();
+        let is_kept = first && second || (first || second) && expect_row(rt, schema, row).is_ok();
+        assert!(rt; is_kept, "no memory");
     }
 }
 
-fn is_kept(alloc: Global, schema: &Schema, row: &Row) -> bool {
-    is_row(alloc, schema, row) && is_found(alloc, schema, row) && is_row(alloc, schema, row)
-}
-
-// Whether the files, once they are opened, are what the row says, before lint and behind it.
-fn is_opened(alloc: Global, row: &Row) -> Result<bool, SchemaFault> {
-    let schema = Schema::open(alloc, given(alloc, row.files)?)?;
-    Ok(is_kept(alloc, &schema, row))
+fn expect_opened<R: AllocGlobal + Abort>(rt: &R, row: Row) -> Result<(), SchemaFault> {
+    let files = given(rt.alloc(), row.0)?;
+    compiled(rt, files, Some(row))?;
+    Ok(())
 }
 
 // The files are opened at the second call if there is no memory for the first.
 #[test]
-fn one_is_refused(rt: HostRuntime) -> Result<(), Fail> {
-    for row in &ROWS {
-        let is_opened = match is_opened(rt.alloc(), row) {
-            Err(SchemaFault::NoMemory) => is_opened(rt.alloc(), row),
+fn one_is_refused(rt: HostRuntime) {
+    for row in ROWS {
+        let opened = match expect_opened(&rt, *row) {
+            Err(SchemaFault::NoMemory) => expect_opened(&rt, *row),
             answer => answer,
         };
-        assert!(rt; matches!(is_opened, Ok(true)), "{}", row.json);
+        assert!(rt; opened.is_ok(), "{}", row.1);
     }
-    Ok(())
 }
 
-const FAULTY: &str = "syntax = \"proto3\"; message A { string b = 19000; }";
+const FAULTY: &str = "a.proto syntax = \"proto3\"; message A { string b = 19000; }";
 
-fn is_faulty(alloc: Global) -> Result<bool, NoMemory> {
-    let files = given(alloc, &[("a.proto", FAULTY)])?;
-    Ok(answer(alloc, files)?.as_str() == "a.proto:42: 17 NumberRange")
+fn expect_fault<R: AllocGlobal + Abort>(rt: &R) -> Result<(), NoMemory> {
+    let found = answer(rt, given(rt.alloc(), FAULTY)?)?;
+    expect_text(rt, found.as_str(), "a.proto:42: 17 NumberRange");
+    Ok(())
 }
 
 // A fault that was found and could not be told is found again.
 #[test]
 fn one_is_refused_before_a_fault(rt: HostRuntime) {
-    let is_faulty = match is_faulty(rt.alloc()) {
-        Err(NoMemory) => is_faulty(rt.alloc()),
-        answer => answer,
-    };
-    assert!(rt; matches!(is_faulty, Ok(true)));
+    assert!(rt; expect_fault(&rt).is_ok() || expect_fault(&rt).is_ok());
 }

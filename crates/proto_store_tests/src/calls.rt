@@ -31,12 +31,6 @@ fn give(
     Ok(())
 }
 
-/// The paths that the store lists.
-pub(crate) fn list<S: Store, R: Abort>(rt: &R, store: &mut S) -> Result<Vec<String>, StoreFault> {
-    assert!(rt; store.failures() < u64::MAX);
-    store.list()
-}
-
 // Where the path stands among those that are listed.
 fn place_of<R: Abort>(rt: &R, paths: &[String], path: &str) -> usize
     ensures { result < length paths.now }
@@ -72,37 +66,18 @@ pub(crate) fn replace<S: Store, R: Abort>(
     store.replace(paths[place].as_str(), text.as_bytes())
 }
 
-pub(crate) fn read_journal<S: Store, R: Abort>(
-    rt: &R,
-    store: &mut S,
-) -> Result<Vec<u8>, StoreFault> {
-    assert!(rt; store.failures() < u64::MAX);
-    store.read_journal()
-}
-
-pub(crate) fn replace_journal<S: Store, R: Abort>(
-    rt: &R,
-    store: &mut S,
-    text: &str,
-) -> Result<(), StoreFault> {
-    assert!(rt; store.failures() < u64::MAX);
-    store.replace_journal(text.as_bytes())
-}
-
-/// Whether the store answers at all.
-pub(crate) fn works<T: Drop>(answer: Result<T, StoreFault>) -> bool {
-    answer.is_ok()
-}
-
-fn is_text(answer: Result<Vec<u8>, StoreFault>, text: &str) -> bool {
+/// Whether these are so many bytes, of which the first are this text.
+pub(crate) fn is_text(answer: Result<Vec<u8>, StoreFault>, text: &str, length: usize) -> bool {
     match answer {
-        Ok(bytes) => bytes.as_slice() == text.as_bytes(),
+        Ok(bytes) => bytes.len() == length && bytes.starts_with(text.as_bytes()),
         Err(_) => false,
     }
 }
 
-fn is_count(answer: Result<Vec<String>, StoreFault>, count: usize) -> bool {
-    match answer {
+// Whether the store lists so many paths.
+fn lists<S: Store, R: Abort>(rt: &R, store: &mut S, count: usize) -> bool {
+    assert!(rt; store.failures() < u64::MAX);
+    match store.list() {
         Ok(paths) => paths.len() == count,
         Err(_) => false,
     }
@@ -116,9 +91,11 @@ pub(crate) fn is_held<S: Store, R: Abort>(
     journal: &str,
 ) -> bool {
     for (path, text) in files {
-        if !is_text(read(rt, store, path), text) {
+        if !is_text(read(rt, store, path), text, text.len()) {
             return false;
         }
     }
-    is_count(list(rt, store), files.len()) && is_text(read_journal(rt, store), journal)
+    let lists = lists(rt, store, files.len());
+    assert!(rt; store.failures() < u64::MAX);
+    lists && is_text(store.read_journal(), journal, journal.len())
 }

@@ -1,6 +1,6 @@
 //! The memory store: what it holds after each call, and the call that is to fail.
 
-use crate::calls::{is_held, list, read, read_journal, replace, replace_journal, store_of, works};
+use crate::calls::{is_held, read, replace, store_of};
 use proto_store::{MemoryStore, Store};
 use std::process::Abort;
 
@@ -26,17 +26,18 @@ pub(crate) enum Step {
 
 /// Whether the step works.
 pub(crate) fn take(rt: &impl Abort, store: &mut MemoryStore, step: Step) -> bool {
+    assert!(rt; store.failures() < u64::MAX);
     match step {
         Step::FailAt(call, lands) => {
             assert!(rt; call > 0);
             store.fail_at(call, lands);
             true
         }
-        Step::List => works(list(rt, store)),
-        Step::Read(path) => works(read(rt, store, path)),
-        Step::ReadJournal => works(read_journal(rt, store)),
-        Step::Replace(path, text) => works(replace(rt, store, path, text)),
-        Step::Note(text) => works(replace_journal(rt, store, text)),
+        Step::List => store.list().is_ok(),
+        Step::Read(path) => read(rt, store, path).is_ok(),
+        Step::ReadJournal => store.read_journal().is_ok(),
+        Step::Replace(path, text) => replace(rt, store, path, text).is_ok(),
+        Step::Note(text) => store.replace_journal(text.as_bytes()).is_ok(),
         Step::Held(files, journal) => is_held(rt, store, files, journal),
         Step::Failures(count) => store.failures() == count,
     }

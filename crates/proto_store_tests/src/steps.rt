@@ -1,5 +1,6 @@
 //! What tests do in folders of their own, which they write in tables.
 
+use crate::calls::is_text;
 use proto_store::{FolderStore, Store, StoreFault};
 use std::fs::Permissions;
 use std::os::unix::fs::{PermissionsExt, symlink};
@@ -115,15 +116,9 @@ pub(crate) fn in_new_folder(abort: &impl Abort, rt: &HostRuntime, name: &str, ta
 /// Takes these steps.
 pub(crate) fn take_all(abort: &impl Abort, rt: &HostRuntime, root: &str, steps: &[Step]) {
     for (place, (path, holds)) in steps.iter().enumerate() {
-        let is_so = comes_out(rt, root, path, *holds);
+        let full_path = below(rt, root, path).expect(abort, "memory");
+        let is_so = is_so(rt, root, full_path.as_str(), *holds);
         assert!(abort; is_so, "at step {place} from 0, at '{path}' below '{root}'");
-    }
-}
-
-fn comes_out(rt: &HostRuntime, root: &str, path: &str, holds: Holds) -> bool {
-    match below(rt, root, path) {
-        Ok(full_path) => is_so(rt, root, full_path.as_str(), holds),
-        Err(_) => false,
     }
 }
 
@@ -208,14 +203,6 @@ fn read(rt: &HostRuntime, root: &str, path: &str) -> Result<Vec<u8>, StoreFault>
 
 fn journal(rt: &HostRuntime, root: &str) -> Result<Vec<u8>, StoreFault> {
     FolderStore::new(rt, root).read_journal()
-}
-
-// Whether these are so many bytes, of which the first are this text.
-fn is_text(bytes: Result<Vec<u8>, StoreFault>, text: &str, length: usize) -> bool {
-    match bytes {
-        Ok(bytes) => bytes.len() == length && bytes.starts_with(text.as_bytes()),
-        Err(_) => false,
-    }
 }
 
 fn fails_to_clear(rt: &HostRuntime, root: &str) -> bool {

@@ -1,81 +1,65 @@
 //! What renames print and leave, and why they are refused.
 
-use crate::calls::{Asked, CHANGED, Kind, LINE, NEW, OLD, RENAME, STALE, Texts};
+use crate::calls::{CHANGED, LINE, NEW, OLD, RENAME, STALE};
 use crate::turns::Turn::{Done, Holds, Problem};
-use crate::turns::{Row, expect_kept, expect_rows};
-use std::test::Fail;
+use crate::turns::{Turn, expect_kept, expect_turns};
 
-const ROWS: &[Row] = &[
-    (
-        OLD,
-        &[
-            Done(RENAME, CHANGED),
-            Holds(NEW, LINE),
-            Done(Asked::Log, "1 done a.proto\n"),
-            Done(Asked::Undo, CHANGED),
-            Holds(OLD, ""),
-            Done(Asked::Log, ""),
-            Problem(Asked::Undo, "journal: 2 NothingToUndo\n"),
-            Holds(OLD, ""),
-        ],
-    ),
-    // Entries behind older ones.
-    (
-        OLD,
-        &[
-            Done(RENAME, CHANGED),
-            Done(Asked::Edit(Kind::Rename, "A.d_e", "f"), CHANGED),
-            Done(Asked::Edit(Kind::Rename, "A.f", "b_c"), CHANGED),
-            Done(
-                Asked::Log,
-                "1 done a.proto\n2 done a.proto\n3 done a.proto\n",
-            ),
-            Done(Asked::Undo, CHANGED),
-            Done(Asked::Undo, CHANGED),
-            Done(Asked::Undo, CHANGED),
-            Holds(OLD, ""),
-        ],
-    ),
+const ONE: &[Turn<'static>] = &[
+    Done(RENAME, CHANGED),
+    Holds(NEW, LINE),
+    Done("log", "1 done a.proto\n"),
+    Done("undo", CHANGED),
+    Holds(OLD, ""),
+    Done("log", ""),
+    Problem("undo", "journal: 2 NothingToUndo\n"),
+    Holds(OLD, ""),
+];
+
+/// Entries behind older ones.
+const THREE: &[Turn<'static>] = &[
+    Done(RENAME, CHANGED),
+    Done("rename A.d_e f", CHANGED),
+    Done("rename A.f b_c", CHANGED),
+    Done("log", "1 done a.proto\n2 done a.proto\n3 done a.proto\n"),
+    Done("undo", CHANGED),
+    Done("undo", CHANGED),
+    Done("undo", CHANGED),
+    Holds(OLD, ""),
 ];
 
 #[test]
-fn are_made_told_and_undone(rt: HostRuntime) -> Result<(), Fail> {
-    expect_rows(&rt, ROWS)
+fn are_made_told_and_undone(rt: HostRuntime) {
+    expect_turns(&rt, OLD, "", ONE);
+    expect_turns(&rt, OLD, "", THREE);
 }
 
-const TWO: Texts<'static> = &[(
-    "a.proto",
-    "syntax = \"proto3\"; message M { string fooBar = 1; string x = 2; }",
-)];
+const TWO: &str = "a.proto syntax = \"proto3\"; message M { string fooBar = 1; string x = 2; }";
 
-const INNER: Texts<'static> = &[(
-    "a.proto",
-    "syntax = \"proto3\"; package p; message Inner {} message A { message B {} Inner x = 1; }",
-)];
+const INNER: &str =
+    "a.proto syntax = \"proto3\"; package p; message Inner {} message A { message B {} Inner x = 1; }";
 
-/// Files, a symbol, its new name, and the line of the refusal.
-const REFUSED: &[(Texts<'static>, &str, &str, &str)] = &[
-    (OLD, "A.q", "r", "refused: 1 UnknownTarget\n"),
-    (OLD, "", "", "refused: 1 UnknownTarget\n"),
-    (OLD, "A.b_c", "9x", "refused: 3 NotAnIdentifier\n"),
-    (OLD, "A.b_c", "-x", "refused: 3 NotAnIdentifier\n"),
-    (OLD, "A", "message", "refused: 4 KeywordName\n"),
-    (OLD, "A.b_c", "b_c", "refused: 5 SameName\n"),
-    (TWO, "M.x", "fooBar", "refused: 6 Collision\n"),
+/// Files, a rename, and the line of the refusal.
+const REFUSED: &[(&str, &str, &str)] = &[
+    (OLD, "rename A.q r", "refused: 1 UnknownTarget\n"),
+    (OLD, "rename  ", "refused: 1 UnknownTarget\n"),
+    (OLD, "rename A.b_c 9x", "refused: 3 NotAnIdentifier\n"),
+    (OLD, "rename A.b_c -x", "refused: 3 NotAnIdentifier\n"),
+    (OLD, "rename A message", "refused: 4 KeywordName\n"),
+    (OLD, "rename A.b_c b_c", "refused: 5 SameName\n"),
+    (TWO, "rename M.x fooBar", "refused: 6 Collision\n"),
     (
         INNER,
-        "p.A.B",
-        "Inner",
+        "rename p.A.B Inner",
         "refused: 7 Captured a.proto:1:73\n",
     ),
-    (TWO, "M.x", "foo_bar", "refused: 9 JsonClash\n"),
+    (TWO, "rename M.x foo_bar", "refused: 9 JsonClash\n"),
 ];
 
 #[test]
-fn are_refused_by_the_least_case(rt: HostRuntime) -> Result<(), Fail> {
-    for (files, name, to, line) in REFUSED {
-        expect_kept(&rt, files, "", Asked::Edit(Kind::Rename, name, to), line)?;
+fn are_refused_by_the_least_case(rt: HostRuntime) {
+    for (files, asked, line) in REFUSED {
+        expect_kept(&rt, files, "", asked, line);
     }
     // An undo of files that are others than after the last entry.
-    expect_kept(&rt, OLD, LINE, Asked::Undo, STALE)
+    expect_kept(&rt, OLD, LINE, "undo", STALE);
 }

@@ -1,82 +1,57 @@
-//! What comes one behind the other over a store, and rows of it.
+//! What comes one behind the other over a store.
 
-use crate::calls::{Asked, Pipe, Texts, ask, store_with};
-use crate::three_files::Step;
+use crate::calls::{Pipe, command_of, joined, store_of};
+use crate::three_files::{Step, files_at};
 use proto_journal::all_files;
 use proto_store::{MemoryStore, Store};
-use protoref_run::{RunFault, Status};
+use protoref_run::{RunFault, Status, run};
 use std::process::Abort;
-use std::test::Fail;
 
 /// What is asked and printed, or what the store has then.
 #[derive(Clone, Copy)]
 pub(crate) enum Turn<'a> {
     /// What is asked prints this text, and all is well.
-    Done(Asked, &'a str),
+    Done(&'a str, &'a str),
     /// What is asked prints this text, and there is a problem.
-    Problem(Asked, &'a str),
+    Problem(&'a str, &'a str),
     /// The output fails after so many bytes of this text.
-    HalfTold(Asked, &'a str, usize),
+    HalfTold(&'a str, &'a str, usize),
     /// This call of the store fails, and may land. Nothing is printed.
-    Cut(Asked, u64, bool),
+    Cut(&'a str, u64, bool),
     /// The store has these files and this journal.
-    Holds(Texts<'a>, &'a str),
+    Holds(&'a str, &'a str),
     /// The store is at this step, and has these older entries.
     At(Step, &'a str),
-}
-
-/// The files of a store without a journal, and what comes one behind the other.
-pub(crate) type Row = (Texts<'static>, &'static [Turn<'static>]);
-
-/// Each row holds over a store of its own.
-pub(crate) fn expect_rows<R: AllocGlobal + Abort>(rt: &R, rows: &[Row]) -> Result<(), Fail> {
-    for (files, turns) in rows {
-        expect_turns(rt, files, "", turns)?;
-    }
-    Ok(())
 }
 
 /// What is asked of a store of these files and this journal prints this line, and changes nothing.
 pub(crate) fn expect_kept<'a, R: AllocGlobal + Abort>(
     rt: &R,
-    files: Texts<'a>,
+    files: &'a str,
     journal: &'a str,
-    asked: Asked,
+    asked: &'a str,
     line: &'a str,
-) -> Result<(), Fail> {
+) {
     let turns = [Turn::Problem(asked, line), Turn::Holds(files, journal)];
-    expect_turns(rt, files, journal, &turns)
+    expect_turns(rt, files, journal, &turns);
 }
 
-/// The turns hold over a store of these files and this journal.
+/// The turns hold over a store of these files and this journal, which this function alone owns.
 pub(crate) fn expect_turns<R: AllocGlobal + Abort>(
     rt: &R,
-    files: Texts,
+    files: &str,
     journal: &str,
     turns: &[Turn],
-) -> Result<(), Fail> {
-    let mut store = store_with(rt.alloc(), files, journal)?;
-    expect_each(rt, &mut store, turns)
-}
-
-fn expect_each<R: AllocGlobal + Abort>(
-    rt: &R,
-    store: &mut MemoryStore,
-    turns: &[Turn],
-) -> Result<(), Fail> {
+) {
+    let mut store = store_of(rt, files, journal);
     for turn in turns {
-        expect_turn(rt, store, *turn)?;
+        expect_turn(rt, &mut store, turn);
     }
-    Ok(())
 }
 
-fn expect_turn<R: AllocGlobal + Abort>(
-    rt: &R,
-    store: &mut MemoryStore,
-    turn: Turn,
-) -> Result<(), Fail> {
+fn expect_turn<R: AllocGlobal + Abort>(rt: &R, store: &mut MemoryStore, turn: &Turn) {
     let slow = (7, 4096);
-    let (asked, pipe, end) = match turn {
+    let (asked, pipe, end) = match *turn {
         Turn::Done(asked, text) => (asked, slow, (Ok(Status::Done), text, text.len())),
         Turn::Problem(asked, text) => (asked, slow, (Ok(Status::Problem), text, text.len())),
         Turn::HalfTold(asked, text, room) => (
@@ -89,79 +64,74 @@ fn expect_turn<R: AllocGlobal + Abort>(
             store.fail_at(call, lands);
             (asked, (4096, 4096), (Err(RunFault::Store), "", 0))
         }
-        Turn::Holds(files, journal) => return expect_files(rt, store, files, journal),
-        Turn::At(step, older) => return expect_step(rt, store, step, older),
+        Turn::Holds(files, journal) => return expect_holds(rt, store, files, journal),
+        Turn::At(step, older) => {
+            let (files, journal) = (files_at(rt, step), joined(rt, older, step.1));
+            return expect_holds(rt, store, files.as_str(), journal.as_str());
+        }
     };
-    expect_end(rt, store, asked, pipe, end)
+    expect_end(rt, store, asked, pipe, end);
 }
 
 /// How a run ends, and how many bytes of a text it has then printed.
 type End<'a> = (Result<Status, RunFault>, &'a str, usize);
 
-// A call of the store has failed where the end says so, and nowhere else.
+// A call of the store has failed where the end says so, and nowhere else. An even room tries the one end of a pipe, an odd room the other.
 fn expect_end<R: AllocGlobal + Abort>(
     rt: &R,
     store: &mut MemoryStore,
-    asked: Asked,
+    asked: &str,
     (at_once, room): (usize, usize),
     (end, text, count): End,
-) -> Result<(), Fail> {
-    let mut writer = Pipe::new(rt.alloc(), at_once, room);
+) {
+    let mut writer = Pipe {
+        taken: Vec::new(rt.alloc()),
+        at_once,
+        room,
+        breaks: room % 2 == 0,
+    };
+    let command = command_of(rt, asked);
     let failures = store.failures();
-    let ended = ask(rt, asked, store, &mut writer)?;
+    assert!(rt; failures < u64::MAX);
+    let ended = run(rt.alloc(), command, store, &mut writer);
     let printed = writer.taken.as_slice();
-    assert!(rt; ended == end, "how it ends, for {text}");
-    assert!(rt; printed.len() == count, "for {text}");
-    assert!(rt; text.as_bytes().starts_with(printed), "for {text}");
     let failed = u64::from(end == Err(RunFault::Store));
+    assert!(rt; ended == end, "how {asked} ends, for {text}");
+    assert!(rt;
+        printed.len() == count && text.as_bytes().starts_with(printed),
+        "what {asked} prints, for {text}"
+    );
     assert!(rt;
         store.failures() == failures.saturating_add(failed),
-        "for {text}"
+        "how often the store fails in {asked}, for {text}"
     );
-    Ok(())
 }
 
-fn expect_step<R: AllocGlobal + Abort>(
+// The store has these files and no others, in the order of their paths, and this journal.
+fn expect_holds<R: AllocGlobal + Abort>(
     rt: &R,
     store: &mut MemoryStore,
-    step: Step,
-    older: &str,
-) -> Result<(), Fail> {
-    let journal = step.journal(rt.alloc(), older)?;
-    expect_files(rt, store, &step.files(), journal.as_str())
-}
-
-// The store has files with these paths and texts, in the order of their paths, and no others, and this journal.
-fn expect_files<R: AllocGlobal + Abort>(
-    rt: &R,
-    store: &mut MemoryStore,
-    files: Texts,
+    files: &str,
     journal: &str,
-) -> Result<(), Fail> {
-    expect_journal(rt, store, journal);
+) {
     assert!(rt; store.failures() < u64::MAX);
-    match all_files(rt.alloc(), store) {
-        Ok(held) => expect_texts(rt, held.as_slice(), files),
-        Err(_) => panic!(rt; "no files"),
-    }
-    Ok(())
+    let bytes = store.read_journal().expect(rt, "a journal");
+    assert!(rt; bytes.as_slice() == journal.as_bytes(), "not {journal}");
+    assert!(rt; store.failures() < u64::MAX);
+    let held = all_files(rt.alloc(), store).expect(rt, "files");
+    expect_files(rt, held.as_slice(), files);
 }
 
-fn expect_texts<R: Abort>(rt: &R, held: &[(String, Vec<u8>)], files: Texts) {
-    assert!(rt; held.len() == files.len());
-    for ((path, bytes), (wanted, text)) in held.iter().zip(files) {
-        assert!(rt; path.as_str() == *wanted);
+fn expect_files<R: Abort>(rt: &R, held: &[(String, Vec<u8>)], files: &str) {
+    let mut wanted = files.split('|');
+    for (path, bytes) in held {
+        let file = wanted.next().unwrap_or("");
+        let (name, text) = file.split_once(' ').unwrap_or(("", ""));
         assert!(rt;
-            bytes.as_slice() == text.as_bytes(),
-            "{wanted} is not {text}"
+            path.as_str() == name && bytes.as_slice() == text.as_bytes(),
+            "not {file}"
         );
     }
-}
-
-fn expect_journal<R: Abort>(rt: &R, store: &mut MemoryStore, journal: &str) {
-    assert!(rt; store.failures() < u64::MAX);
-    match store.read_journal() {
-        Ok(bytes) => assert!(rt; bytes.as_slice() == journal.as_bytes(), "not {journal}"),
-        Err(_) => panic!(rt; "no journal"),
-    }
+    // No files at all are one empty text.
+    assert!(rt; wanted.next().unwrap_or("").is_empty(), "too few files");
 }

@@ -1,32 +1,19 @@
-//! Stores, writers, and running a command over them.
+//! Files, writers, and running a command over a store.
 
-use proto_faults::NoMemory;
 use proto_store::{MemoryStore, Store};
 use protoref_run::{Command, RunFault, Status, run};
-use std::alloc::Global;
 use std::io;
 use std::io::Write;
 use std::process::Abort;
 
 /// A writer that takes a few bytes at a time, and only so many of them.
 #[derive(Drop)]
-pub(crate) struct Pipe {
-    pub(crate) taken: Vec<u8>,
+struct Pipe {
+    taken: Vec<u8>,
     at_once: usize,
     room: usize,
     // Whether it fails where it has no room left; else it takes no byte.
     breaks: bool,
-}
-
-impl Pipe {
-    pub(crate) fn new(alloc: Global, at_once: usize, room: usize, breaks: bool) -> Pipe {
-        Pipe {
-            taken: Vec::new(alloc),
-            at_once,
-            room,
-            breaks,
-        }
-    }
 }
 
 impl Write for Pipe {
@@ -46,50 +33,77 @@ impl Write for Pipe {
     }
 }
 
-/// A store of these files.
-pub(crate) fn store_of(alloc: Global, files: &[(&str, &str)]) -> Result<MemoryStore, NoMemory> {
-    let mut given = Vec::new(alloc);
-    for (path, text) in files {
-        given.push(file_of(alloc, path, text)?)?;
+/// Files for a store: paths and texts.
+pub(crate) type Given = Vec<(String, Vec<u8>)>;
+
+/// Puts a file behind others.
+pub(crate) fn add<R: AllocGlobal + Abort>(rt: &R, given: &mut Given, path: &str, text: &str) {
+    let path = String::from_str(rt.alloc(), path).expect(rt, "memory");
+    let text = text.as_bytes().to_vec(rt.alloc()).expect(rt, "memory");
+    given.push((path, text)).expect(rt, "memory");
+}
+
+/// Files, each its path, which ends with `.proto`, a space and its text, joined by ` | `.
+pub(crate) fn given<R: AllocGlobal + Abort>(rt: &R, files: &str) -> Given {
+    let mut given = Vec::new(rt.alloc());
+    for file in files.split(" | ") {
+        match file.split_once(".proto ") {
+            Some((name, text)) => {
+                let path = format!(in rt.alloc(); "{name}.proto").expect(rt, "memory");
+                add(rt, &mut given, path.as_str(), text);
+            }
+            None => assert!(rt; files.is_empty(), "no path of {file}"),
+        }
     }
-    MemoryStore::new(alloc, given, Vec::new(alloc))
+    given
 }
 
-/// A file as a store takes it.
-pub(crate) fn file_of(
-    alloc: Global,
-    path: &str,
-    text: &str,
-) -> Result<(String, Vec<u8>), NoMemory> {
-    let path = String::from_str(alloc, path)?;
-    let bytes = text.as_bytes().to_vec(alloc)?;
-    Ok((path, bytes))
-}
+/// How many bytes an output takes at once, how many in all, and whether it fails then.
+pub(crate) type Room = (usize, usize, bool);
 
-/// Runs a command over a store of few failures.
-pub(crate) fn run_into<S: Store, R: AllocGlobal + Abort>(
+/// Room for all that is printed here.
+pub(crate) const WIDE: Room = (4096, 65536, false);
+
+/// How a run ends, and how many bytes of a text it has then printed.
+pub(crate) type End<'a> = (Result<Status, RunFault>, &'a str, usize);
+
+/// The command ends so over a store, of which so many calls have failed then.
+pub(crate) fn expect_end<S: Store, R: AllocGlobal + Abort>(
     rt: &R,
-    command: Command,
     store: &mut S,
-    writer: &mut Pipe,
-) -> Result<Status, RunFault> {
+    command: Command,
+    (at_once, room, breaks): Room,
+    (end, text, count): End,
+    failures: u64,
+) {
+    let mut writer = Pipe {
+        taken: Vec::new(rt.alloc()),
+        at_once,
+        room,
+        breaks,
+    };
     assert!(rt; store.failures() < u64::MAX);
-    run(rt.alloc(), command, store, writer)
+    let ended = run(rt.alloc(), command, store, &mut writer);
+    let printed = writer.taken.as_slice();
+    assert!(rt; ended == end, "how it ends, for {text}");
+    assert!(rt;
+        printed.len() == count && text.as_bytes().starts_with(printed),
+        "what is printed, for {text}"
+    );
+    assert!(rt;
+        store.failures() == failures,
+        "how often the store fails, for {text}"
+    );
 }
 
-/// The command prints this text, and ends so; the store does not fail.
+/// The command ends so over a store of these files, which does not fail.
 pub(crate) fn expect<R: AllocGlobal + Abort>(
     rt: &R,
+    given: Given,
     command: Command,
-    store: &mut MemoryStore,
-    text: &str,
-    status: Status,
+    room: Room,
+    end: End,
 ) {
-    let mut writer = Pipe::new(rt.alloc(), 4096, 65536, false);
-    let ended = run_into(rt, command, store, &mut writer);
-    let is_whole = writer.taken.as_slice() == text.as_bytes();
-    assert!(rt;
-        ended == Ok(status) && is_whole && store.failures() == 0,
-        "for {text}"
-    );
+    let mut store = MemoryStore::new(rt.alloc(), given, Vec::new(rt.alloc())).expect(rt, "memory");
+    expect_end(rt, &mut store, command, room, end, 0);
 }

@@ -1,56 +1,65 @@
 //! Which command the words of the command line ask for.
 
-use proto_faults::NoMemory;
+use crate::linting::rules_named;
 use proto_lint::{Rule, RuleSet};
 use protoref_words::{Request, WordsFault, read_words};
-use std::alloc::Global;
 use std::process::Abort;
-use std::test::Fail;
 
-// What a line is to ask for.
-#[derive(Clone, Copy)]
-enum Wanted<'a> {
-    // Nothing, since it is a bad one.
-    Refusal,
-    // Help that has these words.
-    Help(&'a str),
-    // Help that tells of each rule in a line.
-    HelpOfRules,
-    // The findings of these rules below a root.
-    Lint(&'a str, RuleSet),
-    // What these words name, joined by `|`.
-    Words(&'a str),
-}
+/// A line, and what it asks for: a command and its words, joined by `|`; `help` that has these words; or help that tells of
+/// each of the `rules`.
+type Row = (&'static str, &'static str);
 
-fn words_of(alloc: Global, line: &str) -> Result<Vec<String>, NoMemory> {
-    let mut words = Vec::new(alloc);
-    for word in line.split(' ') {
-        words.push(String::from_str(alloc, word)?)?;
-    }
-    Ok(words)
-}
+/// What a bad line asks for.
+const REFUSAL: &str = "refusal";
 
-fn expect<R: AllocGlobal + Abort>(rt: &R, line: &str, wanted: Wanted<'_>) -> Result<(), NoMemory> {
-    let words = words_of(rt.alloc(), line)?;
-    let is_wanted = match read_words(rt.alloc(), words.as_slice()) {
-        Ok(request) => asks_for(&request, wanted),
-        Err(WordsFault::BadCommandLine) => matches!(wanted, Wanted::Refusal),
-        Err(WordsFault::NoMemory) => false,
-    };
-    assert!(rt; is_wanted, "at {line}");
-    Ok(())
-}
-
-fn asks_for(request: &Request, wanted: Wanted<'_>) -> bool {
-    match (request, wanted) {
-        (Request::Help(text), Wanted::Help(part)) => text.as_str().contains(part),
-        (Request::Help(text), Wanted::HelpOfRules) => tells_of_each_rule(text.as_str()),
-        (Request::Lint { root, rules }, Wanted::Lint(wanted_root, wanted_rules)) => {
-            root.as_str() == wanted_root && *rules == wanted_rules
+fn expect_rows<R: AllocGlobal + Abort>(rt: &R, rows: &[Row]) {
+    for (line, wanted) in rows {
+        let mut words = Vec::new(rt.alloc());
+        for word in line.split(' ') {
+            let word = String::from_str(rt.alloc(), word).expect(rt, "memory");
+            words.push(word).expect(rt, "memory");
         }
-        (_, Wanted::Words(words)) => is_named(request, words),
-        _ => false,
+        let is_wanted = match read_words(rt.alloc(), words.as_slice()) {
+            Ok(request) => asks_for(rt, &request, wanted),
+            Err(WordsFault::BadCommandLine) => *wanted == REFUSAL,
+            Err(WordsFault::NoMemory) => false,
+        };
+        assert!(rt; is_wanted, "at {line}");
     }
+}
+
+fn asks_for<R: Abort>(rt: &R, request: &Request, wanted: &str) -> bool {
+    let mut words = wanted.split('|');
+    let command = words.next().unwrap_or("");
+    let first = words.next().unwrap_or("");
+    let second = words.next().unwrap_or("");
+    let third = words.next().unwrap_or("");
+    let (asked, root, name, more) = match request {
+        Request::Help(text) if command == "help" => return text.as_str().contains(first),
+        Request::Help(text) => return command == "rules" && tells_of_each_rule(text.as_str()),
+        Request::Lint { root, rules } => {
+            return command == "lint" && root.as_str() == first && *rules == rules_named(rt, second);
+        }
+        Request::Compile { root } => ("compile", root, "", ""),
+        Request::Rename { root, name, to } => ("rename", root, name.as_str(), to.as_str()),
+        Request::DeleteField { root, name } => ("delete-field", root, name.as_str(), ""),
+        Request::AddImport { root, file, path } => (
+            "add-import",
+            root,
+            file.as_str(),
+            path.as_str(),
+        ),
+        Request::DropImport { root, file, path } => (
+            "drop-import",
+            root,
+            file.as_str(),
+            path.as_str(),
+        ),
+        Request::Undo { root } => ("undo", root, "", ""),
+        Request::Log { root } => ("log", root, "", ""),
+        Request::Recover { root } => ("recover", root, "", ""),
+    };
+    command == asked && first == root.as_str() && second == name && third == more
 }
 
 fn tells_of_each_rule(text: &str) -> bool {
@@ -66,131 +75,74 @@ fn tells_of_each_rule(text: &str) -> bool {
     count == 27 && rules == RuleSet::all()
 }
 
-// Whether these are the words of the request, joined by `|`; help and lint have none.
-fn is_named(request: &Request, words: &str) -> bool {
-    match request {
-        Request::Compile { root } => are_joined(&["compile", root.as_str()], words),
-        Request::Rename { root, name, to } => are_joined(
-            &["rename", root.as_str(), name.as_str(), to.as_str()],
-            words,
-        ),
-        Request::DeleteField { root, name } => {
-            are_joined(&["delete-field", root.as_str(), name.as_str()], words)
-        }
-        Request::AddImport { root, file, path } => are_joined(
-            &["add-import", root.as_str(), file.as_str(), path.as_str()],
-            words,
-        ),
-        Request::DropImport { root, file, path } => are_joined(
-            &["drop-import", root.as_str(), file.as_str(), path.as_str()],
-            words,
-        ),
-        Request::Undo { root } => are_joined(&["undo", root.as_str()], words),
-        Request::Log { root } => are_joined(&["log", root.as_str()], words),
-        Request::Recover { root } => are_joined(&["recover", root.as_str()], words),
-        _ => false,
-    }
-}
-
-fn are_joined(words: &[&str], text: &str) -> bool {
-    let mut parts = text.split('|');
-    for word in words {
-        if parts.next() != Some(*word) {
-            return false;
-        }
-    }
-    parts.next().is_none()
-}
-
-#[test]
-fn takes_rules_by_their_names(rt: HostRuntime) -> Result<(), Fail> {
-    let mut some = RuleSet::none();
-    some.insert(Rule::ImportUsed);
-    some.insert(Rule::DirectorySamePackage);
-    for (line, root, rules) in [
-        ("protoref lint .", ".", RuleSet::all()),
-        ("protoref lint --x", "--x", RuleSet::all()),
-        ("protoref lint --", "--", RuleSet::all()),
-        (
-            "protoref lint a IMPORT_USED DIRECTORY_SAME_PACKAGE",
-            "a",
-            some,
-        ),
-        (
-            "protoref lint a DIRECTORY_SAME_PACKAGE IMPORT_USED DIRECTORY_SAME_PACKAGE",
-            "a",
-            some,
-        ),
-    ] {
-        expect(&rt, line, Wanted::Lint(root, rules))?;
-    }
-    Ok(())
-}
-
-/// Lines that are refused as bad ones.
-const REFUSED: &[&str] = &[
-    // What is no command.
-    "protoref",
-    "protoref compile",
-    "protoref compile a b",
-    "protoref compile a --help",
-    "protoref compile -- a",
-    "protoref Compile .",
-    "protoref comp .",
-    "protoref help",
-    "protoref help compile",
-    "protoref -x compile .",
-    // Other options and rules.
-    "protoref -hx",
-    "protoref --help=x",
-    "protoref -- compile .",
-    "protoref --version",
-    "protoref lint",
-    "protoref lint . NO_SUCH",
-    "protoref lint . IMPORT_USED NO_SUCH",
-    "protoref lint . import_used",
-    "protoref lint . IMPORT_USED,PACKAGE_DEFINED",
-    "protoref lint . ",
-    // Rules and commands that are not there.
-    "protoref lint . --help",
-    "protoref lint . -x",
-    "protoref lint -- . IMPORT_USED",
-    "protoref Recover .",
-    "protoref migrate .",
-    "protoref Rename . A B",
-    "protoref delete_field . A",
-    "protoref redo .",
-    // Edits with too few or too many words.
-    "protoref rename",
-    "protoref rename . A",
-    "protoref rename . A B C",
-    "protoref delete-field .",
-    "protoref delete-field . A B",
-    "protoref add-import . a.proto",
-    "protoref add-import . a.proto b.proto c.proto",
-    "protoref drop-import . a.proto",
-    "protoref drop-import . a.proto b.proto c.proto",
-    // Other words behind a root.
-    "protoref undo",
-    "protoref undo . .",
-    "protoref undo . --help",
-    "protoref log",
-    "protoref log . 1",
-    "protoref recover",
-    "protoref recover . .",
-    "protoref recover . --help",
+const LINTS: &[Row] = &[
+    ("protoref lint .", "lint|.|all"),
+    ("protoref lint --x", "lint|--x|all"),
+    ("protoref lint --", "lint|--|all"),
+    (
+        "protoref lint a IMPORT_USED DIRECTORY_SAME_PACKAGE",
+        "lint|a|IMPORT_USED DIRECTORY_SAME_PACKAGE",
+    ),
+    (
+        "protoref lint a DIRECTORY_SAME_PACKAGE IMPORT_USED DIRECTORY_SAME_PACKAGE",
+        "lint|a|IMPORT_USED DIRECTORY_SAME_PACKAGE",
+    ),
 ];
 
-#[test]
-fn refuses_what_is_no_command(rt: HostRuntime) -> Result<(), Fail> {
-    for line in REFUSED {
-        expect(&rt, line, Wanted::Refusal)?;
-    }
-    Ok(())
-}
+const REFUSED: &[Row] = &[
+    // What is no command.
+    ("protoref", REFUSAL),
+    ("protoref compile", REFUSAL),
+    ("protoref compile a b", REFUSAL),
+    ("protoref compile a --help", REFUSAL),
+    ("protoref compile -- a", REFUSAL),
+    ("protoref Compile .", REFUSAL),
+    ("protoref comp .", REFUSAL),
+    ("protoref help", REFUSAL),
+    ("protoref help compile", REFUSAL),
+    ("protoref -x compile .", REFUSAL),
+    // Other options and rules.
+    ("protoref -hx", REFUSAL),
+    ("protoref --help=x", REFUSAL),
+    ("protoref -- compile .", REFUSAL),
+    ("protoref --version", REFUSAL),
+    ("protoref lint", REFUSAL),
+    ("protoref lint . NO_SUCH", REFUSAL),
+    ("protoref lint . IMPORT_USED NO_SUCH", REFUSAL),
+    ("protoref lint . import_used", REFUSAL),
+    ("protoref lint . IMPORT_USED,PACKAGE_DEFINED", REFUSAL),
+    ("protoref lint . ", REFUSAL),
+    // Rules and commands that are not there.
+    ("protoref lint . --help", REFUSAL),
+    ("protoref lint . -x", REFUSAL),
+    ("protoref lint -- . IMPORT_USED", REFUSAL),
+    ("protoref Recover .", REFUSAL),
+    ("protoref migrate .", REFUSAL),
+    ("protoref Rename . A B", REFUSAL),
+    ("protoref delete_field . A", REFUSAL),
+    ("protoref redo .", REFUSAL),
+    // Edits with too few or too many words.
+    ("protoref rename", REFUSAL),
+    ("protoref rename . A", REFUSAL),
+    ("protoref rename . A B C", REFUSAL),
+    ("protoref delete-field .", REFUSAL),
+    ("protoref delete-field . A B", REFUSAL),
+    ("protoref add-import . a.proto", REFUSAL),
+    ("protoref add-import . a.proto b.proto c.proto", REFUSAL),
+    ("protoref drop-import . a.proto", REFUSAL),
+    ("protoref drop-import . a.proto b.proto c.proto", REFUSAL),
+    // Other words behind a root.
+    ("protoref undo", REFUSAL),
+    ("protoref undo . .", REFUSAL),
+    ("protoref undo . --help", REFUSAL),
+    ("protoref log", REFUSAL),
+    ("protoref log . 1", REFUSAL),
+    ("protoref recover", REFUSAL),
+    ("protoref recover . .", REFUSAL),
+    ("protoref recover . --help", REFUSAL),
+];
 
-/// Lines, and the words of what they ask for, joined by `|`.
-const TAKEN: &[(&str, &str)] = &[
+const TAKEN: &[Row] = &[
     ("protoref compile .", "compile|."),
     ("protoref compile a/b", "compile|a/b"),
     ("protoref compile -x", "compile|-x"),
@@ -228,17 +180,20 @@ const TAKEN: &[(&str, &str)] = &[
 ];
 
 #[test]
-fn takes_the_words_as_they_stand(rt: HostRuntime) -> Result<(), Fail> {
-    for (line, words) in TAKEN {
-        expect(&rt, line, Wanted::Words(words))?;
-    }
-    Ok(())
+fn takes_the_words_as_they_stand(rt: HostRuntime) {
+    expect_rows(&rt, TAKEN);
+    expect_rows(&rt, LINTS);
 }
 
-const USAGE: &str = "Usage: protoref";
+#[test]
+fn refuses_what_is_no_command(rt: HostRuntime) {
+    expect_rows(&rt, REFUSED);
+}
+
+const USAGE: &str = "help|Usage: protoref";
 
 /// Lines that ask for help, and words of it; of each command its example too.
-const HELPS: &[(&str, &str)] = &[
+const HELPS: &[Row] = &[
     ("protoref -h", USAGE),
     ("protoref --help", USAGE),
     ("protoref --help compile .", USAGE),
@@ -256,30 +211,29 @@ const HELPS: &[(&str, &str)] = &[
     ("protoref undo --help", USAGE),
     ("protoref log -h", USAGE),
     ("protoref recover --help", USAGE),
-    ("protoref compile -h", "Example: protoref compile "),
-    ("protoref lint -h", "Example: protoref lint "),
-    ("protoref rename -h", "Example: protoref rename "),
+    ("protoref compile -h", "help|Example: protoref compile "),
+    ("protoref lint -h", "help|Example: protoref lint "),
+    ("protoref rename -h", "help|Example: protoref rename "),
     (
         "protoref delete-field -h",
-        "Example: protoref delete-field ",
+        "help|Example: protoref delete-field ",
     ),
-    ("protoref add-import -h", "Example: protoref add-import "),
-    ("protoref drop-import -h", "Example: protoref drop-import "),
-    ("protoref undo -h", "Example: protoref undo "),
-    ("protoref log -h", "Example: protoref log "),
-    ("protoref recover -h", "Example: protoref recover "),
+    (
+        "protoref add-import -h",
+        "help|Example: protoref add-import ",
+    ),
+    (
+        "protoref drop-import -h",
+        "help|Example: protoref drop-import ",
+    ),
+    ("protoref undo -h", "help|Example: protoref undo "),
+    ("protoref log -h", "help|Example: protoref log "),
+    ("protoref recover -h", "help|Example: protoref recover "),
+    // A line of each rule.
+    ("protoref lint --help", "rules"),
 ];
 
 #[test]
-fn gives_help(rt: HostRuntime) -> Result<(), Fail> {
-    for (line, part) in HELPS {
-        expect(&rt, line, Wanted::Help(part))?;
-    }
-    Ok(())
-}
-
-#[test]
-fn tells_of_each_rule_in_a_line(rt: HostRuntime) -> Result<(), Fail> {
-    expect(&rt, "protoref lint --help", Wanted::HelpOfRules)?;
-    Ok(())
+fn gives_help(rt: HostRuntime) {
+    expect_rows(&rt, HELPS);
 }

@@ -1,6 +1,6 @@
 //! What single rules find and do not find.
 
-/// A rule; files, each its path, a space and its text, joined by ` | `; and the lines that are printed.
+/// Rules by their names, with spaces between them, or `all`; files, each its path, a space and its text, joined by ` | `; and the lines that are printed.
 pub(crate) type Row = (&'static str, &'static str, &'static str);
 
 pub(crate) const DIRECTORIES: &[Row] = &[

@@ -1,8 +1,8 @@
 //! Roots that name no folder.
 
-use crate::calls::{Pipe, run_into};
+use crate::calls::{WIDE, expect_end};
 use proto_lint::RuleSet;
-use proto_store::{FolderStore, Store};
+use proto_store::FolderStore;
 use protoref_run::{Command, RunFault};
 use std::process::Abort;
 use std::rt::Files;
@@ -10,10 +10,8 @@ use std::rt::Files;
 // The command ends with the failure of the store, which the program makes status 2 of, and prints nothing.
 fn expect_nowhere<R: Files + AllocGlobal + Abort>(rt: &R, command: Command) {
     let mut store = FolderStore::new(rt, "");
-    let mut writer = Pipe::new(rt.alloc(), 4096, 65536, false);
-    let ended = run_into(rt, command, &mut store, &mut writer);
-    assert!(rt; ended == Err(RunFault::Store));
-    assert!(rt; writer.taken.is_empty() && store.failures() == 1);
+    let end = (Err(RunFault::Store), "", 0);
+    expect_end(rt, &mut store, command, WIDE, end, 1);
 }
 
 #[test]

@@ -1,27 +1,28 @@
 //! The sample workspace, against what protoc says of it.
 
-use crate::calls::{expect, store_of};
-use crate::shop;
+use crate::calls::{WIDE, add, expect_end};
+use crate::shop::{DESCRIPTORS, FILES, FINDINGS};
 use proto_lint::RuleSet;
+use proto_store::MemoryStore;
 use protoref_run::{Command, Status};
-use std::test::Fail;
 
 #[test]
-fn compiles_and_lints_as_protoc_tells(rt: HostRuntime) -> Result<(), Fail> {
-    let mut store = store_of(rt.alloc(), shop::FILES)?;
-    expect(
+fn compiles_and_lints_as_protoc_tells(rt: HostRuntime) {
+    let mut given = Vec::new(rt.alloc());
+    for (path, text) in FILES {
+        add(&rt, &mut given, path, text);
+    }
+    let journal = Vec::new(rt.alloc());
+    let mut store = MemoryStore::new(rt.alloc(), given, journal).expect(&rt, "memory");
+    let described = (Ok(Status::Done), DESCRIPTORS, DESCRIPTORS.len());
+    expect_end(&rt, &mut store, Command::Compile, WIDE, described, 0);
+    let found = (Ok(Status::Problem), FINDINGS, FINDINGS.len());
+    expect_end(
         &rt,
-        Command::Compile,
         &mut store,
-        shop::DESCRIPTORS,
-        Status::Done,
-    );
-    expect(
-        &rt,
         Command::Lint(RuleSet::all()),
-        &mut store,
-        shop::FINDINGS,
-        Status::Problem,
+        WIDE,
+        found,
+        0,
     );
-    Ok(())
 }
