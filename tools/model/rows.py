@@ -32,8 +32,8 @@ def done(*splices, json=""):
 
 
 COMMANDS = {"rename": "rename", "delete": "delete-field", "add": "add-import", "drop": "drop-import"}
-PIECE = re.compile(r'(?P<string>"(?:[^"\\]|\\.)*")|(?P<word>\w+)|(?P<mark>[\[\](){},:])|(?P<rest>//[^\n]*|.)', re.S)
-TABLE = re.compile(r"^(?:pub\(crate\) )?const \w+: &\[(Row|Deletion|Place)\] = (.*?\];)$", re.S | re.M)
+TABLE = re.compile(r"^(?:pub\(crate\) )?const \w+: &\[(Flat|Deletion|Place)\] = (.*?\];)$", re.S | re.M)
+TEXT = re.compile(r'"(?:[^"\\]|\\.)*"|[\[\],]')
 EMPTY = {"b.proto": "", "c.proto": ""}
 
 
@@ -48,16 +48,7 @@ def rows_of_tests(source):
 
 
 def values_of_table(table):
-    # What is left is the spelling of lists, tuples and rows with named parts.
-    written = []
-    for piece in PIECE.finditer(table):
-        if piece["string"]:
-            written.append(piece["string"])
-        elif piece["word"]:
-            written.append({"Row": "dict"}.get(piece["word"], piece["word"]))
-        elif piece["mark"]:
-            written.append({"{": "(", "}": ")", ":": "="}.get(piece["mark"], piece["mark"]))
-    return eval("".join(written), {"__builtins__": {}, "dict": dict})
+    return eval("".join(TEXT.findall(table)), {"__builtins__": {}})
 
 
 def parts_of_row(kind, row):
@@ -67,7 +58,17 @@ def parts_of_row(kind, row):
     if kind == "Place":
         text, told, after, json = row
         return {"a.proto": text, **EMPTY}, [("add", "a.proto", "b.proto", told)], {"a.proto": after, **EMPTY}, json
-    return dict(row["files"]), row["steps"], dict(row["after"]), row["json"]
+    given, asked, after, json = row
+    return texts_of(given), [step_of(written) for written in asked.split("|")], texts_of(after), json
+
+
+def texts_of(written):
+    return {path: text for path, _, text in (file.partition(" ") for file in written.split("|")) if path}
+
+
+def step_of(written):
+    asked, _, told = written.partition(" > ")
+    return (*asked.split(" "), "", "")[:3] + (told,)
 
 
 ROWS = [

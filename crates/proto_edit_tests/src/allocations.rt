@@ -1,19 +1,32 @@
 //! Want of memory: it changes nothing, and the same call again answers as if it had not come. In a run that refuses one
-//! allocation this test still passes, whichever it is.
+//! allocation these tests still pass, whichever it is.
 
-use super::renames::expect_none;
+use super::calls::{Flat, expect_none, told};
+use super::deletions::ONEOF;
+use super::imports::IMPORT;
 use super::rows::{FIRST_MAP, VALUE, WIDE};
-use proto_edit_rows::{Row, difference};
 use proto_faults::NoMemory;
+use std::process::Abort;
+
+// The row's edits and the way back, whatever is refused.
+fn expect_in_the_end<R: AllocGlobal + Abort>(rt: &R, rows: &[Flat]) {
+    for row in rows {
+        match told(rt.alloc(), row, &[]) {
+            Err(NoMemory) => expect_none(rt, told(rt.alloc(), row, &[])),
+            answer => expect_none(rt, answer),
+        }
+    }
+}
 
 // A message that two other files use, a value that is a default, a map field.
-const ROWS: &[Row] = &[WIDE, VALUE, FIRST_MAP];
-
-// The rows' renames and the way back, whatever is refused.
 #[test]
 fn one_is_refused(rt: HostRuntime) {
-    match difference(rt.alloc(), ROWS) {
-        Err(NoMemory) => expect_none(&rt, difference(rt.alloc(), ROWS)),
-        told => expect_none(&rt, told),
-    }
+    expect_in_the_end(&rt, &[WIDE, VALUE, FIRST_MAP]);
+}
+
+// A field of a oneof, deleted, and the last one left; an import, added and dropped, with what refuses others between.
+#[test]
+fn one_is_refused_of_statements(rt: HostRuntime) {
+    expect_in_the_end(&rt, ONEOF);
+    expect_in_the_end(&rt, IMPORT);
 }

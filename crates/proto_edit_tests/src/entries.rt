@@ -1,8 +1,9 @@
 //! Entries that are made by hand.
 
+use super::calls::texts;
 use super::rows::{DONE, ONE};
 use proto_edit::{Change, Entry};
-use proto_edit_rows::{Said, Step, Texts, are_texts, edit_of, is_said, open};
+use proto_edit_rows::{Said, Step, are_texts, edit_of, is_said, open};
 use proto_text::{Splice, Splices};
 use std::process::Abort;
 
@@ -87,41 +88,45 @@ fn leave_a_workspace_beside_its_edit(rt: HostRuntime) {
 
 // ---- the way back
 
-const M: (&str, &str) = ("a.proto", "syntax = \"proto3\"; message M {}");
-
-const N: (&str, &str) = ("a.proto", "syntax = \"proto3\"; message N {}");
-
-const USES_M: (&str, &str) = (
-    "b.proto",
-    "syntax = \"proto3\"; import \"a.proto\"; message B { M m = 1; }",
-);
-
-const USES_N: (&str, &str) = (
-    "b.proto",
-    "syntax = \"proto3\"; import \"a.proto\"; message B { N m = 1; }",
-);
-
-const HAS_M: (&str, &str) = (
-    "c.proto",
-    "syntax = \"proto3\"; import \"a.proto\"; message C { M m = 1; } message M {}",
-);
-
-const OTHER: (&str, &str) = ("0.proto", "package z;");
-
-/// Files, of how many the entry from `M` to `N` speaks, what its undoing answers, and the files afterwards.
-type Back = (Texts, usize, Said, Texts);
+/// Files as texts, of how many the entry from `M` to `N` speaks, what its undoing answers, and other files afterwards.
+type Back = (&'static str, usize, Said, &'static str);
 
 const UNDONE: Said = (0, "done");
 
 // One file more stays as it is; where one is absent or not as it was left, or `M` would be there twice or not be found, nothing
 // changes.
 const BACK: &[Back] = &[
-    (&[N, USES_N], 2, UNDONE, &[M, USES_M]),
-    (&[OTHER, N, USES_N], 2, UNDONE, &[OTHER, M, USES_M]),
-    (&[M, USES_M], 2, STALE, &[M, USES_M]),
-    (&[N], 2, STALE, &[N]),
-    (&[N, USES_N], 1, STALE, &[N, USES_N]),
-    (&[N, USES_N, HAS_M], 2, STALE, &[N, USES_N, HAS_M]),
+    (
+        "a.proto syntax = \"proto3\"; message N {}|b.proto syntax = \"proto3\"; import \"a.proto\"; message B { N m = 1; }",
+        2,
+        UNDONE,
+        "a.proto syntax = \"proto3\"; message M {}|b.proto syntax = \"proto3\"; import \"a.proto\"; message B { M m = 1; }",
+    ),
+    (
+        "0.proto package z;|a.proto syntax = \"proto3\"; message N {}|b.proto syntax = \"proto3\"; import \"a.proto\"; message B { N m = 1; }",
+        2,
+        UNDONE,
+        "0.proto package z;|a.proto syntax = \"proto3\"; message M {}|b.proto syntax = \"proto3\"; import \"a.proto\"; message B { M m = 1; }",
+    ),
+    (
+        "a.proto syntax = \"proto3\"; message M {}|b.proto syntax = \"proto3\"; import \"a.proto\"; message B { M m = 1; }",
+        2,
+        STALE,
+        "",
+    ),
+    ("a.proto syntax = \"proto3\"; message N {}", 2, STALE, ""),
+    (
+        "a.proto syntax = \"proto3\"; message N {}|b.proto syntax = \"proto3\"; import \"a.proto\"; message B { N m = 1; }",
+        1,
+        STALE,
+        "",
+    ),
+    (
+        "a.proto syntax = \"proto3\"; message N {}|b.proto syntax = \"proto3\"; import \"a.proto\"; message B { N m = 1; }|c.proto syntax = \"proto3\"; import \"a.proto\"; message C { M m = 1; } message M {}",
+        2,
+        STALE,
+        "",
+    ),
 ];
 
 const CHANGE: &[Made] = &[("a.proto", 31, 31, 27, "M", "N")];
@@ -132,11 +137,14 @@ const CHANGES: &[Made] = &[
 ];
 
 fn expect_back<R: AllocGlobal + Abort>(rt: &R, (files, count, answer, after): Back) {
-    let mut workspace = open(rt.alloc(), files).expect(rt, "a workspace");
+    let after = if after.is_empty() { files } else { after };
+    let after = texts(rt.alloc(), after).expect(rt, "memory");
+    let files = texts(rt.alloc(), files).expect(rt, "memory");
+    let mut workspace = open(rt.alloc(), files.as_slice()).expect(rt, "a workspace");
     let changes = if count > 1 { CHANGES } else { CHANGE };
     let entry = entry_of(rt, changes).expect(rt, "an entry");
     assert!(rt; is_said(workspace.undo(rt.alloc(), &entry), answer));
-    assert!(rt; are_texts(&workspace, after));
+    assert!(rt; are_texts(&workspace, after.as_slice()));
     workspace.release();
 }
 

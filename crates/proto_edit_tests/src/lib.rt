@@ -1,13 +1,25 @@
-//! Tests of the workspace and its renames, through its public calls alone.
+//! Tests of the workspace and of all edits, through its public calls alone.
 #![tactic(auto)]
 
 #[cfg(test)]
 mod allocations;
 #[cfg(test)]
+mod calls;
+#[cfg(test)]
+mod deletions;
+#[cfg(test)]
 mod entries;
+#[cfg(test)]
+mod imports;
+#[cfg(test)]
+mod lists;
 #[cfg(test)]
 mod opening;
 #[cfg(test)]
 mod renames;
 #[cfg(test)]
 mod rows;
+#[cfg(test)]
+mod statements;
+#[cfg(test)]
+mod wrong_rows;

@@ -1,13 +1,15 @@
 //! What `Workspace::open` answers: descriptors, or the least fault.
 
+use super::calls::texts;
 use proto_edit::to_json;
-use proto_edit_rows::{Texts, are_texts, open};
+use proto_edit_rows::{are_texts, open};
 use proto_faults::SchemaFault;
 use std::process::Abort;
 
 // The descriptors of files, or their fault as `path:offset: number name`.
-fn answer<R: AllocGlobal + Abort>(rt: &R, files: Texts) -> String {
-    match open(rt.alloc(), files) {
+fn answer<R: AllocGlobal + Abort>(rt: &R, files: &'static str) -> String {
+    let files = texts(rt.alloc(), files).expect(rt, "memory");
+    match open(rt.alloc(), files.as_slice()) {
         Ok(workspace) => {
             let json = to_json(rt.alloc(), workspace.descriptors()).expect(rt, "memory");
             workspace.release();
@@ -22,34 +24,22 @@ fn answer<R: AllocGlobal + Abort>(rt: &R, files: Texts) -> String {
     }
 }
 
-const A: (&str, &str) = (
-    "a.proto",
-    "syntax = \"proto3\"; package a; import \"b.proto\"; message A { b.X f = 1; }",
-);
+// Files as texts.
+const PACKAGES: &str =
+    "c.proto syntax = \"proto3\"; package a.b;|a.proto syntax = \"proto3\"; package a; import \"b.proto\"; message A { b.X f = 1; }|b.proto syntax = \"proto3\"; package b; message X {}";
 
-const B: (&str, &str) = ("b.proto", "syntax = \"proto3\"; package b; message X {}");
+const SORTED: &str =
+    "a.proto syntax = \"proto3\"; package a; import \"b.proto\"; message A { b.X f = 1; }|b.proto syntax = \"proto3\"; package b; message X {}|c.proto syntax = \"proto3\"; package a.b;";
 
-const C: (&str, &str) = ("c.proto", "syntax = \"proto3\"; package a.b;");
-
-const PACKAGES: Texts = &[C, A, B];
-
-const SORTED: Texts = &[A, B, C];
-
-const ANSWERS: &[(Texts, &str)] = &[
-    (&[], "{}"),
+const ANSWERS: &[(&str, &str)] = &[
+    ("", "{}"),
     (
         PACKAGES,
         "{\"file\":[{\"dependency\":[\"b.proto\"],\"messageType\":[{\"field\":[{\"jsonName\":\"f\",\"label\":\"LABEL_OPTIONAL\",\"name\":\"f\",\"number\":1,\"type\":\"TYPE_MESSAGE\",\"typeName\":\".b.X\"}],\"name\":\"A\"}],\"name\":\"a.proto\",\"package\":\"a\",\"syntax\":\"proto3\"},{\"messageType\":[{\"name\":\"X\"}],\"name\":\"b.proto\",\"package\":\"b\",\"syntax\":\"proto3\"},{\"name\":\"c.proto\",\"package\":\"a.b\",\"syntax\":\"proto3\"}]}",
     ),
+    ("a.proto message|b.proto 1x", "b.proto:0: 7 BadNumber"),
     (
-        &[("a.proto", "message"), ("b.proto", "1x")],
-        "b.proto:0: 7 BadNumber",
-    ),
-    (
-        &[
-            ("a.proto", "message A { optional b.X f = 1; }"),
-            ("b.proto", "package b; message X {}"),
-        ],
+        "a.proto message A { optional b.X f = 1; }|b.proto package b; message X {}",
         "a.proto:21: 14 Unresolved",
     ),
 ];
@@ -64,7 +54,9 @@ fn tells_descriptors_or_the_least_fault(rt: HostRuntime) {
 
 #[test]
 fn sorts_the_files_by_their_paths(rt: HostRuntime) {
-    let workspace = open(rt.alloc(), PACKAGES).expect(&rt, "a workspace");
-    assert!(rt; are_texts(&workspace, SORTED));
+    let files = texts(rt.alloc(), PACKAGES).expect(&rt, "memory");
+    let sorted = texts(rt.alloc(), SORTED).expect(&rt, "memory");
+    let workspace = open(rt.alloc(), files.as_slice()).expect(&rt, "a workspace");
+    assert!(rt; are_texts(&workspace, sorted.as_slice()));
     workspace.release();
 }

@@ -1,57 +1,45 @@
 //! Renames of all kinds one after another, what refuses them, and the way back.
 
+use super::calls::{Flat, expect_none, expect_rows, told};
 use super::rows::{CAPTURES, DONE, LAST, MAPS, MEMBERS, NAMES, ONE, RUNS, TEXT, TYPES};
-use proto_edit_rows::{
-    Row, Step, Undo, difference, difference_of_answers, difference_of_undos, filled,
-};
-use proto_faults::NoMemory;
-use std::process::Abort;
-
-/// Ends the test with what is told, if there is anything.
-pub(crate) fn expect_none<R: Abort>(rt: &R, told: Result<String, NoMemory>) {
-    let told = told.expect(rt, "memory");
-    assert!(rt; told.is_empty(), "{told}");
-}
+use proto_edit_rows::{Step, Undo, difference_of_answers, filled};
 
 #[test]
 fn of_members_are_answered_and_undone(rt: HostRuntime) {
-    expect_none(&rt, difference(rt.alloc(), MEMBERS));
+    expect_rows(&rt, MEMBERS);
 }
 
 #[test]
 fn of_map_fields_are_answered_and_undone(rt: HostRuntime) {
-    expect_none(&rt, difference(rt.alloc(), MAPS));
+    expect_rows(&rt, MAPS);
 }
 
 #[test]
 fn of_types_are_answered_and_undone(rt: HostRuntime) {
-    expect_none(&rt, difference(rt.alloc(), TYPES));
+    expect_rows(&rt, TYPES);
 }
 
 #[test]
 fn are_refused(rt: HostRuntime) {
-    expect_none(&rt, difference(rt.alloc(), NAMES));
+    expect_rows(&rt, NAMES);
 }
 
 #[test]
 fn are_refused_where_references_would_mean_something_else(rt: HostRuntime) {
-    expect_none(&rt, difference(rt.alloc(), CAPTURES));
+    expect_rows(&rt, CAPTURES);
 }
 
 #[test]
 fn in_runs_are_answered_and_undone(rt: HostRuntime) {
-    expect_none(&rt, difference(rt.alloc(), RUNS));
+    expect_rows(&rt, RUNS);
 }
 
-const TWICE: Row = Row {
-    files: ONE,
-    steps: &[
-        ("rename", "A.b_c", "d_e", "a.proto 48 48 (38 b_c d_e);"),
-        ("rename", "A.d_e", "f", "a.proto 48 46 (38 d_e f);"),
-    ],
-    after: LAST,
-    json: "",
-};
+const TWICE: &Flat = &[
+    "a.proto syntax = \"proto3\"; message A { string b_c = 1; }",
+    "rename A.b_c d_e > a.proto 48 48 (38 b_c d_e);|rename A.d_e f > a.proto 48 46 (38 d_e f);",
+    "a.proto syntax = \"proto3\"; message A { string f = 1; }",
+    "",
+];
 
 // An entry that is not of the last edit changes nothing.
 const BACK: &[Undo] = &[
@@ -62,7 +50,7 @@ const BACK: &[Undo] = &[
 
 #[test]
 fn are_undone_from_the_last_one_on(rt: HostRuntime) {
-    expect_none(&rt, difference_of_undos(rt.alloc(), &TWICE, BACK));
+    expect_none(&rt, told(rt.alloc(), TWICE, BACK));
 }
 
 // ---- a full file

@@ -1,6 +1,6 @@
 //! Deleted fields with their answers by the rules of docs/edits.md. Places are counted in the texts.
 
-use proto_edit_rows::Row;
+use super::calls::Flat;
 
 /// A field of `a.proto`, the only file, is deleted: its text, the name, the answer, the text afterwards, and what stands in
 /// the descriptors then.
@@ -106,135 +106,43 @@ pub(crate) const MEMBERS: &[Deletion] = &[
 ];
 
 /// A field of a oneof, and the last one, which stays.
-pub(crate) const ONEOF: &[Row] = &[Row {
-    files: &[(
-        "a.proto",
-        "syntax = \"proto3\"; message M { oneof o { string a = 1; int32 b = 2; } }",
-    )],
-    steps: &[
-        ("delete", "M.o", "", "2 KindNotAllowed"),
-        (
-            "delete",
-            "M.a",
-            "",
-            "a.proto 71 84 (41 string a = 1; int32 b = 2; }  int32 b = 2; } reserved 1; reserved \"a\";);",
-        ),
-        ("delete", "M.b", "", "10 LastOfOneof"),
-    ],
-    after: &[(
-        "a.proto",
-        "syntax = \"proto3\"; message M { oneof o {  int32 b = 2; } reserved 1; reserved \"a\"; }",
-    )],
-    json: "\"oneofDecl\":[{\"name\":\"o\"}],\"reservedName\":[\"a\"],\"reservedRange\":[{\"end\":2,\"start\":1}]",
-}];
+pub(crate) const ONEOF: &[Flat] = &[[
+    "a.proto syntax = \"proto3\"; message M { oneof o { string a = 1; int32 b = 2; } }",
+    "delete M.o > 2 KindNotAllowed|delete M.a > a.proto 71 84 (41 string a = 1; int32 b = 2; }  int32 b = 2; } reserved 1; reserved \"a\";);|delete M.b > 10 LastOfOneof",
+    "a.proto syntax = \"proto3\"; message M { oneof o {  int32 b = 2; } reserved 1; reserved \"a\"; }",
+    "\"oneofDecl\":[{\"name\":\"o\"}],\"reservedName\":[\"a\"],\"reservedRange\":[{\"end\":2,\"start\":1}]",
+]];
 
 /// Deletions one after another, and what refuses them.
-pub(crate) const DELETIONS: &[Row] = &[
-    Row {
-        files: &[(
-            "a.proto",
-            "syntax = \"proto3\"; message A { string b_c = 1; }",
-        )],
-        steps: &[
-            ("delete", "A", "", "2 KindNotAllowed"),
-            ("delete", "A.q", "", "1 UnknownTarget"),
-            ("delete", ".A.b_c", "", "1 UnknownTarget"),
-            (
-                "delete",
-                "A.b_c",
-                "",
-                "a.proto 48 60 (31 string b_c = 1; reserved 1; reserved \"b_c\";);",
-            ),
-        ],
-        after: &[(
-            "a.proto",
-            "syntax = \"proto3\"; message A { reserved 1; reserved \"b_c\"; }",
-        )],
-        json: "{\"file\":[{\"messageType\":[{\"name\":\"A\",\"reservedName\":[\"b_c\"],\"reservedRange\":[{\"end\":2,\"start\":1}]}],\"name\":\"a.proto\",\"syntax\":\"proto3\"}]}",
-    },
-    Row {
-        files: &[("a.proto", "message M { map<string,int32> foo = 1; }")],
-        steps: &[
-            ("delete", "M.FooEntry", "", "2 KindNotAllowed"),
-            ("delete", "M.FooEntry.key", "", "2 KindNotAllowed"),
-            (
-                "delete",
-                "M.foo",
-                "",
-                "a.proto 40 41 (12 map<string,int32> foo = 1; reserved 1; reserved \"foo\";);",
-            ),
-        ],
-        after: &[("a.proto", "message M { reserved 1; reserved \"foo\"; }")],
-        json: "\"messageType\":[{\"name\":\"M\",\"reservedName\":[\"foo\"],\"reservedRange\":[{\"end\":2,\"start\":1}]}]",
-    },
-    Row {
-        files: &[(
-            "a.proto",
-            "message M { reserved 5; optional int32 a = 1; optional int32 b = 2; reserved 7, 8; optional int32 c = 3; }",
-        )],
-        steps: &[
-            (
-                "delete",
-                "M.b",
-                "",
-                "a.proto 106 110 (46 optional int32 b = 2; reserved 2; reserved \"b\";);",
-            ),
-            (
-                "delete",
-                "M.a",
-                "",
-                "a.proto 110 114 (24 optional int32 a = 1; reserved 1; reserved \"a\";);",
-            ),
-        ],
-        after: &[(
-            "a.proto",
-            "message M { reserved 5; reserved 1; reserved \"a\"; reserved 2; reserved \"b\"; reserved 7, 8; optional int32 c = 3; }",
-        )],
-        json: "\"reservedName\":[\"a\",\"b\"],\"reservedRange\":[{\"end\":6,\"start\":5},{\"end\":2,\"start\":1},{\"end\":3,\"start\":2},{\"end\":8,\"start\":7},{\"end\":9,\"start\":8}]",
-    },
-    Row {
-        files: &[(
-            "a.proto",
-            "syntax = \"proto3\"; message M { oneof o { string a = 1; int32 b = 2; bool c = 3; } }",
-        )],
-        steps: &[
-            (
-                "delete",
-                "M.b",
-                "",
-                "a.proto 83 97 (55 int32 b = 2; bool c = 3; }  bool c = 3; } reserved 2; reserved \"b\";);",
-            ),
-            (
-                "delete",
-                "M.a",
-                "",
-                "a.proto 97 110 (41 string a = 1;  bool c = 3; }   bool c = 3; } reserved 1; reserved \"a\";);",
-            ),
-        ],
-        after: &[(
-            "a.proto",
-            "syntax = \"proto3\"; message M { oneof o {   bool c = 3; } reserved 1; reserved \"a\"; reserved 2; reserved \"b\"; }",
-        )],
-        json: "\"reservedName\":[\"a\",\"b\"],\"reservedRange\":[{\"end\":2,\"start\":1},{\"end\":3,\"start\":2}]",
-    },
-    Row {
-        files: &[(
-            "a.proto",
-            "package p; enum E { V = 0; } service S { rpc R (M) returns (M); } message M { oneof o { int32 a = 1; } }",
-        )],
-        steps: &[
-            ("delete", "p", "", "2 KindNotAllowed"),
-            ("delete", "p.E", "", "2 KindNotAllowed"),
-            ("delete", "p.V", "", "2 KindNotAllowed"),
-            ("delete", "p.S", "", "2 KindNotAllowed"),
-            ("delete", "p.S.R", "", "2 KindNotAllowed"),
-            ("delete", "p.M", "", "2 KindNotAllowed"),
-            ("delete", "p.M.o", "", "2 KindNotAllowed"),
-            ("delete", "", "", "1 UnknownTarget"),
-            ("delete", "p.E.V", "", "1 UnknownTarget"),
-            ("delete", "p.M.a", "", "10 LastOfOneof"),
-        ],
-        after: &[],
-        json: "",
-    },
+pub(crate) const DELETIONS: &[Flat] = &[
+    [
+        "a.proto syntax = \"proto3\"; message A { string b_c = 1; }",
+        "delete A > 2 KindNotAllowed|delete A.q > 1 UnknownTarget|delete .A.b_c > 1 UnknownTarget|delete A.b_c > a.proto 48 60 (31 string b_c = 1; reserved 1; reserved \"b_c\";);",
+        "a.proto syntax = \"proto3\"; message A { reserved 1; reserved \"b_c\"; }",
+        "{\"file\":[{\"messageType\":[{\"name\":\"A\",\"reservedName\":[\"b_c\"],\"reservedRange\":[{\"end\":2,\"start\":1}]}],\"name\":\"a.proto\",\"syntax\":\"proto3\"}]}",
+    ],
+    [
+        "a.proto message M { map<string,int32> foo = 1; }",
+        "delete M.FooEntry > 2 KindNotAllowed|delete M.FooEntry.key > 2 KindNotAllowed|delete M.foo > a.proto 40 41 (12 map<string,int32> foo = 1; reserved 1; reserved \"foo\";);",
+        "a.proto message M { reserved 1; reserved \"foo\"; }",
+        "\"messageType\":[{\"name\":\"M\",\"reservedName\":[\"foo\"],\"reservedRange\":[{\"end\":2,\"start\":1}]}]",
+    ],
+    [
+        "a.proto message M { reserved 5; optional int32 a = 1; optional int32 b = 2; reserved 7, 8; optional int32 c = 3; }",
+        "delete M.b > a.proto 106 110 (46 optional int32 b = 2; reserved 2; reserved \"b\";);|delete M.a > a.proto 110 114 (24 optional int32 a = 1; reserved 1; reserved \"a\";);",
+        "a.proto message M { reserved 5; reserved 1; reserved \"a\"; reserved 2; reserved \"b\"; reserved 7, 8; optional int32 c = 3; }",
+        "\"reservedName\":[\"a\",\"b\"],\"reservedRange\":[{\"end\":6,\"start\":5},{\"end\":2,\"start\":1},{\"end\":3,\"start\":2},{\"end\":8,\"start\":7},{\"end\":9,\"start\":8}]",
+    ],
+    [
+        "a.proto syntax = \"proto3\"; message M { oneof o { string a = 1; int32 b = 2; bool c = 3; } }",
+        "delete M.b > a.proto 83 97 (55 int32 b = 2; bool c = 3; }  bool c = 3; } reserved 2; reserved \"b\";);|delete M.a > a.proto 97 110 (41 string a = 1;  bool c = 3; }   bool c = 3; } reserved 1; reserved \"a\";);",
+        "a.proto syntax = \"proto3\"; message M { oneof o {   bool c = 3; } reserved 1; reserved \"a\"; reserved 2; reserved \"b\"; }",
+        "\"reservedName\":[\"a\",\"b\"],\"reservedRange\":[{\"end\":2,\"start\":1},{\"end\":3,\"start\":2}]",
+    ],
+    [
+        "a.proto package p; enum E { V = 0; } service S { rpc R (M) returns (M); } message M { oneof o { int32 a = 1; } }",
+        "delete p > 2 KindNotAllowed|delete p.E > 2 KindNotAllowed|delete p.V > 2 KindNotAllowed|delete p.S > 2 KindNotAllowed|delete p.S.R > 2 KindNotAllowed|delete p.M > 2 KindNotAllowed|delete p.M.o > 2 KindNotAllowed|delete  > 1 UnknownTarget|delete p.E.V > 1 UnknownTarget|delete p.M.a > 10 LastOfOneof",
+        "",
+        "",
+    ],
 ];

@@ -1,5 +1,0 @@
-//! Tests of the JSON text of descriptors, through the public calls alone.
-#![tactic(auto)]
-
-#[cfg(test)]
-mod texts;
