@@ -1,37 +1,9 @@
-//! Files, writers, and running a command over a store.
+//! Files, and running a command over a store.
 
+use crate::pipe::Pipe;
 use proto_store::{MemoryStore, Store};
 use protoref_run::{Command, RunFault, Status, run};
-use std::io;
-use std::io::Write;
 use std::process::Abort;
-
-/// A writer that takes a few bytes at a time, and only so many of them.
-#[derive(Drop)]
-struct Pipe {
-    taken: Vec<u8>,
-    at_once: usize,
-    room: usize,
-    // Whether it fails where it has no room left; else it takes no byte.
-    breaks: bool,
-}
-
-impl Write for Pipe {
-    fn write(&mut self, bytes: &[u8]) -> io::Result<usize> {
-        if self.room == 0 && self.breaks {
-            return Err(io::Error::from(io::ErrorKind::BrokenPipe));
-        }
-        let count = bytes.len().min(self.at_once).min(self.room);
-        let (front, _) = bytes.split_at(count);
-        self.taken.extend_from_slice(front)?;
-        self.room -= count;
-        Ok(count)
-    }
-
-    fn flush(&mut self) -> io::Result<()> {
-        Ok(())
-    }
-}
 
 /// Files for a store: paths and texts.
 pub(crate) type Given = Vec<(String, Vec<u8>)>;

@@ -8,12 +8,34 @@ mod command_lines;
 #[cfg(test)]
 mod compiling;
 #[cfg(test)]
+mod full;
+#[cfg(test)]
+mod journals;
+#[cfg(test)]
 mod lint_rows;
 #[cfg(test)]
 mod linting;
+#[cfg(test)]
+mod mended;
+#[cfg(test)]
+mod pipe;
+#[cfg(test)]
+mod recoveries;
+#[cfg(test)]
+mod renames;
 #[cfg(test)]
 mod roots;
 #[cfg(test)]
 mod sample;
 #[cfg(test)]
 mod shop;
+#[cfg(test)]
+mod statements;
+#[cfg(test)]
+mod stops;
+#[cfg(test)]
+mod stores;
+#[cfg(test)]
+mod three_files;
+#[cfg(test)]
+mod turns;

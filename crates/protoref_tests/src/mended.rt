@@ -1,6 +1,6 @@
 //! Torn stores whose files were changed by other hands, and journals that are none.
 
-use crate::calls::{LINE, NO_JOURNAL, OPEN_LINE, STALE, joined};
+use crate::stores::{LINE, NO_JOURNAL, OPEN_LINE, STALE, joined};
 use crate::three_files::OPEN;
 use crate::turns::Turn::{Done, Holds};
 use crate::turns::{expect_kept, expect_turns};
@@ -11,15 +11,15 @@ const BRACES: &str =
 
 /// A second file that is empty, that is longer or shorter, and that has another word at the place of the name.
 const NEITHER: &[&str] = &[
-    "a.proto syntax = \"proto3\"; message M {}|b.proto |c.proto syntax = \"proto3\"; import \"a.proto\"; message C { N m = 1; }",
-    "a.proto syntax = \"proto3\"; message M {}|b.proto syntax = \"proto3\"; import \"a.proto\"; message B { M m = 1; }\n|c.proto syntax = \"proto3\"; import \"a.proto\"; message C { N m = 1; }",
-    "a.proto syntax = \"proto3\"; message M {}|b.proto syntax = \"proto3\"; import \"a.proto\"; message B { N m = 1; }\n|c.proto syntax = \"proto3\"; import \"a.proto\"; message C { N m = 1; }",
-    "a.proto syntax = \"proto3\"; message M {}|b.proto syntax = \"proto3\"; import \"a.proto\"; message B { M m = 1;}|c.proto syntax = \"proto3\"; import \"a.proto\"; message C { N m = 1; }",
-    "a.proto syntax = \"proto3\"; message M {}|b.proto syntax = \"proto3\"; import \"a.proto\"; message B { O m = 1; }|c.proto syntax = \"proto3\"; import \"a.proto\"; message C { N m = 1; }",
-    "a.proto syntax = \"proto3\"; message M {}|b.proto syntax = \"proto3\"; import \"a.proto\"; message B {  M m= 1; }|c.proto syntax = \"proto3\"; import \"a.proto\"; message C { N m = 1; }",
+    "a.proto syntax = \"proto3\"; message M {} | b.proto  | c.proto syntax = \"proto3\"; import \"a.proto\"; message C { N m = 1; }",
+    "a.proto syntax = \"proto3\"; message M {} | b.proto syntax = \"proto3\"; import \"a.proto\"; message B { M m = 1; }\n | c.proto syntax = \"proto3\"; import \"a.proto\"; message C { N m = 1; }",
+    "a.proto syntax = \"proto3\"; message M {} | b.proto syntax = \"proto3\"; import \"a.proto\"; message B { N m = 1; }\n | c.proto syntax = \"proto3\"; import \"a.proto\"; message C { N m = 1; }",
+    "a.proto syntax = \"proto3\"; message M {} | b.proto syntax = \"proto3\"; import \"a.proto\"; message B { M m = 1;} | c.proto syntax = \"proto3\"; import \"a.proto\"; message C { N m = 1; }",
+    "a.proto syntax = \"proto3\"; message M {} | b.proto syntax = \"proto3\"; import \"a.proto\"; message B { O m = 1; } | c.proto syntax = \"proto3\"; import \"a.proto\"; message C { N m = 1; }",
+    "a.proto syntax = \"proto3\"; message M {} | b.proto syntax = \"proto3\"; import \"a.proto\"; message B {  M m= 1; } | c.proto syntax = \"proto3\"; import \"a.proto\"; message C { N m = 1; }",
     // Without one of the files.
-    "a.proto syntax = \"proto3\"; message M {}|b.proto syntax = \"proto3\"; import \"a.proto\"; message B { M m = 1; }",
-    "b.proto syntax = \"proto3\"; import \"a.proto\"; message B { M m = 1; }|c.proto syntax = \"proto3\"; import \"a.proto\"; message C { N m = 1; }",
+    "a.proto syntax = \"proto3\"; message M {} | b.proto syntax = \"proto3\"; import \"a.proto\"; message B { M m = 1; }",
+    "b.proto syntax = \"proto3\"; import \"a.proto\"; message B { M m = 1; } | c.proto syntax = \"proto3\"; import \"a.proto\"; message C { N m = 1; }",
     "",
 ];
 
@@ -34,9 +34,9 @@ fn are_stale_with_a_file_that_is_neither_and_without_one(rt: HostRuntime) {
 const MENDED: &[(&str, &str, &str)] = &[
     // The lengths and the words of the entry decide: what else the files say is kept, and no other file is touched.
     (
-        "a.proto syntax = \"proto3\"; message M {}|b.proto syntax = \"proto3\"; import \"a.proto\"; message D { N xy=12; }|c.proto syntax = \"proto3\"; import \"a.proto\"; message C { N m = 1; }|d.proto {",
+        "a.proto syntax = \"proto3\"; message M {} | b.proto syntax = \"proto3\"; import \"a.proto\"; message D { N xy=12; } | c.proto syntax = \"proto3\"; import \"a.proto\"; message C { N m = 1; } | d.proto {",
         OPEN,
-        "a.proto syntax = \"proto3\"; message M {}|b.proto syntax = \"proto3\"; import \"a.proto\"; message D { M xy=12; }|c.proto syntax = \"proto3\"; import \"a.proto\"; message C { M m = 1; }|d.proto {",
+        "a.proto syntax = \"proto3\"; message M {} | b.proto syntax = \"proto3\"; import \"a.proto\"; message D { M xy=12; } | c.proto syntax = \"proto3\"; import \"a.proto\"; message C { M m = 1; } | d.proto {",
     ),
     // Files that do not compile are recovered as others are.
     ("a.proto {}{", BRACES, "a.proto {("),

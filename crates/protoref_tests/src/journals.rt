@@ -1,6 +1,6 @@
 //! Faults of the journal and of the files, before anything is changed.
 
-use crate::calls::{LINE, NEW, NO_JOURNAL, OLD, OPEN_LINE, RENAME, STALE};
+use crate::stores::{LINE, NEW, NO_JOURNAL, OLD, OPEN_LINE, RENAME, STALE};
 use crate::turns::Turn::{Done, Holds, Problem};
 use crate::turns::{expect_kept, expect_turns};
 

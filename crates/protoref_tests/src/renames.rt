@@ -1,6 +1,6 @@
 //! What renames print and leave, and why they are refused.
 
-use crate::calls::{CHANGED, LINE, NEW, OLD, RENAME, STALE};
+use crate::stores::{CHANGED, LINE, NEW, OLD, RENAME, STALE};
 use crate::turns::Turn::{Done, Holds, Problem};
 use crate::turns::{Turn, expect_kept, expect_turns};
 

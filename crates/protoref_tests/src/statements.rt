@@ -1,24 +1,24 @@
 //! What deletions of fields and changes of imports print and leave, and why they are refused. Places are counted in the texts.
 
-use crate::calls::CHANGED;
+use crate::stores::CHANGED;
 use crate::turns::Turn::{Done, Holds, Problem};
 use crate::turns::{Turn, expect_turns};
 
 const ONEOF: &str =
     "a.proto syntax = \"proto3\"; message M { oneof o { string a = 1; int32 b = 2; } }";
 
-const APART: &str = "a.proto syntax = \"proto3\"; message A { string b_c = 1; }|b.proto ";
+const APART: &str = "a.proto syntax = \"proto3\"; message A { string b_c = 1; } | b.proto ";
 
-const EMPTY: &str = "a.proto |b.proto ";
+const EMPTY: &str = "a.proto  | b.proto ";
 
 const ADDED: &str =
-    "a.proto syntax = \"proto3\";\nimport \"b.proto\"; message A { string b_c = 1; }|b.proto ";
+    "a.proto syntax = \"proto3\";\nimport \"b.proto\"; message A { string b_c = 1; } | b.proto ";
 
 const NEEDING: &str =
-    "a.proto syntax = \"proto3\"; import \"b.proto\"; message A { C c = 1; }|b.proto syntax = \"proto3\"; import public \"c.proto\";|c.proto syntax = \"proto3\"; message C {}";
+    "a.proto syntax = \"proto3\"; import \"b.proto\"; message A { C c = 1; } | b.proto syntax = \"proto3\"; import public \"c.proto\"; | c.proto syntax = \"proto3\"; message C {}";
 
 const OVERTAKEN: &str =
-    "a.proto syntax = \"proto3\"; package a; import \"b.proto\"; message A { b.X f = 1; }|b.proto syntax = \"proto3\"; package b; message X {}|c.proto syntax = \"proto3\"; package a.b;";
+    "a.proto syntax = \"proto3\"; package a; import \"b.proto\"; message A { b.X f = 1; } | b.proto syntax = \"proto3\"; package b; message X {} | c.proto syntax = \"proto3\"; package a.b;";
 
 const IMPORT: &str = "add-import a.proto b.proto";
 
@@ -55,7 +55,7 @@ const OF_ADDED: &[Turn<'static>] = &[
     Done(UNIMPORT, CHANGED),
     Problem(UNIMPORT, "refused: 13 NotImported\n"),
     Holds(
-        "a.proto syntax = \"proto3\";\n message A { string b_c = 1; }|b.proto ",
+        "a.proto syntax = \"proto3\";\n message A { string b_c = 1; } | b.proto ",
         "{\"files\":[{\"after\":49,\"before\":66,\"path\":\"a.proto\",\"splices\":[{\"at\":19,\"new\":\"\",\"old\":\"import \\\"b.proto\\\";\"}]}],\"state\":\"done\",\"version\":1}\n",
     ),
     Done("undo", CHANGED),
@@ -65,7 +65,7 @@ const OF_ADDED: &[Turn<'static>] = &[
 const OF_EMPTY: &[Turn<'static>] = &[
     Done(IMPORT, CHANGED),
     Holds(
-        "a.proto import \"b.proto\";\n|b.proto ",
+        "a.proto import \"b.proto\";\n | b.proto ",
         "{\"files\":[{\"after\":18,\"before\":0,\"path\":\"a.proto\",\"splices\":[{\"at\":0,\"new\":\"import \\\"b.proto\\\";\\n\",\"old\":\"\"}]}],\"state\":\"done\",\"version\":1}\n",
     ),
     Done("undo", CHANGED),

@@ -1,6 +1,6 @@
 //! Where a run stops: at a failed call of the store, and at a failed write.
 
-use crate::calls::{LINE, OLD};
+use crate::stores::{LINE, OLD};
 use crate::three_files::{ALL_CHANGED, M_TO_N, NOTHING, expect_at, step};
 use crate::turns::Turn::{At, Cut, HalfTold};
 use crate::turns::{Turn, expect_turns};

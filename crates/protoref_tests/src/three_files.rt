@@ -1,6 +1,6 @@
 //! Three files that one rename changes, and the steps of that rename, of its undo and of its recovery.
 
-use crate::calls::joined;
+use crate::stores::joined;
 use crate::turns::{Turn, expect_turns};
 use std::process::Abort;
 
@@ -61,7 +61,7 @@ pub(crate) fn files_at<R: AllocGlobal + Abort>(rt: &R, ([a, b, c], _): Step) -> 
     let b = if b { "N" } else { "M" };
     let c = if c { "N" } else { "M" };
     format!(in rt.alloc();
-        "a.proto syntax = \"proto3\"; message {a} {{}}|b.proto syntax = \"proto3\"; import \"a.proto\"; message B {{ {b} m = 1; }}|c.proto syntax = \"proto3\"; import \"a.proto\"; message C {{ {c} m = 1; }}"
+        "a.proto syntax = \"proto3\"; message {a} {{}} | b.proto syntax = \"proto3\"; import \"a.proto\"; message B {{ {b} m = 1; }} | c.proto syntax = \"proto3\"; import \"a.proto\"; message C {{ {c} m = 1; }}"
     ).expect(rt, "memory")
 }
 

@@ -1,6 +1,6 @@
 //! Each call of the store that fails in an edit, in an undo and in a recovery, and the way back.
 
-use crate::calls::LINE;
+use crate::stores::LINE;
 use crate::three_files::{ALL_CHANGED, M_TO_N, NOTHING, OPEN, Step, expect_at, recovered, step};
 use crate::turns::Turn::{At, Cut, Done, Problem};
 use std::process::Abort;

@@ -1,6 +1,6 @@
 //! The journal's limit of 16,777,216 bytes, and that of a file.
 
-use crate::calls::{CHANGED, LINE, NEW, NO_JOURNAL, OLD, RENAME, joined};
+use crate::stores::{CHANGED, LINE, NEW, NO_JOURNAL, OLD, RENAME, joined};
 use crate::turns::Turn::{Done, Holds, Problem};
 use crate::turns::{Turn, expect_turns};
 use std::process::Abort;

@@ -1,13 +1,12 @@
-//! Stores, writers, and what is asked of the program.
+//! Stores with a journal, and what is asked of the program.
 
+use crate::calls::given;
 use proto_edit::Edit;
 use proto_store::MemoryStore;
 use protoref_run::Command;
-use std::io;
-use std::io::Write;
 use std::process::Abort;
 
-/// A file with one field, of 48 bytes. Files are one text, `|` between them: the path of each, a space, and its text.
+/// A file with one field, of 48 bytes.
 pub(crate) const OLD: &str = "a.proto syntax = \"proto3\"; message A { string b_c = 1; }";
 
 /// The same after the field's rename to `d_e`.
@@ -29,33 +28,6 @@ pub(crate) const NO_JOURNAL: &str = "journal: 1 BadJournal\n";
 
 /// What is printed where the files are others than the last entry says.
 pub(crate) const STALE: &str = "refused: 17 Stale\n";
-
-/// A writer that takes a few bytes at a time, and only so many of them.
-#[derive(Drop)]
-pub(crate) struct Pipe {
-    pub(crate) taken: Vec<u8>,
-    pub(crate) at_once: usize,
-    pub(crate) room: usize,
-    // Whether it fails where it has no room left; else it takes no byte.
-    pub(crate) breaks: bool,
-}
-
-impl Write for Pipe {
-    fn write(&mut self, bytes: &[u8]) -> io::Result<usize> {
-        if self.room == 0 && self.breaks {
-            return Err(io::Error::from(io::ErrorKind::BrokenPipe));
-        }
-        let count = bytes.len().min(self.at_once).min(self.room);
-        let (front, _) = bytes.split_at(count);
-        self.taken.extend_from_slice(front)?;
-        self.room -= count;
-        Ok(count)
-    }
-
-    fn flush(&mut self) -> io::Result<()> {
-        Ok(())
-    }
-}
 
 /// That rename. What is asked is the words of a command line, without a root.
 pub(crate) const RENAME: &str = "rename A.b_c d_e";
@@ -92,17 +64,6 @@ pub(crate) fn joined<R: AllocGlobal + Abort>(rt: &R, first: &str, second: &str) 
 
 /// A store of these files and this journal.
 pub(crate) fn store_of<R: AllocGlobal + Abort>(rt: &R, files: &str, journal: &str) -> MemoryStore {
-    let mut given = Vec::new(rt.alloc());
-    for file in files.split('|') {
-        match file.split_once(' ') {
-            Some((path, text)) => {
-                let path = String::from_str(rt.alloc(), path).expect(rt, "memory");
-                let text = text.as_bytes().to_vec(rt.alloc()).expect(rt, "memory");
-                given.push((path, text)).expect(rt, "memory");
-            }
-            None => assert!(rt; files.is_empty(), "no path of {file}"),
-        }
-    }
     let journal = journal.as_bytes().to_vec(rt.alloc()).expect(rt, "memory");
-    MemoryStore::new(rt.alloc(), given, journal).expect(rt, "memory")
+    MemoryStore::new(rt.alloc(), given(rt, files), journal).expect(rt, "memory")
 }

@@ -1,10 +1,11 @@
 //! What comes one behind the other over a store.
 
-use crate::calls::{Pipe, command_of, joined, store_of};
+use crate::calls::{End, expect_end};
+use crate::stores::{command_of, joined, store_of};
 use crate::three_files::{Step, files_at};
 use proto_journal::all_files;
 use proto_store::{MemoryStore, Store};
-use protoref_run::{RunFault, Status, run};
+use protoref_run::{RunFault, Status};
 use std::process::Abort;
 
 /// What is asked and printed, or what the store has then.
@@ -70,41 +71,21 @@ fn expect_turn<R: AllocGlobal + Abort>(rt: &R, store: &mut MemoryStore, turn: &T
             return expect_holds(rt, store, files.as_str(), journal.as_str());
         }
     };
-    expect_end(rt, store, asked, pipe, end);
+    expect_asked(rt, store, asked, pipe, end);
 }
 
-/// How a run ends, and how many bytes of a text it has then printed.
-type End<'a> = (Result<Status, RunFault>, &'a str, usize);
-
 // A call of the store has failed where the end says so, and nowhere else. An even room tries the one end of a pipe, an odd room the other.
-fn expect_end<R: AllocGlobal + Abort>(
+fn expect_asked<R: AllocGlobal + Abort>(
     rt: &R,
     store: &mut MemoryStore,
     asked: &str,
     (at_once, room): (usize, usize),
-    (end, text, count): End,
+    end: End,
 ) {
-    let mut writer = Pipe {
-        taken: Vec::new(rt.alloc()),
-        at_once,
-        room,
-        breaks: room % 2 == 0,
-    };
-    let command = command_of(rt, asked);
-    let failures = store.failures();
-    assert!(rt; failures < u64::MAX);
-    let ended = run(rt.alloc(), command, store, &mut writer);
-    let printed = writer.taken.as_slice();
-    let failed = u64::from(end == Err(RunFault::Store));
-    assert!(rt; ended == end, "how {asked} ends, for {text}");
-    assert!(rt;
-        printed.len() == count && text.as_bytes().starts_with(printed),
-        "what {asked} prints, for {text}"
-    );
-    assert!(rt;
-        store.failures() == failures.saturating_add(failed),
-        "how often the store fails in {asked}, for {text}"
-    );
+    let failed = u64::from(end.0 == Err(RunFault::Store));
+    let failures = store.failures().saturating_add(failed);
+    let room = (at_once, room, room % 2 == 0);
+    expect_end(rt, store, command_of(rt, asked), room, end, failures);
 }
 
 // The store has these files and no others, in the order of their paths, and this journal.
@@ -123,7 +104,7 @@ fn expect_holds<R: AllocGlobal + Abort>(
 }
 
 fn expect_files<R: Abort>(rt: &R, held: &[(String, Vec<u8>)], files: &str) {
-    let mut wanted = files.split('|');
+    let mut wanted = files.split(" | ");
     for (path, bytes) in held {
         let file = wanted.next().unwrap_or("");
         let (name, text) = file.split_once(' ').unwrap_or(("", ""));
