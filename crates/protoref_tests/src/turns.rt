@@ -1,6 +1,6 @@
 //! What comes one behind the other over a store.
 
-use crate::calls::{End, expect_end};
+use crate::calls::{End, expect_end, given};
 use crate::stores::{command_of, joined, store_of};
 use crate::three_files::{Step, files_at};
 use proto_journal::all_files;
@@ -100,19 +100,5 @@ fn expect_holds<R: AllocGlobal + Abort>(
     assert!(rt; bytes.as_slice() == journal.as_bytes(), "not {journal}");
     assert!(rt; store.failures() < u64::MAX);
     let held = all_files(rt.alloc(), store).expect(rt, "files");
-    expect_files(rt, held.as_slice(), files);
-}
-
-fn expect_files<R: Abort>(rt: &R, held: &[(String, Vec<u8>)], files: &str) {
-    let mut wanted = files.split(" | ");
-    for (path, bytes) in held {
-        let file = wanted.next().unwrap_or("");
-        let (name, text) = file.split_once(' ').unwrap_or(("", ""));
-        assert!(rt;
-            path.as_str() == name && bytes.as_slice() == text.as_bytes(),
-            "not {file}"
-        );
-    }
-    // No files at all are one empty text.
-    assert!(rt; wanted.next().unwrap_or("").is_empty(), "too few files");
+    assert!(rt; held == given(rt, files), "not {files}");
 }
