@@ -1,6 +1,6 @@
 //! What is otherwise than rows say.
 
-ghost use Rattle.std.specs.Prelude.{◌≡◌, [], All, IfOk, IsOk, OnOk, map, string_bytes};
+ghost use Rattle.std.specs.Prelude.{◌≡◌, [], IfOk, IsOk, map, string_bytes};
 ghost use Rattle.proto_edit_rows.specs.RowsHold.{RowHolds, StepsHold, UndosHold, row_files, row_of, step_of, undo_of};
 
 use crate::edited::{expect_row, expect_steps};
@@ -9,15 +9,6 @@ use crate::step::Step;
 use crate::unlike::Unlike;
 use proto_faults::NoMemory;
 use std::alloc::Global;
-
-fn expect_rows(alloc: Global, rows: &[Row]) -> Result<(), Unlike>
-    ensures { OnOk result (All (λ r. RowHolds (row_of r)) rows.now) }
-{
-    for row in rows {
-        expect_row(alloc, row, &[])?;
-    }
-    Ok(())
-}
 
 // What is otherwise, in words; an empty text where nothing is.
 fn told(alloc: Global, answer: Result<(), Unlike>) -> Result<String, NoMemory>
@@ -31,17 +22,10 @@ fn told(alloc: Global, answer: Result<(), Unlike>) -> Result<String, NoMemory>
     }
 }
 
-/// What is first otherwise than one of these rows says, in words; an empty text only where all
-/// hold. Each is done as one run and step by step, and led back, at once and one by one.
-pub fn difference(alloc: Global, rows: &[Row]) -> Result<String, NoMemory>
-    ensures { IfOk result (λ s. string_bytes s ≡ [] → All (λ r. RowHolds (row_of r)) rows.now) }
-{
-    told(alloc, expect_rows(alloc, rows))
-}
-
-/// The same of one row that is led back by these undos to the files that it begins with; by its
-/// entries, from the last to the first, where there are no undos.
-pub fn difference_of_undos(alloc: Global, row: &Row, undos: &[Undo]) -> Result<String, NoMemory>
+/// What is first otherwise than the row says, in words; an empty text only where it holds. It is
+/// done as one run and step by step, and led back by these undos to the files that it begins with,
+/// or by its entries, at once and one by one, where there are no undos.
+pub fn difference(alloc: Global, row: &Row, undos: &[Undo]) -> Result<String, NoMemory>
     ensures row { IfOk result (λ s. string_bytes s ≡ [] → RowHolds (row_of row.now)) }
     ensures undos { IfOk result (λ s. string_bytes s ≡ []
         → UndosHold (row_of row.now) (map undo_of undos.now)) }

@@ -10,6 +10,6 @@ mod told;
 mod unlike;
 
 pub use calls::{are_texts, edit_of, filled, is_said, open};
-pub use differences::{difference, difference_of_answers, difference_of_undos};
+pub use differences::{difference, difference_of_answers};
 pub use row::{Row, Texts, Undo};
 pub use step::{Said, Step};

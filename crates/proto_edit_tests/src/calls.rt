@@ -1,6 +1,6 @@
 //! Rows that are written as texts, and how they are asserted.
 
-use proto_edit_rows::{Row, Step, Undo, difference_of_undos};
+use proto_edit_rows::{Row, Step, Undo, difference};
 use proto_faults::NoMemory;
 use std::alloc::Global;
 use std::process::Abort;
@@ -53,7 +53,7 @@ pub(crate) fn told(alloc: Global, flat: &Flat, undos: &[Undo]) -> Result<String,
         after: after.as_slice(),
         json,
     };
-    difference_of_undos(alloc, &row, undos)
+    difference(alloc, &row, undos)
 }
 
 /// Ends the test with what is told, if there is anything.

@@ -127,7 +127,7 @@ pub(crate) const MAPS: &[Flat] = &[
 pub(crate) const NAMES: &[Flat] = &[
     [
         "a.proto syntax = \"proto3\"; message A { string b_c = 1; }",
-        "rename A.q r > 1 UnknownTarget|rename .A.b_c r > 1 UnknownTarget|rename A.b_c 9x > 3 NotAnIdentifier|rename A.b_c  > 3 NotAnIdentifier|rename A message > 4 KeywordName|rename A A > 5 SameName|rename A.b_c message > a.proto 48 52 (38 b_c message);",
+        "rename A.q r > 1 UnknownTarget|rename .A.b_c r > 1 UnknownTarget|rename A 9x > 3 NotAnIdentifier|rename A.b_c 9x > 3 NotAnIdentifier|rename A.b_c  > 3 NotAnIdentifier|rename A message > 4 KeywordName|rename A A > 5 SameName|rename A.b_c message > a.proto 48 52 (38 b_c message);",
         "a.proto syntax = \"proto3\"; message A { string message = 1; }",
         "\"jsonName\":\"message\"",
     ],

@@ -11,13 +11,13 @@ use std::process::Abort;
 fn expect_deletions<R: AllocGlobal + Abort>(rt: &R, rows: &[Deletion]) {
     for row in rows {
         let [text, name, answer, after, json] = *row;
-        let rows = &[Row {
+        let row = Row {
             files: &[("a.proto", text)],
             steps: &[("delete", name, "", answer)],
             after: &[("a.proto", after)],
             json,
-        }];
-        expect_none(rt, difference(rt.alloc(), rows));
+        };
+        expect_none(rt, difference(rt.alloc(), &row, &[]));
     }
 }
 
@@ -25,13 +25,13 @@ fn expect_places<R: AllocGlobal + Abort>(rt: &R, rows: &[Place]) {
     let (b, c) = (("b.proto", ""), ("c.proto", ""));
     for row in rows {
         let [text, answer, after, json] = *row;
-        let rows = &[Row {
+        let row = Row {
             files: &[("a.proto", text), b, c],
             steps: &[("add", "a.proto", "b.proto", answer)],
             after: &[("a.proto", after), b, c],
             json,
-        }];
-        expect_none(rt, difference(rt.alloc(), rows));
+        };
+        expect_none(rt, difference(rt.alloc(), &row, &[]));
     }
 }
 
@@ -95,6 +95,7 @@ const FULL: &[(usize, Step)] = &[
             "a.proto 1048564 1048576 (31 string b_c = 1; reserved 1; reserved \"b_c\";);",
         ),
     ),
+    (1048576, ("add", "a.proto", "b.proto", "16 TooLarge")),
     (1048559, ("add", "a.proto", "b.proto", "16 TooLarge")),
     (
         1048558,
