@@ -11,3 +11,5 @@ mod failing;
 mod journals;
 #[cfg(test)]
 mod rows;
+#[cfg(test)]
+mod three_files;
