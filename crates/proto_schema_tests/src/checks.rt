@@ -183,6 +183,10 @@ const OPTIONS: &[(&str, &str)] = &[
         "a.proto:35: 27 BadOption",
     ),
     (
+        "a.proto message M { repeated bytes a = 1 [packed = true]; }",
+        "a.proto:34: 27 BadOption",
+    ),
+    (
         "a.proto message M { repeated M a = 1 [packed = true]; }",
         "a.proto:30: 27 BadOption",
     ),

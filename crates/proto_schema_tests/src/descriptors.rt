@@ -40,6 +40,10 @@ const ROWS: &[(&str, &str)] = &[
         "a.proto message M { optional int32 _1 = 1; }",
         "{\"file\":[{\"messageType\":[{\"field\":[{\"jsonName\":\"1\",\"label\":\"LABEL_OPTIONAL\",\"name\":\"_1\",\"number\":1,\"type\":\"TYPE_INT32\"}],\"name\":\"M\"}],\"name\":\"a.proto\"}]}",
     ),
+    (
+        "a.proto message M { map<int32,int32> _1 = 1; }",
+        "{\"file\":[{\"messageType\":[{\"field\":[{\"jsonName\":\"1\",\"label\":\"LABEL_REPEATED\",\"name\":\"_1\",\"number\":1,\"type\":\"TYPE_MESSAGE\",\"typeName\":\".M.1Entry\"}],\"name\":\"M\",\"nestedType\":[{\"field\":[{\"jsonName\":\"key\",\"label\":\"LABEL_OPTIONAL\",\"name\":\"key\",\"number\":1,\"type\":\"TYPE_INT32\"},{\"jsonName\":\"value\",\"label\":\"LABEL_OPTIONAL\",\"name\":\"value\",\"number\":2,\"type\":\"TYPE_INT32\"}],\"name\":\"1Entry\",\"options\":{\"mapEntry\":true}}]}],\"name\":\"a.proto\"}]}",
+    ),
     // Numbers at the edges of their limits, and `0` with octal digits.
     (
         "a.proto syntax = \"proto3\"; message A { string b_c = 536870911; }",

@@ -1,66 +1,90 @@
 //! What `compile` prints, and where a run stops.
 
-use crate::calls::{Room, WIDE, expect, expect_end, given};
+use crate::calls::{WIDE, expect, expect_end, given};
 use proto_store::{MemoryStore, StoreFault};
 use protoref_run::{Command, RunFault, Status, fault_line};
-use std::process::Abort;
 
 const ROW: &str = "a.proto syntax = \"proto3\"; message A { string b_c = 1; }";
 
-const ROW_JSON: &str =
+pub(crate) const ROW_JSON: &str =
     "{\"file\":[{\"messageType\":[{\"field\":[{\"jsonName\":\"bC\",\"label\":\"LABEL_OPTIONAL\",\"name\":\"b_c\",\"number\":1,\"type\":\"TYPE_STRING\"}],\"name\":\"A\"}],\"name\":\"a.proto\",\"syntax\":\"proto3\"}]}\n";
 
 const RANGE: &str = "a.proto syntax = \"proto3\"; message A { string b = 19000; }";
 
 const RANGE_LINE: &str = "a.proto:1:43: 17 NumberRange\n";
 
-/// Files, what is printed of them, and how it ends.
-const ROWS: &[(&str, &str, Status)] = &[
-    ("", "{}\n", Status::Done),
-    (ROW, ROW_JSON, Status::Done),
+/// Files, and what is printed of them where they compile.
+const COMPILED: &[(&str, &str)] = &[
+    ("", "{}\n"),
+    (ROW, ROW_JSON),
     (
         "a.proto syntax = \"proto3\"; message A { B b = 1; } message B {}",
         "{\"file\":[{\"messageType\":[{\"field\":[{\"jsonName\":\"b\",\"label\":\"LABEL_OPTIONAL\",\"name\":\"b\",\"number\":1,\"type\":\"TYPE_MESSAGE\",\"typeName\":\".B\"}],\"name\":\"A\"},{\"name\":\"B\"}],\"name\":\"a.proto\",\"syntax\":\"proto3\"}]}\n",
-        Status::Done,
     ),
-    (RANGE, RANGE_LINE, Status::Problem),
+    ("a.proto ", "{\"file\":[{\"name\":\"a.proto\"}]}\n"),
+];
+
+/// Files, and the line of their fault.
+const FAULTS: &[(&str, &str)] = &[
+    ("a.proto /*", "a.proto:1:1: 4 OpenComment\n"),
+    ("a.proto /*/", "a.proto:1:1: 4 OpenComment\n"),
+    ("a.proto \n /*", "a.proto:2:2: 4 OpenComment\n"),
+    ("a.proto \"abc", "a.proto:1:1: 5 OpenString\n"),
+    ("a.proto syntax = \"", "a.proto:1:10: 5 OpenString\n"),
+    ("a.proto \"\\q\"", "a.proto:1:1: 6 BadEscape\n"),
+    ("a.proto \"\\400\"", "a.proto:1:1: 6 BadEscape\n"),
+    ("a.proto 1x", "a.proto:1:1: 7 BadNumber\n"),
+    ("a.proto message {", "a.proto:1:1: 8 Syntax\n"),
+    (
+        "b.proto syntax = \"proto3\"; message A { string b_c = 1; } | a.proto syntax = \"proto3\"; message A { string b_c = 1; }",
+        "b.proto:1:28: 13 DuplicateName\n",
+    ),
+    (
+        "a.proto syntax = \"proto3\"; package a; import \"b.proto\"; message A { message b {} b.X f = 1; } | b.proto syntax = \"proto3\"; package b; message X {} | c.proto syntax = \"proto3\"; package a.b;",
+        "a.proto:1:74: 14 Unresolved\n",
+    ),
+    (RANGE, RANGE_LINE),
+    (
+        "a.proto syntax = \"proto3\"; message A { string b_c = 0; }",
+        "a.proto:1:45: 17 NumberRange\n",
+    ),
+    (
+        "a.proto syntax = \"proto3\"; message A { string b_c = 536870912; }",
+        "a.proto:1:45: 17 NumberRange\n",
+    ),
+    (
+        "a.proto syntax = \"proto3\"; message A { string b_c = 19000; }",
+        "a.proto:1:45: 17 NumberRange\n",
+    ),
+    (
+        "a.proto enum E { V = 2147483648; }",
+        "a.proto:1:14: 17 NumberRange\n",
+    ),
     (
         "p/b.proto syntax = \"proto3\";\nmessage A {\n  string b = 19000;\n}\n",
         "p/b.proto:3:14: 17 NumberRange\n",
-        Status::Problem,
     ),
     (
-        "a.proto ",
-        "{\"file\":[{\"name\":\"a.proto\"}]}\n",
-        Status::Done,
+        "a.proto message M { reserved 1 to 3, 3; }",
+        "a.proto:1:30: 21 RangeOverlap\n",
     ),
     (
-        "a.proto message {",
-        "a.proto:1:1: 8 Syntax\n",
-        Status::Problem,
-    ),
-    (
-        "a.proto \n /*",
-        "a.proto:2:2: 4 OpenComment\n",
-        Status::Problem,
+        "a.proto message M { optional int32 a = 1 [default = 2147483648]; }",
+        "a.proto:1:35: 28 BadDefault\n",
     ),
     (
         "a b.proto syntax = \"proto3\"; message A { string b_c = 1; }",
         "a b.proto:1:1: 33 BadPath\n",
-        Status::Problem,
-    ),
-    (
-        "b.proto syntax = \"proto3\"; message A { string b_c = 1; } | a.proto syntax = \"proto3\"; message A { string b_c = 1; }",
-        "b.proto:1:28: 13 DuplicateName\n",
-        Status::Problem,
     ),
 ];
 
 #[test]
 fn prints_descriptors_and_faults(rt: HostRuntime) {
-    for (files, text, status) in ROWS {
-        let end = (Ok(*status), *text, text.len());
-        expect(&rt, given(&rt, files), Command::Compile, WIDE, end);
+    for (rows, status) in &[(COMPILED, Status::Done), (FAULTS, Status::Problem)] {
+        for (files, text) in *rows {
+            let end = (Ok(*status), *text, text.len());
+            expect(&rt, given(&rt, files), Command::Compile, WIDE, end);
+        }
     }
 }
 
@@ -89,25 +113,12 @@ fn stops_where_the_store_fails(rt: HostRuntime) {
     }
 }
 
-// The run writes as many bytes as there is room for, and ends so.
-fn expect_written<R: AllocGlobal + Abort>(rt: &R, room: Room, end: Result<Status, RunFault>) {
-    expect(
-        rt,
-        given(rt, ROW),
-        Command::Compile,
-        room,
-        (end, ROW_JSON, room.1),
-    );
-}
-
 #[test]
-fn writes_what_the_output_takes(rt: HostRuntime) {
+fn writes_what_the_output_takes_at_once(rt: HostRuntime) {
     for &at_once in &[1, 7, 4096] {
-        expect_written(&rt, (at_once, ROW_JSON.len(), false), Ok(Status::Done));
-    }
-    for &room in &[0, 1, 50, ROW_JSON.len() - 1] {
-        expect_written(&rt, (7, room, false), Err(RunFault::Output));
-        expect_written(&rt, (7, room, true), Err(RunFault::Output));
+        let room = (at_once, ROW_JSON.len(), false);
+        let end = (Ok(Status::Done), ROW_JSON, ROW_JSON.len());
+        expect(&rt, given(&rt, ROW), Command::Compile, room, end);
     }
 }
 

@@ -70,18 +70,26 @@ fn follow_each_failure_of_a_recovery(rt: HostRuntime) {
     }
 }
 
+/// Older entries, and the log after the rename.
+const LOGS: &[(&str, &str)] = &[
+    ("", "1 done a.proto,b.proto,c.proto\n"),
+    (LINE, "1 done a.proto\n2 done a.proto,b.proto,c.proto\n"),
+];
+
 #[test]
 fn find_nothing_where_no_call_fails(rt: HostRuntime) {
-    let turns = [
-        Done(M_TO_N, ALL_CHANGED),
-        Done("recover", NOTHING),
-        At(step(M_TO_N, 5), LINE),
-        Done("log", "1 done a.proto\n2 done a.proto,b.proto,c.proto\n"),
-        Done("undo", ALL_CHANGED),
-        Done("recover", NOTHING),
-        At(step(M_TO_N, 0), LINE),
-    ];
-    expect_at(&rt, step(M_TO_N, 0), LINE, &turns);
+    for &(older, log) in LOGS {
+        let turns = [
+            Done(M_TO_N, ALL_CHANGED),
+            Done("recover", NOTHING),
+            At(step(M_TO_N, 5), older),
+            Done("log", log),
+            Done("undo", ALL_CHANGED),
+            Done("recover", NOTHING),
+            At(step(M_TO_N, 0), older),
+        ];
+        expect_at(&rt, step(M_TO_N, 0), older, &turns);
+    }
 }
 
 /// So many writes of the edit, and the fault that the schemas have then.

@@ -42,9 +42,11 @@ const INNER: &str =
 const REFUSED: &[(&str, &str, &str)] = &[
     (OLD, "rename A.q r", "refused: 1 UnknownTarget\n"),
     (OLD, "rename  ", "refused: 1 UnknownTarget\n"),
+    (OLD, "rename A 9x", "refused: 3 NotAnIdentifier\n"),
+    (OLD, "rename A -x", "refused: 3 NotAnIdentifier\n"),
     (OLD, "rename A.b_c 9x", "refused: 3 NotAnIdentifier\n"),
-    (OLD, "rename A.b_c -x", "refused: 3 NotAnIdentifier\n"),
     (OLD, "rename A message", "refused: 4 KeywordName\n"),
+    (OLD, "rename A A", "refused: 5 SameName\n"),
     (OLD, "rename A.b_c b_c", "refused: 5 SameName\n"),
     (TWO, "rename M.x fooBar", "refused: 6 Collision\n"),
     (

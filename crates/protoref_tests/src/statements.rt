@@ -88,6 +88,15 @@ const OF_OVERTAKEN: &[Turn<'static>] = &[
     Holds(OVERTAKEN, ""),
 ];
 
+const CIRCLE: &str =
+    "a.proto package a; import \"c.proto\"; message A { optional b.X f = 1; } | b.proto package a.b; import \"a.proto\"; message X {} | c.proto package b; message X {}";
+
+/// The least case is answered, not that of the cycle.
+const OF_CIRCLE: &[Turn<'static>] = &[
+    Problem(IMPORT, "refused: 7 Captured a.proto:1:51\n"),
+    Holds(CIRCLE, ""),
+];
+
 #[test]
 fn are_told_made_and_undone(rt: HostRuntime) {
     expect_turns(&rt, ONEOF, "", OF_ONEOF);
@@ -96,4 +105,5 @@ fn are_told_made_and_undone(rt: HostRuntime) {
     expect_turns(&rt, EMPTY, "", OF_EMPTY);
     expect_turns(&rt, NEEDING, "", OF_NEEDING);
     expect_turns(&rt, OVERTAKEN, "", OF_OVERTAKEN);
+    expect_turns(&rt, CIRCLE, "", OF_CIRCLE);
 }

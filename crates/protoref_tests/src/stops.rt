@@ -1,16 +1,31 @@
 //! Where a run stops: at a failed call of the store, and at a failed write.
 
+use crate::compiling::ROW_JSON;
 use crate::stores::{LINE, OLD};
 use crate::three_files::{ALL_CHANGED, M_TO_N, NOTHING, expect_at, step};
 use crate::turns::Turn::{At, Cut, HalfTold};
-use crate::turns::{Turn, expect_turns};
+use crate::turns::expect_turns;
 use std::process::Abort;
 
-const LOGS: &[Turn<'static>] = &[Cut("log", 1, false), HalfTold("log", "1 done a.proto\n", 5)];
+#[test]
+fn tells_no_log_that_it_cannot_read(rt: HostRuntime) {
+    expect_turns(&rt, OLD, LINE, &[Cut("log", 1, false)]);
+}
+
+/// What is asked of a file and its journal, and what that prints.
+const TOLD: &[(&str, &str)] = &[
+    ("compile", ROW_JSON),
+    ("lint", "a.proto:1:1: PACKAGE_DEFINED -\n"),
+    ("log", "1 done a.proto\n"),
+];
 
 #[test]
-fn tells_where_the_log_fails(rt: HostRuntime) {
-    expect_turns(&rt, OLD, LINE, LOGS);
+fn prints_no_more_than_the_output_takes(rt: HostRuntime) {
+    for &(asked, text) in TOLD {
+        for room in 0..text.len() {
+            expect_turns(&rt, OLD, LINE, &[HalfTold(asked, text, room)]);
+        }
+    }
 }
 
 // An edit and its undo stand where the output fails after so many bytes.

@@ -2,6 +2,7 @@
 
 use crate::calls::given;
 use proto_edit::Edit;
+use proto_lint::RuleSet;
 use proto_store::MemoryStore;
 use protoref_run::Command;
 use std::process::Abort;
@@ -48,6 +49,7 @@ pub(crate) fn command_of<R: AllocGlobal + Abort>(rt: &R, asked: &str) -> Command
         "add-import" => Command::Edit(Edit::AddImport { file: of, path: to }),
         "drop-import" => Command::Edit(Edit::DropImport { file: of, path: to }),
         "compile" => Command::Compile,
+        "lint" => Command::Lint(RuleSet::all()),
         "undo" => Command::Undo,
         "log" => Command::Log,
         "recover" => Command::Recover,
