@@ -1,5 +1,5 @@
 //! What the deletion of a field leaves of the faults and the descriptors of a
-//! workspace. No code needs these laws.
+//! workspace. All are laws, which do nothing.
 #![tactic(auto)]
 
 pub mod laws;

@@ -1,6 +1,6 @@
 //! An import added to a file.
 
-ghost use Rattle.std.specs.Prelude.{◌≡◌, ◌<◌, ◌++◌, ◌↔◌, ℕ, List, length, map, is_some, if◌then◌else◌, codes, IfOk, IfErr, IsTrue, string_bytes};
+ghost use Rattle.std.specs.Prelude.{◌≡◌, ◌<◌, ℕ, length, map, is_some, IfOk, IfErr, string_bytes};
 ghost use Rattle.proto_entries.specs.Entries.{change_of};
 ghost use Rattle.proto_files.specs.Faults.{HasNoFault};
 ghost use Rattle.proto_imports.specs.Links.{LinkFaults};

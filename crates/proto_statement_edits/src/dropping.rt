@@ -8,7 +8,6 @@ ghost use Rattle.proto_imports.specs.Links.{LinkFaults};
 ghost use Rattle.proto_names.specs.LinkOfFiles.{IsLinkOf};
 ghost use Rattle.proto_statement_changes.specs.ImportChanges.{IsImportOf};
 ghost use Rattle.proto_statement_edits.specs.Edits.{IsDropCase, IsDropped, IsDropRefusal};
-ghost use Rattle.proto_statement_edits.specs.Imported.{IsImportNamed};
 ghost use Rattle.proto_statement_edits.specs.Steps.{IsNeededAtToken};
 ghost use Rattle.proto_statement_names.specs.Cases.{IsPlaceOf};
 

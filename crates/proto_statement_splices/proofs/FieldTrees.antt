@@ -1,4 +1,4 @@
--- The first field of a name token in trees that stand one behind another (for the crates above).
+-- The first field of a name token in trees that stand one behind another.
 use Rattle.std.proofs.Common.{◌≡◌, ℕ, List, ◌++◌, Option, Some, None, refl, sym, ap, ◌∙◌}
 use Rattle.std.specs.Prelude.{option_map}
 use Rattle.std.proofs.lemmas.Option.{none-some}
@@ -12,7 +12,6 @@ use Rattle.proto_tree.specs.declared.tree.Block.{Block as Braced}
 use Rattle.proto_tree.specs.declared.tree.Field.{Field}
 use Rattle.proto_tree.specs.declared.tree.FieldType.{FieldType}
 use Rattle.proto_tree.specs.declared.tree.FieldType.TheVariants as field_type
-use Rattle.proto_tree.specs.declared.tree.Reference.{Reference}
 use Rattle.proto_tree.specs.declared.tree.Separated.{Separated}
 use Rattle.proto_tree.specs.File.{field_tree, oneof_tree, trees}
 use Rattle.proto_tree.specs.Flat.{Mark, flat_option, flat_type, flat_words, only}

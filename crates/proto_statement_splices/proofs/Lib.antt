@@ -1,3 +1,3 @@
 pub mod AloneTrees
-pub mod FieldTrees
+mod FieldTrees
 pub mod ImportEnds
