@@ -24,7 +24,8 @@ pub(crate) fn texts(
     Ok(files)
 }
 
-fn step(written: &'static str) -> Step {
+/// The edit that is written as one text, with its answer.
+pub(crate) fn step(written: &'static str) -> Step {
     let (asked, answer) = written.split_once(" > ").unwrap_or((written, "no answer"));
     let mut words = asked.split(' ');
     let kind = words.next().unwrap_or("");

@@ -1,11 +1,11 @@
 //! Deleted fields, added and dropped imports: each row as a run and step by step, and the way back; full files.
 
-use super::calls::{expect_none, expect_rows};
+use super::calls::{expect_none, expect_rows, step};
 use super::deletions::{DELETIONS, Deletion, FIELDS, MEMBERS, ONEOF};
 use super::imports::{ADDED, DROPPED, IMPORT, MORE_PLACES, NEEDED, OVERTAKEN, PLACES, Place};
 use super::lists::LISTS;
 use super::rows::TEXT;
-use proto_edit_rows::{Row, Step, difference, difference_of_answers, filled};
+use proto_edit_rows::{Row, difference, difference_of_answers, filled};
 use std::process::Abort;
 
 fn expect_deletions<R: AllocGlobal + Abort>(rt: &R, rows: &[Deletion]) {
@@ -83,36 +83,29 @@ fn are_made_in_lists(rt: HostRuntime) {
     expect_rows(&rt, LISTS);
 }
 
-// The length of a file, and what is asked: the file becomes as long as it may be, or a byte longer.
-const FULL: &[(usize, Step)] = &[
-    (1048565, ("delete", "A.b_c", "", "16 TooLarge")),
+// The length of a file, and what is asked: the file becomes as long as it may be, or longer.
+const FULL: &[(usize, &str)] = &[
+    (1048565, "delete A.b_c > 16 TooLarge"),
     (
         1048564,
-        (
-            "delete",
-            "A.b_c",
-            "",
-            "a.proto 1048564 1048576 (31 string b_c = 1; reserved 1; reserved \"b_c\";);",
-        ),
+        "delete A.b_c > a.proto 1048564 1048576 (31 string b_c = 1; reserved 1; reserved \"b_c\";);",
     ),
-    (1048576, ("add", "a.proto", "b.proto", "16 TooLarge")),
-    (1048559, ("add", "a.proto", "b.proto", "16 TooLarge")),
+    (1048576, "add a.proto b.proto > 16 TooLarge"),
+    (1048559, "add a.proto b.proto > 16 TooLarge"),
     (
         1048558,
-        (
-            "add",
-            "a.proto",
-            "b.proto",
-            "a.proto 1048558 1048576 (18  \nimport \"b.proto\";);",
-        ),
+        "add a.proto b.proto > a.proto 1048558 1048576 (18  \nimport \"b.proto\";);",
     ),
 ];
 
 #[test]
 fn fill_a_file_and_do_not_fit_it(rt: HostRuntime) {
-    for (length, step) in FULL {
+    for (length, asked) in FULL {
         let text = filled(rt.alloc(), TEXT, *length).expect(&rt, "memory");
         let files = [("a.proto", text.as_str()), ("b.proto", "")];
-        expect_none(&rt, difference_of_answers(rt.alloc(), &files, &[*step]));
+        expect_none(
+            &rt,
+            difference_of_answers(rt.alloc(), &files, &[step(asked)]),
+        );
     }
 }

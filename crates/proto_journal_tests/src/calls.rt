@@ -46,7 +46,8 @@ pub(crate) const MADE: Answer = ((0, "done", 0), AFTER);
 
 pub(crate) const TAKEN_BACK: Answer = ((0, "done", 0), BEFORE);
 
-fn said<T: Drop>(answer: Result<T, JournalFault>) -> Said {
+/// A fault as `Said` has it.
+pub(crate) fn said<T: Drop>(answer: Result<T, JournalFault>) -> Said {
     match answer {
         Ok(_) => (0, "done", 0),
         Err(JournalFault::Refused(refusal)) => (0, refusal.name(), refusal.number()),

@@ -1,5 +1,6 @@
 //! A rename of three files: each store call of its commit fails in turn, and a recovery leads back.
 
+use super::calls::said;
 use proto_faults::NoMemory;
 use proto_journal::*;
 use std::alloc::Global;
@@ -87,13 +88,13 @@ fn expect_cut<R: AllocGlobal + Abort>(rt: &R, store: &mut MemoryStore, call: u64
         name: String::from_str(rt.alloc(), "M").expect(rt, "memory"),
         to: String::from_str(rt.alloc(), "N").expect(rt, "memory"),
     };
-    let number = match commit(rt.alloc(), store, &mut workspace, edit) {
-        Ok(_) => 0,
-        Err(fault) => fault.number(),
-    };
+    let (number, name, _) = said(commit(rt.alloc(), store, &mut workspace, edit));
     let is_kept = is_before(&workspace);
     workspace.release();
-    assert!(rt; number == 4 && is_kept, "call {call}, {lands}: {number}");
+    assert!(rt;
+        number == 4 && name == "Store" && is_kept,
+        "call {call}, {lands}: {number} {name}"
+    );
 }
 
 // The recovery answers this, and leaves the store so.
