@@ -58,7 +58,11 @@ fn report_text(alloc: Global, source: &Source) -> Report
         Err(fault) => return Report::Fault(text_fault(&fault)),
     };
     match parse(alloc, source, &tokens) {
-        Ok(file) => Report::Counts(counts_of(&file)),
+        Ok(file) => {
+            let counts = counts_of(&file);
+            file.release();
+            Report::Counts(counts)
+        }
         Err(fault) => Report::Fault(grammar_fault(fault)),
     }
 }

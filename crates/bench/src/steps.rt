@@ -1,5 +1,7 @@
 //! The steps over files, and what is printed of them.
 
+ghost use Rattle.proto_names.specs.LinkOfFiles.{IsLinkOf};
+
 use crate::counts::Counts;
 use crate::report::{Report, report_on};
 use crate::{Given, files_at};
@@ -78,20 +80,28 @@ fn read(alloc: Global, given: Given) -> Result<Files, SchemaFault> {
     Files::read(alloc, paths)
 }
 
+fn count_findings(alloc: Global, files: &Files, link: &Link) -> Option<usize>
+    requires { IsLinkOf files.now link.now }
+{
+    match lint(alloc, files, link, &RuleSet::all()) {
+        Ok(found) => Some(found.len()),
+        Err(_) => None,
+    }
+}
+
 // How many files link, or how many findings they have, if they link.
 fn count_in(alloc: Global, files: &Files, is_linted: bool) -> Option<usize> {
     match Link::new(alloc, files) {
         Ok(link) => {
-            if is_linted {
-                match lint(alloc, files, &link, &RuleSet::all()) {
-                    Ok(found) => Some(found.len()),
-                    Err(_) => None,
-                }
+            let count = if is_linted {
+                count_findings(alloc, files, &link)
             } else {
                 Some(files.len())
-            }
+            };
+            link.release();
+            count
         }
-        Err(_) => None,
+        Err(_fault) => None,
     }
 }
 
@@ -103,8 +113,12 @@ pub(crate) fn count<R: Print + AllocGlobal>(
 ) -> io::Result<()> {
     let what = if is_linted { "findings" } else { "files link" };
     let count = match read(rt.alloc(), given) {
-        Ok(files) => count_in(rt.alloc(), &files, is_linted),
-        Err(_) => None,
+        Ok(files) => {
+            let count = count_in(rt.alloc(), &files, is_linted);
+            files.release();
+            count
+        }
+        Err(_fault) => None,
     };
     match count {
         Some(count) => println!(rt; "{count} {what}"),

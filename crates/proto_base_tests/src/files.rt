@@ -218,7 +218,10 @@ const FAULTS: &[(&[Text], Said)] = &[
 
 fn are_refused<R: AllocGlobal + Abort>(rt: &R, texts: &[Text], said: &Said) -> bool {
     match read(rt, texts) {
-        Ok(_) => false,
+        Ok(files) => {
+            files.release();
+            false
+        }
         Err(fault) => is_fault(&fault, said),
     }
 }
@@ -422,7 +425,9 @@ fn is_given<R: AllocGlobal + Abort>(rt: &R, files: &Files, answer: &Answer) -> b
 // The one owner of files.
 fn are_given<R: AllocGlobal + Abort>(rt: &R, texts: &[Text], answer: &Answer) -> bool {
     let files = read(rt, texts).expect(rt, "files");
-    is_given(rt, &files, answer)
+    let is_so = is_given(rt, &files, answer);
+    files.release();
+    is_so
 }
 
 fn expect_answers<R: AllocGlobal + Abort>(rt: &R, rows: &[(&[Text], Answer)]) {

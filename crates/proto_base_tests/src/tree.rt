@@ -67,7 +67,11 @@ fn is_said(file: &File, said: &Said) -> bool {
 // Whether this is said of the text.
 fn is_answer<R: AllocGlobal + Abort>(rt: &R, text: &str, said: &Said) -> bool {
     match read(rt, text) {
-        Ok(file) => is_said(&file, said),
+        Ok(file) => {
+            let is_so = is_said(&file, said);
+            file.release();
+            is_so
+        }
         Err(fault) => match said {
             Said::Fault(number, name, offset) => {
                 fault.number() == *number && fault.name() == *name && fault.offset() == *offset

@@ -1,10 +1,8 @@
 //! The names that a rename changes, as text.
 
-ghost use Rattle.std.specs.Prelude.{◌≡◌, ◌<◌, ℕ, List, length, IfOk};
-ghost use Rattle.std.specs.Str.{bytes_eq};
-ghost use Rattle.proto_files.specs.GivenFiles.{file_at};
+ghost use Rattle.std.specs.Prelude.{◌≡◌, ◌<◌, IfOk};
 ghost use Rattle.proto_text.specs.Texts.{word_at};
-ghost use Rattle.proto_captures.specs.NewTexts.{entry_texts, entry_words, is_new_by, is_new_word, texts_of, texts_by};
+ghost use Rattle.proto_captures.specs.NewTexts.{entry_texts, entry_words, is_new_word, texts_of, texts_by};
 
 use proto_case::entry_name;
 use proto_faults::NoMemory;

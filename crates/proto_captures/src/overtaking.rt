@@ -1,11 +1,11 @@
 //! The first reference of a file that is overtaken where the file sees more.
 
-ghost use Rattle.std.specs.Prelude.{◌≡◌, ◌↔◌, ◌<◌, ◌≤◌, ◌&&◌, ◌||◌, ℕ, nat_le, List, [], length, get_or, map, IfOk, OnOk, string_bytes};
+ghost use Rattle.std.specs.Prelude.{◌≡◌, ◌<◌, ◌≤◌, ◌&&◌, ◌||◌, ℕ, nat_le, List, [], length, get_or, map, IfOk, OnOk, string_bytes};
 ghost use Rattle.std.specs.HashSet.{contains_text};
 ghost use Rattle.std.specs.List.{list_any};
 ghost use Rattle.std.specs.Str.{bytes_eq};
 ghost use Rattle.proto_captures.specs.FirstCaptured.{first_of};
-ghost use Rattle.proto_captures.specs.Overtaking.{IsFirstOvertaken, IsPackageSeen, SeesMarked, TellsPackages, fronts_from, overtakes_by, overtakes_use, package_texts, sees_text};
+ghost use Rattle.proto_captures.specs.Overtaking.{IsFirstOvertaken, SeesMarked, TellsPackages, fronts_from, overtakes_by, overtakes_use, sees_text};
 ghost use Rattle.proto_captures.specs.Capturing.{shown_from};
 ghost use Rattle.proto_captures.specs.ShownTexts.{below};
 ghost use Rattle.proto_files.specs.FilesRead.{ReadOf, AreRead};

@@ -1,6 +1,6 @@
 //! What fits and is visible below a scope, under the new names of a rename.
 
-ghost use Rattle.std.specs.Prelude.{◌≡◌, ◌++◌, ◌∷◌, IfOk, string_bytes};
+ghost use Rattle.std.specs.Prelude.{◌≡◌, IfOk, string_bytes};
 ghost use Rattle.proto_captures.specs.NewTexts.{texts_of, entry_pair};
 ghost use Rattle.proto_captures.specs.ShownTexts.{below, entry_shown, first_fits, kind_named, shown_beside, shown_below, shows_text};
 

@@ -11,7 +11,7 @@ pub mod laws;
 pub use checking::check;
 pub use described::file_descriptor;
 pub use json_form::to_json;
-pub use proto_faults::SchemaFault as CheckFault;
+pub use proto_faults::{NoMemory, SchemaFault as CheckFault};
 pub use proto_json::{
     Descriptors, EnumDescriptor, EnumOptions, EnumReservedRange, EnumValueDescriptor,
     EnumValueOptions, FieldDescriptor, FieldOptions, FieldType, FileDescriptor, FileOptions,

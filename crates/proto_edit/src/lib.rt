@@ -9,6 +9,6 @@ mod workspace;
 pub use edit::Edit;
 pub use proto_desc::{Descriptors, to_json};
 pub use proto_entries::{Change, Entry, Refusal};
-pub use proto_files::{Fault, FaultKind, Files};
+pub use proto_files::{Fault, FaultKind, Files, NoMemory};
 pub use proto_schema::OpenFault;
 pub use workspace::Workspace;

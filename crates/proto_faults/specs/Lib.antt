@@ -1,2 +1,3 @@
 pub mod FaultTable
+pub mod GivenFiles
 pub mod Texts

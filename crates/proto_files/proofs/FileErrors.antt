@@ -1,5 +1,5 @@
 -- What the errors of the lexer and of the parser say of a file (for the crates above).
-use Rattle.std.proofs.Common.{◌≡◌, ℕ, List, Err, refl, sym, ap, subst, inl, inr, ⊎_elim, arith, ◌⊎◌}
+use Rattle.std.proofs.Common.{◌≡◌, ℕ, List, refl, sym, ap, subst, inl, inr, ⊎_elim, arith, ◌⊎◌}
 use Rattle.std.specs.Prelude.{String}
 use Rattle.std.specs.Global.{Global}
 use Rattle.std.specs.String.{string_bytes}
@@ -8,7 +8,6 @@ use Rattle.proto_text.specs.declared.fault.LexFault.TheVariants as lex
 use Rattle.proto_text.specs.declared.fault.TextFault.{TextFault}
 use Rattle.proto_text.specs.declared.fault.TextFault.TheVariants as text
 use Rattle.proto_text.specs.declared.lexer.Token.{Token}
-use Rattle.proto_text.specs.SourceFacts.{NewSource}
 use Rattle.proto_text.specs.Tokens.{AreTokens, IsFaultAt, IsLexError}
 use Rattle.proto_text.proofs.Once.{one_token_list, no_fault_with_tokens}
 use Rattle.proto_tree.specs.declared.parsing.ParseFault.{ParseFault}
@@ -19,33 +18,6 @@ use Rattle.proto_faults.specs.declared.fault.FaultKind.TheVariants as kind
 use Rattle.proto_files.specs.GivenFiles.{FileOf}
 use Rattle.proto_files.specs.ReadFaults.{IsText, IsTextFault, IsGrammarFault}
 use Rattle.proto_files.specs.Reading.{lex_kind, text_error, grammar_error, HasNone, IsFileError}
-
--- the bytes are too many, or else not UTF-8
-pub new_error : (path : String Global) (file : FileOf) (fault : TextFault) → string_bytes path ≡ file.path → NewSource file.bytes (Err fault) → IsFileError IsTextFault file (text_error path fault)
-new_error path file text.TooLarge at h = record { at_file = at; is_fault = (refl, h); only = only }
-  where
-    only : (offset : ℕ) (k : FaultKind) → IsTextFault file.bytes offset k → (offset ≡ 0) × (k ≡ kind.TooLarge)
-    only offset kind.TooLarge f = (f.0, refl)
-    only offset kind.NotUtf8 f = absurd (omega (arith, h, f.1))
-    only offset kind.BadChar f = absurd (omega (arith, h, f.0.short))
-    only offset kind.OpenComment f = absurd (omega (arith, h, f.0.short))
-    only offset kind.OpenString f = absurd (omega (arith, h, f.0.short))
-    only offset kind.BadEscape f = absurd (omega (arith, h, f.0.short))
-    only offset kind.BadNumber f = absurd (omega (arith, h, f.0.short))
-    only offset _ f = absurd f
-new_error path file text.NotUtf8 at h = record { at_file = at; is_fault = (refl, h.0, h.1); only = only }
-  where
-    only : (offset : ℕ) (k : FaultKind) → IsTextFault file.bytes offset k → (offset ≡ 0) × (k ≡ kind.NotUtf8)
-    only offset kind.TooLarge f = absurd (omega (arith, h.0, f.1))
-    only offset kind.NotUtf8 f = (f.0, refl)
-    only offset kind.BadChar f = absurd (h.1 f.0.utf8)
-    only offset kind.OpenComment f = absurd (h.1 f.0.utf8)
-    only offset kind.OpenString f = absurd (h.1 f.0.utf8)
-    only offset kind.BadEscape f = absurd (h.1 f.0.utf8)
-    only offset kind.BadNumber f = absurd (h.1 f.0.utf8)
-    only offset _ f = absurd f
-new_error path file (text.At offset fault) at h = absurd h
-new_error path file text.NoMemory at h = tt
 
 -- the lexer's fault, if the text has one at an offset
 abbrev pub IsOnlyLexFault : List ℕ → TextFault → Type 0

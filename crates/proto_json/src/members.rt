@@ -1,6 +1,6 @@
 //! The members of an object, put one behind the other in the order of their keys.
 
-ghost use Rattle.std.specs.Prelude.{◌≡◌, List, [], ◌∷◌, Option, Some, None, false, if◌then◌else◌, map, option_map, IfOk};
+ghost use Rattle.std.specs.Prelude.{◌≡◌, List, [], Option, Some, None, false, if◌then◌else◌, map, option_map, IfOk};
 ghost use Rattle.proto_faults.specs.Texts.{Text};
 ghost use Rattle.serde_json.specs.View.{members_view};
 ghost use Rattle.serde_json.specs.Written.{members_have_float};

@@ -4,4 +4,5 @@
 mod linting;
 
 pub use linting::lint;
+pub use proto_faults::NoMemory;
 pub use proto_findings::{Finding, Rule, RuleSet, laws};

@@ -1,7 +1,6 @@
 //! Defaults that mean a value of an enum.
 
-ghost use Rattle.std.specs.Prelude.{◌≡◌, ◌<◌, ◌++◌, ℕ, List, [], Some, flat_map, map, length, option_map, option_to_list, if◌then◌else◌, codes, IfOk, OnOk};
-ghost use Rattle.std.specs.Option.{option_and_then};
+ghost use Rattle.std.specs.Prelude.{◌≡◌, ◌<◌, ◌++◌, ℕ, List, [], Some, flat_map, map, length, option_to_list, if◌then◌else◌, codes, IfOk, OnOk};
 ghost use Rattle.proto_tree.specs.declared.tree.FieldType.TheVariants as field_type;
 ghost use Rattle.proto_files.specs.FilesRead.{AreRead, ReadOf, read_at};
 ghost use Rattle.proto_meaning.specs.Joined.{ArePlain, joined};

@@ -271,4 +271,8 @@ impl Link {
         let row = row_in_scope(&self.table, seen, &words, scope, reference)?;
         Some(SymbolId { row })
     }
+
+    /// Lets the link go. A crate that ends it by this call need not prove how each of its
+    /// parts is dropped.
+    pub fn release(self) {}
 }

@@ -32,12 +32,24 @@ pub(crate) fn read<R: AllocGlobal>(rt: &R, given: Given) -> Result<Files, Schema
     Files::read(rt.alloc(), paths)
 }
 
-// The one owner of files and their link, which tells each row.
+// The one owner of a link, which tells each row.
+fn link_of<R: AllocGlobal + Abort>(
+    rt: &R,
+    files: &Files,
+    rows: &[Told],
+) -> Result<(), SchemaFault> {
+    let link = Link::new(rt.alloc(), files)?;
+    expect_rows(rt, &link, files, rows);
+    link.release();
+    Ok(())
+}
+
+// The one owner of files.
 fn link<R: AllocGlobal + Abort>(rt: &R, given: Given, rows: &[Told]) -> Result<(), SchemaFault> {
     let files = read(rt, given)?;
-    let link = Link::new(rt.alloc(), &files)?;
-    expect_rows(rt, &link, &files, rows);
-    Ok(())
+    let linked = link_of(rt, &files, rows);
+    files.release();
+    linked
 }
 
 /// Links the files, and asks for each row.

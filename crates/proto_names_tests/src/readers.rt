@@ -66,7 +66,10 @@ fn names_of_a_schema(rt: HostRuntime) {
 fn last_name<R: AllocGlobal + Abort>(rt: &R) -> SymbolId {
     let files = read(rt, given(rt, SCHEMA)).expect(rt, "files");
     let link = Link::new(rt.alloc(), &files).expect(rt, "a link");
-    link.symbol("p.q.W").expect(rt, "a name")
+    let id = link.symbol("p.q.W").expect(rt, "a name");
+    link.release();
+    files.release();
+    id
 }
 
 #[test]

@@ -118,10 +118,12 @@ fn expect_meant<R: AllocGlobal + Abort>(rt: &R, files: &Files) {
     let link = Link::new(rt.alloc(), files).expect(rt, "a link");
     expect_scopes(rt, &link, files);
     expect_nearest(rt, &link, files);
+    link.release();
 }
 
 #[test]
 fn references_in_given_scopes(rt: HostRuntime) {
     let files = read(&rt, given(&rt, TEXTS)).expect(&rt, "files");
     expect_meant(&rt, &files);
+    files.release();
 }

@@ -1,10 +1,9 @@
 //! The change of a file that puts a word at some of its tokens.
 
-ghost use Rattle.std.specs.Prelude.{◌≡◌, ◌+◌, ◌-◌, ◌*◌, ◌<◌, ◌≤◌, ◌++◌, ◌∷◌, [], ℕ, All, length, map, replicate, true, false, if◌then◌else◌, slice_set, IfOk, IfErr, OnOk, MatchOption};
+ghost use Rattle.std.specs.Prelude.{◌≡◌, ◌+◌, ◌-◌, ◌*◌, ◌<◌, ◌≤◌, ◌++◌, ◌∷◌, [], All, length, map, replicate, true, false, if◌then◌else◌, slice_set, IfOk, IfErr, OnOk, MatchOption};
 ghost use Rattle.proto_text.specs.Edits.{AreShort};
 ghost use Rattle.proto_text.specs.SourceFacts.{IsSpan};
-ghost use Rattle.proto_text.specs.Splicing.{edit_of, edits};
-ghost use Rattle.proto_entries.specs.Entries.{change_of};
+ghost use Rattle.proto_text.specs.Splicing.{edits};
 ghost use Rattle.proto_rewording.specs.MadeChanges.{IsChangeAt, IsRewordFault, marked_from, marked_tokens, word_put, StandInOrder, bytes_in};
 
 use proto_entries::{Change, in_order};

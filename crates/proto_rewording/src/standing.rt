@@ -7,7 +7,6 @@ ghost use Rattle.proto_files.specs.Faults.{HasNoFault};
 ghost use Rattle.proto_imports.specs.Links.{LinkFaults};
 ghost use Rattle.proto_names.specs.Linking.{text_at};
 ghost use Rattle.proto_names.specs.LinkOfFiles.{IsLinkOf};
-ghost use Rattle.proto_targets.specs.Aims.{IsAimOf};
 ghost use Rattle.proto_rewording.specs.StandingTokens.{IsStandingIn, words_in, words_behind, from_end, counted, listed, standing_tokens};
 
 use proto_faults::NoMemory;

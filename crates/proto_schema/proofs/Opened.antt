@@ -91,7 +91,7 @@ check_first files x clean linked least = least_of_all (CheckFaults files) (FileF
     others y (of_linking z h) = absurd (linked y h)
     others y (of_checking z h) = inl h
 
-none_of_files : (files : List FileOf) → HasNoFault (ReadFaults files) → HasNoFault (LinkFaults files) → HasNoFault (CheckFaults files) → HasNoFault (FileFaults files)
+pub none_of_files : (files : List FileOf) → HasNoFault (ReadFaults files) → HasNoFault (LinkFaults files) → HasNoFault (CheckFaults files) → HasNoFault (FileFaults files)
 none_of_files files clean linked checked y (of_read z h) = clean y h
 none_of_files files clean linked checked y (of_linking z h) = linked y h
 none_of_files files clean linked checked y (of_checking z h) = checked y h
@@ -152,16 +152,17 @@ pub record AreReadOf (given files : List FileOf) : Type 0 where
 pub are_read : (given sorted files : List FileOf) → files ≡ sorted → HasNoFault (PathFaults 4096 (paths_of given)) → IsPermutation given sorted → AreWorkspaceFiles sorted → HasNoFault (ReadFaults sorted) → AreReadOf given files
 are_read given sorted files e named same workspace clean = subst (AreReadOf given) (sym e) (record { named = named; same = same; workspace = workspace; clean = clean })
 
-pub link_error : (given files : List FileOf) (e : SchemaFault) → AreReadOf given files → IsLinkError files e → IsOpenError given e
-link_error given files (Schema fault) r h = files_first given files (fault_at fault) r.named r.same r.workspace (link_first files (fault_at fault) r.clean h)
-link_error given files NoMemory r h = tt
+pub linking_error : (files : List FileOf) (e : SchemaFault) → HasNoFault (ReadFaults files) → IsLinkError files e → IsFilesError (FileFaults files) e
+linking_error files (Schema fault) read h = link_first files (fault_at fault) read h
+linking_error files NoMemory read h = tt
 
-pub check_error : (given files : List FileOf) (e : SchemaFault) → AreReadOf given files → HasNoFault (LinkFaults files) → IsCheckError files e → IsOpenError given e
-check_error given files (Schema fault) r linked h = files_first given files (fault_at fault) r.named r.same r.workspace (check_first files (fault_at fault) r.clean linked h)
-check_error given files NoMemory r linked h = tt
+pub checking_error : (files : List FileOf) (e : SchemaFault) → HasNoFault (ReadFaults files) → HasNoFault (LinkFaults files) → IsCheckError files e → IsFilesError (FileFaults files) e
+checking_error files (Schema fault) read linked h = check_first files (fault_at fault) read linked h
+checking_error files NoMemory read linked h = tt
 
-pub no_file_fault : (given files : List FileOf) → AreReadOf given files → HasNoFault (LinkFaults files) → HasNoFault (CheckFaults files) → HasNoFault (FileFaults files)
-no_file_fault given files r linked checked = none_of_files files r.clean linked checked
+pub files_error : (given files : List FileOf) (e : SchemaFault) → AreReadOf given files → IsFilesError (FileFaults files) e → IsOpenError given e
+files_error given files (Schema fault) r h = files_first given files (fault_at fault) r.named r.same r.workspace h
+files_error given files NoMemory r h = tt
 
-pub no_fault : (given files : List FileOf) → AreReadOf given files → HasNoFault (LinkFaults files) → HasNoFault (CheckFaults files) → HasNoFault (WorkspaceFaults given)
-no_fault given files r linked checked y h = none_of_files files r.clean linked checked y (of_one given files y r.named r.same r.workspace h)
+pub no_fault : (given files : List FileOf) → AreReadOf given files → HasNoFault (FileFaults files) → HasNoFault (WorkspaceFaults given)
+no_fault given files r clean y h = clean y (of_one given files y r.named r.same r.workspace h)

@@ -3,8 +3,9 @@
 ghost use Rattle.std.specs.Prelude.{◌≡◌, List, IfOk, IfErr};
 ghost use Rattle.proto_desc.specs.Checked.{AreDescribed};
 ghost use Rattle.proto_json.specs.Views.{files_desc};
-ghost use Rattle.proto_files.specs.Faults.{HasNoFault};
+ghost use Rattle.proto_files.specs.Faults.{HasNoFault, IsFilesError};
 ghost use Rattle.proto_files.specs.GivenFiles.{files_of};
+ghost use Rattle.proto_files.specs.ReadFaults.{ReadFaults};
 ghost use Rattle.proto_names.specs.LinkOfFiles.{IsLinkOf};
 ghost use Rattle.proto_files.specs.FilesRead.{ReadOf, AreRead};
 ghost use Rattle.proto_schema.specs.Answers.{IsOpenError};
@@ -44,6 +45,24 @@ impl Model for Schema {
         × (IsLinkOf s.files s.link × AreDescribed s.files (files_desc s.descriptors)) };
 }
 
+// The link of files that were read, and their descriptors, where they have no fault.
+fn linked(alloc: Global, files: &Files) -> Result<(Link, Descriptors), SchemaFault>
+    requires { HasNoFault (ReadFaults files.now) }
+    ensures clean { IfOk result (λ _. HasNoFault (FileFaults files.now)) }
+    ensures link { IfOk result (λ l. IsLinkOf files.now l.0) }
+    ensures described { IfOk result (λ l. AreDescribed files.now (files_desc l.1)) }
+    ensures fault { IfErr result (IsFilesError (FileFaults files.now)) }
+{
+    let link = Link::new(alloc, files)?;
+    match check(alloc, files, &link) {
+        Ok(descriptors) => Ok((link, descriptors)),
+        Err(fault) => {
+            link.release();
+            Err(fault)
+        }
+    }
+}
+
 impl Schema {
     /// The files given, as paths and bytes, in the order of their paths, where they compile; else
     /// their least fault by phase, path, offset and number, or want of memory.
@@ -54,13 +73,17 @@ impl Schema {
     {
         let paths = Paths::new(alloc, files)?;
         let files = Files::read(alloc, paths)?;
-        let link = Link::new(alloc, &files)?;
-        let descriptors = check(alloc, &files, &link)?;
-        Ok(Schema {
-            files,
-            link,
-            descriptors,
-        })
+        match linked(alloc, &files) {
+            Ok((link, descriptors)) => Ok(Schema {
+                files,
+                link,
+                descriptors,
+            }),
+            Err(fault) => {
+                files.release();
+                Err(fault)
+            }
+        }
     }
 
     /// The files, in the order of their paths.
@@ -90,5 +113,8 @@ impl Schema {
 
     /// Lets the schemas go. A crate that ends them by this call need not prove how each of their
     /// parts is dropped.
-    pub fn release(self) {}
+    pub fn release(self) {
+        self.files.release();
+        self.link.release();
+    }
 }

@@ -1,6 +1,6 @@
 //! Where the statement of a field stands.
 
-ghost use Rattle.std.specs.Prelude.{◌≡◌, Some, None, map, option_map};
+ghost use Rattle.std.specs.Prelude.{◌≡◌, Some, None, option_map};
 ghost use Rattle.proto_statement_laws.specs.Deletions.{first_of, first_token};
 ghost use Rattle.proto_statement_splices.specs.Fields.{field_among, field_if, field_in, place_of};
 ghost use Rattle.proto_tree.specs.declared.piece.Statement.TheVariants as statement;

@@ -2,7 +2,7 @@
 
 ghost use Rattle.std.specs.Prelude.{◌≡◌};
 ghost use Rattle.proto_statement_splices.specs.ImportPlaces.{behind_all, ends_in, ends_of};
-ghost use Rattle.proto_tree.specs.File.{item_tree, tree_of_file, trees};
+ghost use Rattle.proto_tree.specs.File.{item_tree, tree_of_file};
 
 use proto_tree::{File, Item};
 

@@ -13,7 +13,7 @@ use Rattle.std.specs.BTreeMap.{BTreeMap, UpdatesBy, get_by_text, is_at}
 use Rattle.std.specs.declared.cmp.Ordering.TheVariants.{Less}
 use Rattle.std.proofs.lemmas.Map.Text.{btree_map_updates_text, is_eq-slice_cmp}
 use Rattle.std.proofs.lemmas.List.{map-append, reverse-append}
-use Rattle.proto_files.specs.GivenFiles.{file_of, files_of, paths_of}
+use Rattle.proto_faults.specs.GivenFiles.{file_of, files_of, paths_of}
 use Rattle.proto_store.specs.Stores.{AreInPathOrder, bytes_at, with_bytes}
 use Rattle.proto_store.specs.Memory.{files_in}
 use Rattle.proto_store.proofs.PathOrder.{same_text}

@@ -5,7 +5,7 @@ use Rattle.std.specs.Global.{Vec, Global}
 use Rattle.std.specs.String.{string_bytes, string_cmp}
 use Rattle.std.specs.List.Sorted.{IsSorted, IsPermutation}
 use Rattle.std.proofs.lemmas.List.{map-append}
-use Rattle.proto_files.specs.GivenFiles.{FileOf, file_of, files_of, paths_of}
+use Rattle.proto_faults.specs.GivenFiles.{FileOf, file_of, files_of, paths_of}
 use Rattle.proto_store.specs.Stores.{AreInPathOrder, Held, HoldsBytes, HoldsFiles, IsListed, ListsPaths, bytes_at}
 use Rattle.proto_store.proofs.PathOrder.{bytes_at_place, sorted_paths}
 

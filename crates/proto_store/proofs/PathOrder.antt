@@ -15,7 +15,7 @@ use Rattle.std.proofs.lemmas.Slice.Eq.{bytes_eq-Decides}
 use Rattle.std.proofs.lemmas.List.Sums.{sum_by-cons}
 use Rattle.std.proofs.lemmas.List.Elements.{recursion_from_All}
 use Rattle.std.proofs.lemmas.List.Sorted.{Contains-permutation, sorted_far, ranks_by, sum_by-IsPermutation, IsPermutation-map, IsPermutation-trans, IsPermutation-sym}
-use Rattle.proto_files.specs.GivenFiles.{FileOf, paths_of}
+use Rattle.proto_faults.specs.GivenFiles.{FileOf, paths_of}
 use Rattle.proto_store.specs.Stores.{AreInPathOrder, Held, IsListed, ListsPaths, bytes_at}
 
 abbrev text_cmp : List ℕ → List ℕ → Ordering

@@ -8,7 +8,7 @@ use Rattle.std.specs.Cmp.Lexicographic.{slice_cmp}
 use Rattle.std.specs.Ordering.{nat_cmp}
 use Rattle.std.specs.declared.cmp.Ordering.TheVariants.{Less}
 use Rattle.std.proofs.lemmas.Slice.Eq.{bytes_eq-Decides}
-use Rattle.proto_files.specs.GivenFiles.{FileOf, paths_of}
+use Rattle.proto_faults.specs.GivenFiles.{FileOf, paths_of}
 use Rattle.proto_store.specs.Stores.{AreInPathOrder, bytes_at, with_bytes}
 use Rattle.proto_store.proofs.PathOrder.{differs_if_less, equal_itself}
 

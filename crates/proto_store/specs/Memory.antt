@@ -3,7 +3,7 @@ use Rattle.std.specs.Prelude.{◌≡◌, ◌⊎◌, ℕ, ◌+◌, ◌-◌, ◌�
 use Rattle.std.specs.Global.{Vec, Global}
 use Rattle.std.specs.BTreeMap.{BTreeMap}
 use Rattle.proto_faults.specs.Texts.{Path}
-use Rattle.proto_files.specs.GivenFiles.{FileOf, files_of}
+use Rattle.proto_faults.specs.GivenFiles.{FileOf, files_of}
 use Rattle.proto_store.specs.Stores.{Held, bytes_at}
 use Rattle.proto_store.specs.declared.memory.PlannedFailure.{PlannedFailure}
 use Rattle.proto_store.specs.declared.memory.Turn.{Turn}

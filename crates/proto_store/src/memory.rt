@@ -1,9 +1,9 @@
 //! Files in memory.
 
-ghost use Rattle.std.specs.Prelude.{◌≡◌, ◌⊎◌, ◌-◌, ◌^◌, ◌<◌, ◌+◌, IfOk, IfSome, IsErr, OnOk, OnErr, None, Some, map, option_map};
+ghost use Rattle.std.specs.Prelude.{◌≡◌, ◌⊎◌, ◌-◌, ◌^◌, ◌<◌, ◌+◌, IfOk, IfSome, IsErr, OnOk, OnErr, None, Some, map};
 ghost use Rattle.std.specs.String.{string_bytes};
 ghost use Rattle.std.specs.List.Sorted.{IsPermutation};
-ghost use Rattle.proto_files.specs.GivenFiles.{files_of, paths_of};
+ghost use Rattle.proto_faults.specs.GivenFiles.{files_of, paths_of};
 ghost use Rattle.proto_store.specs.Memory.{IsDue, IsTurn, KeepsLatest, Replaces, after_call, files_in, one_call_later};
 ghost use Rattle.proto_store.specs.Stores.{AreInPathOrder, Counts, HoldsBytes, HoldsJournal, IsListed, ListsPaths, bytes_at, with_bytes, with_file, with_journal};
 

@@ -1,6 +1,6 @@
 //! Where schema files are kept, with the journal of their edits.
 
-ghost use Rattle.std.specs.Prelude.{◌≡◌, ◌⊎◌, ℕ, ◌-◌, ◌^◌, ◌<◌, List, IfOk, OnOk, OnErr, codes, map, option_map};
+ghost use Rattle.std.specs.Prelude.{◌≡◌, ◌⊎◌, ℕ, ◌-◌, ◌^◌, ◌<◌, IfOk, OnOk, OnErr, codes, map, option_map};
 ghost use Rattle.std.specs.declared.option.Option.{Option};
 ghost use Rattle.std.specs.String.{string_bytes};
 ghost use Rattle.proto_store.specs.Stores.{Counts, Held, HoldsBytes, HoldsJournal, IsListed, ListsPaths, with_file, with_journal};

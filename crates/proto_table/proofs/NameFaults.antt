@@ -1,25 +1,24 @@
 -- The faults of names are the same where each file's package comes first, and names alone say them (for the crates above).
-use Rattle.std.proofs.Common.{◌≡◌, ◌≢◌, ◌↔◌, ℕ, suc, Bool, true, not, List, [], ◌∷◌, ◌++◌, map, refl, sym, ◌∙◌, ap, subst, inl, inr, arith}
-use Rattle.std.specs.List.{AllPairs, Contains, filter}
+use Rattle.std.proofs.Common.{◌≡◌, ◌≢◌, ◌↔◌, ℕ, suc, Bool, true, not, List, [], ◌∷◌, ◌++◌, map, refl, sym, ◌∙◌, ap, subst, inl, inr}
+use Rattle.std.specs.List.{Contains, filter}
 use Rattle.std.proofs.lemmas.Bool.{cases_Bool}
 use Rattle.proto_meaning.specs.declared.kind.Kind.TheVariants.{Package}
 use Rattle.proto_meaning.specs.Names.{Symbol}
 use Rattle.proto_case.specs.Camel.{entry_name}
-use Rattle.proto_meaning.specs.Skeleton.{Source, Token, EntryOf, Given, Declared, Skeleton, name_of, symbol_of, shifted_source, shifted_declared}
-use Rattle.proto_meaning.specs.Linked.{AreApart, IsNested, is_package}
+use Rattle.proto_meaning.specs.Skeleton.{Source, Token, EntryOf, Given, Declared, name_of, symbol_of, shifted_source, shifted_declared}
+use Rattle.proto_meaning.specs.Linked.{is_package}
 use Rattle.proto_meaning.specs.Tree.{Placed, file_placed}
 use Rattle.proto_listing.specs.Listing.{package_first, whole}
 use Rattle.proto_meaning.specs.Grown.{FileNames, At, at, declared_of, file_declared, all_declared}
 use Rattle.proto_meaning.specs.Faults as declared
-use Rattle.proto_meaning.specs.Faults.{Fault, fault, NameFault, ReferenceFault, unresolved, wrong_kind, of_entry, place_from, place_of}
+use Rattle.proto_meaning.specs.Faults.{Fault, fault, NameFault, place_from, place_of}
 use Rattle.proto_table.specs.Spelled as named
 use Rattle.proto_table.specs.Spelled.{Named, ClashFault, symbol_named}
 use Rattle.proto_table.specs.Naming.{AreSpans, named_as, tree_named}
 use Rattle.proto_text.proofs.Lists.{contains_map, from_map}
 use Rattle.proto_meaning.proofs.Following.{Follows, follows_after, after_follows, follows_first, follows_second, follows_map, map_follows, follows_kept, kept_follows}
 use Rattle.proto_table.proofs.Gathered.{gathered, gathered_map, is_other, same_gathered, same_others}
-use Rattle.proto_meaning.proofs.Sound.{package_from, package_or, linked_from, names_sound}
-use Rattle.proto_meaning.proofs.Files.{files_nested}
+use Rattle.proto_meaning.proofs.Sound.{package_from, package_or}
 
 -- ---- the declarations of the skeleton by their names
 
@@ -149,30 +148,3 @@ clashes_are_faults text fs spans f =
           subst (λ (ds : List Named). ClashFault ds f) (sym (tree_gathered text 0 fs))
           (clash_moves other one (λ d. (same_gathered (names text) 0 fs spans d).1) (sym order) f (subst (λ (ds : List Named). ClashFault ds f) (declared_names text fs) (to_clash text (all_declared 0 fs) f c))),
     )
-
--- ---- symbols that are apart
-
--- the files' names without their references
-abbrev bare : List FileNames → Skeleton At
-bare fs = record { files = 0; declared = all_declared 0 fs; imports = []; used = [] }
-
-no_reference_fault : (text : At → List ℕ) (fs : List FileNames) (f : Fault) → ReferenceFault text (bare fs) f → ⊥
-no_reference_fault text fs f (unresolved u c h) = absurd (omega (arith, c.1))
-no_reference_fault text fs f (wrong_kind u s c cs h m e) = absurd (omega (arith, c.1))
-no_reference_fault text fs f (of_entry u s c cs h e) = absurd (omega (arith, c.1))
-
-pub unique_names : (text : At → List ℕ) (fs : List FileNames)
-    → ((f : Fault) → NameFault text (all_declared 0 fs) f → ⊥) ↔ AllPairs AreApart (map (symbol_of text entry_name) (all_declared 0 fs))
-unique_names text fs = (
-  λ none. (linked_from text (bare fs) nested none (no_reference_fault text fs)).unique,
-  λ apart. names_sound text (bare fs) (record {
-    nested = nested;
-    unique = apart;
-    resolved = λ r c. absurd (omega (arith, c.1));
-    no_entry = λ r c. absurd (omega (arith, c.1));
-    right_kind = λ r c. absurd (omega (arith, c.1));
-  }),
-)
-  where
-    nested : IsNested (map (symbol_of text entry_name) (all_declared 0 fs))
-    nested = files_nested text entry_name [] fs

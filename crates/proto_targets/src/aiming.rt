@@ -1,6 +1,6 @@
 //! What a name aims at.
 
-ghost use Rattle.std.specs.Prelude.{◌≡◌, ◌≢◌, ◌<◌, ◌↔◌, ◌++◌, List, ℕ, true, IsTrue, IfOk, IfErr, IfSome, IfNone, Some, length};
+ghost use Rattle.std.specs.Prelude.{◌≡◌, ◌<◌, ◌↔◌, ◌++◌, List, ℕ, true, IsTrue, IfOk, IfErr, IfSome, IfNone, Some, length};
 ghost use Rattle.proto_case.specs.Camel.{entry_name};
 ghost use Rattle.proto_files.specs.Faults.{HasNoFault};
 ghost use Rattle.proto_files.specs.FilesRead.{ReadOf, AreRead};

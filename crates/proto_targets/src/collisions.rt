@@ -1,6 +1,6 @@
 //! Whether a new name is that of another symbol.
 
-ghost use Rattle.std.specs.Prelude.{◌≡◌, ◌↔◌, ◌++◌, List, ℕ, true, IsTrue, IfOk, option_map};
+ghost use Rattle.std.specs.Prelude.{◌≡◌, ◌↔◌, ◌++◌, List, true, IsTrue, IfOk, option_map};
 ghost use Rattle.proto_files.specs.Faults.{HasNoFault};
 ghost use Rattle.proto_files.specs.FilesRead.{ReadOf, AreRead};
 ghost use Rattle.proto_imports.specs.Links.{LinkFaults, names_of_files};

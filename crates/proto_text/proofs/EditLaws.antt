@@ -1,10 +1,10 @@
 -- Edits, one after the other (for the crates above).
-use Rattle.std.proofs.Common.{◌≡◌, ℕ, ◌+◌, ◌-◌, ◌<◌, ◌≤◌, List, [], ◌∷◌, ◌++◌, length, get_or, set, take, drop, refl, sym, ap, subst, ◌∙◌, arith, append_assoc}
-use Rattle.std.proofs.lemmas.List.{drop_all, drop_more, take_more_set, drop-set-lt, length-append, length-take, take-append-drop, take_at, drop_at}
+use Rattle.std.proofs.Common.{◌≡◌, ℕ, ◌+◌, ◌-◌, ◌<◌, ◌≤◌, List, [], ◌∷◌, ◌++◌, length, get_or, take, drop, refl, sym, ap, subst, ◌∙◌, arith, append_assoc}
+use Rattle.std.proofs.lemmas.List.{drop_all, drop_more, take_at, drop_at}
 use Rattle.std.specs.String.{string_bytes}
 use Rattle.proto_text.specs.declared.splice.Splice.{Splice}
 use Rattle.proto_text.specs.Splicing.{edit_of, edits}
-use Rattle.proto_text.specs.Edits.{Edit, IsCut, Puts, AreShort, inverse_of, inverse_from, InverseLeadsBack}
+use Rattle.proto_text.specs.Edits.{Edit, IsCut, Puts, AreShort, inverse_from, InverseLeadsBack}
 
 leads_back : (to from : ℕ) (text new : List ℕ) (es : List Edit) → Puts from text es new → Puts to new (inverse_from to from es) text
 leads_back to from text new [] p = sym p
@@ -19,9 +19,6 @@ inverse_leads_back text new es p = leads_back 0 0 text new es p
 pub record PutsUpTo (text : List ℕ) (all : List Edit) (from : ℕ) (rest front : List ℕ) (es : List Edit) : Type 0 where
   pub forth : (more : List ℕ) → Puts from rest es more → Puts 0 text all (front ++ more)
   pub back : (new : List ℕ) → Puts 0 text all new → (more : List ℕ) × (new ≡ front ++ more) × Puts from rest es more
-
-pub puts_none : (text : List ℕ) (all : List Edit) → PutsUpTo text all 0 text [] all
-puts_none text all = record { forth = λ more p. p; back = λ new p. (new, refl, p) }
 
 -- the two parts of a text are told by their lengths
 pub cut : (a x b y : List ℕ) → a ++ x ≡ b ++ y → length a ≡ length b → (a ≡ b) × (x ≡ y)
@@ -55,18 +52,8 @@ puts_stops text all from rest front e es so_far none new p = let b = so_far.back
 pub puts_all : (text : List ℕ) (all : List Edit) (from : ℕ) (rest front : List ℕ) (es : List Edit) → PutsUpTo text all from rest front es → es ≡ [] → Puts 0 text all (front ++ rest)
 puts_all text all from rest front es so_far none = so_far.forth rest (subst (λ (es : List Edit). Puts from rest es rest) (sym none) refl)
 
--- where no cut can be
-pub cut_length : (rest : List ℕ) (from at : ℕ) (old kept after : List ℕ) → IsCut rest from at old kept after → (from ≤ at) × ((at - from) + length old ≤ length rest)
-cut_length rest from at old kept after is = let l = ap length is.0 in let m = length-append kept (old ++ after) in let n = length-append old after in (omega (arith, is.1), omega (arith, is.1))
-
 pub cut_old : (rest : List ℕ) (from at : ℕ) (old kept after : List ℕ) → IsCut rest from at old kept after → take (length old) (drop (at - from) rest) ≡ old
 cut_old rest from at old kept after is = ap (λ (t : List ℕ). take (length old) (drop (at - from) t)) is.0 ∙ ap (take (length old)) (drop_at kept (old ++ after) (at - from) (omega (arith, is.1))) ∙ take_at old after (length old) refl
-
-pub is_cut : (rest : List ℕ) (from at : ℕ) (old : List ℕ) → from ≤ at → at - from ≤ length rest → take (length old) (drop (at - from) rest) ≡ old → IsCut rest from at old (take (at - from) rest) (drop (length old) (drop (at - from) rest))
-is_cut rest from at old le fits there = (
-  sym (take-append-drop (at - from) rest) ∙ ap (λ (t : List ℕ). take (at - from) rest ++ t) (sym (take-append-drop (length old) (drop (at - from) rest)) ∙ ap (λ (t : List ℕ). t ++ drop (length old) (drop (at - from) rest)) there),
-  omega (arith, length-take (at - from) rest),
-)
 
 pub drop_item : (xs : List Splice) (i : ℕ) (x : Splice) → i < length xs → x ≡ get_or xs i x → edits (drop i xs) ≡ edit_of x ∷ edits (drop (i + 1) xs)
 drop_item xs i x lt is = ap edits (drop_more xs i x lt ∙ ap (λ (y : Splice). y ∷ drop (i + 1) xs) (sym is))
@@ -89,22 +76,9 @@ put_ends text xs i from rest front made so_far end is = subst (Puts 0 text (edit
 
 -- ---- the loop that turns the edits round
 
-pub head_short : (xs : List Splice) (i to from : ℕ) (x : Splice) → i < length xs → x ≡ get_or xs i x → AreShort to from (edits (drop i xs)) → AreShort to from (edit_of x ∷ edits (drop (i + 1) xs))
-head_short xs i to from x lt is h = subst (AreShort to from) (drop_item xs i x lt is) h
-
 edits_push : (xs : List Splice) (y : Splice) → edits (xs ++ y ∷ []) ≡ edits xs ++ edit_of y ∷ []
 edits_push [] y = refl
 edits_push (x ∷ xs) y = ap (λ (es : List Edit). edit_of x ∷ es) (edits_push xs y)
-
-pub turn_step : (xs : List Splice) (i to from : ℕ) (x y : Splice) (total : List Edit) → i < length xs → x ≡ get_or xs i x → edit_of y ≡ inverse_of to from (edit_of x)
-    → edits (take i xs) ++ inverse_from to from (edits (drop i xs)) ≡ total
-    → edits (take (i + 1) (set xs i y)) ++ inverse_from ((to + (x.at - from)) + length (string_bytes x.new)) (x.at + length (string_bytes x.old)) (edits (drop (i + 1) (set xs i y))) ≡ total
-turn_step xs i to from x y total lt is turned h =
-    let next : List Edit = inverse_from ((to + (x.at - from)) + length (string_bytes x.new)) (x.at + length (string_bytes x.old)) (edits (drop (i + 1) xs)) in
-    let front : edits (take (i + 1) (set xs i y)) ≡ edits (take i xs) ++ inverse_of to from (edit_of x) ∷ [] = ap edits (take_more_set xs i y lt) ∙ edits_push (take i xs) y ∙ ap (λ (e : Edit). edits (take i xs) ++ e ∷ []) turned in
-    let rest : drop (i + 1) (set xs i y) ≡ drop (i + 1) xs = drop-set-lt (i + 1) xs i y (omega arith) in
-    let here : inverse_from to from (edits (drop i xs)) ≡ inverse_of to from (edit_of x) ∷ next = ap (inverse_from to from) (drop_item xs i x lt is) in
-    rw (front, rest) (append_assoc (edits (take i xs)) (inverse_of to from (edit_of x) ∷ []) next ∙ ap (λ (t : List Edit). edits (take i xs) ++ t) (sym here) ∙ h)
 
 -- ---- the loop that tests the limits
 
@@ -112,15 +86,6 @@ turn_step xs i to from x y total lt is turned h =
 pub record TestsUpTo (all : List Edit) (to from : ℕ) (es : List Edit) : Type 0 where
   pub forth : AreShort to from es → AreShort 0 0 all
   pub back : AreShort 0 0 all → AreShort to from es
-
-pub tests_more : (xs : List Splice) (i to from : ℕ) (x : Splice) → i < length xs → x ≡ get_or xs i x → TestsUpTo (edits xs) to from (edits (drop i xs)) → from ≤ x.at → x.at + length (string_bytes x.old) ≤ 1048576 → (to + (x.at - from)) + length (string_bytes x.new) ≤ 1048576
-    → TestsUpTo (edits xs) ((to + (x.at - from)) + length (string_bytes x.new)) (x.at + length (string_bytes x.old)) (edits (drop (i + 1) xs))
-tests_more xs i to from x lt is so_far a b c =
-    let here = subst (TestsUpTo (edits xs) to from) (drop_item xs i x lt is) so_far in
-    record { forth = λ h. here.forth (a, b, c, h); back = λ h. (here.back h).3 }
-
-pub tests_fail : (xs : List Splice) (i to from : ℕ) (x : Splice) → i < length xs → x ≡ get_or xs i x → TestsUpTo (edits xs) to from (edits (drop i xs)) → (AreShort to from (edit_of x ∷ edits (drop (i + 1) xs)) → ⊥) → AreShort 0 0 (edits xs) → ⊥
-tests_fail xs i to from x lt is so_far fails h = fails (subst (AreShort to from) (drop_item xs i x lt is) (so_far.back h))
 
 pub inverse_short : (to from : ℕ) (es : List Edit) → AreShort to from es → AreShort from to (inverse_from to from es)
 inverse_short to from [] h = tt

@@ -139,9 +139,6 @@ utf8_pieces (p ∷ ps) is u =
       utf8_pieces ps is.2 (subst IsUtf8 (drop_at p.bytes (text_of ps) (length p.bytes) refl) (IsUtf8-drop (p.bytes ++ text_of ps) (length p.bytes) u seam)),
     )
 
-letter_low : (b : ℕ) → class_of b ≡ Letter → b < 128
-letter_low b e = classed_is_low b Letter e (λ z. cc)
-
 extends_low : (b : ℕ) (k : Class) → class_of b ≡ k → extends_word k ≡ true → b < 128
 extends_low b Space e h = absurd (cc)
 extends_low b Letter e h = classed_is_low b Letter e (λ z. cc)

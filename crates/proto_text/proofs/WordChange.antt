@@ -10,14 +10,6 @@ use Rattle.proto_text.specs.Classes.{class_of, is_identifier, extends_word}
 use Rattle.proto_text.specs.Pieces.{Piece, IsRun, is_in_line, IsLexeme, EndsBefore, text_of, ArePieces}
 use Rattle.proto_text.specs.Renames.{IsWord, SameButWords, WordsMayChange}
 
--- the first byte
-abbrev FirstByte : List ℕ → Type 0
-FirstByte bytes = (b : ℕ) × (more : List ℕ) × (bytes ≡ b ∷ more)
-
-run_byte : (bytes : List ℕ) → IsRun Letter bytes → FirstByte bytes
-run_byte [] run = absurd run
-run_byte (b ∷ more) run = (b, more, refl)
-
 -- what may stand behind a piece is told by the first byte
 ends_at : (kind : PieceKind) (b : ℕ) (x y : List ℕ) → EndsBefore kind (b ∷ x) → EndsBefore kind (b ∷ y)
 ends_at Blank b x y h = tt

@@ -307,3 +307,9 @@ pub enum Item {
 pub struct File {
     pub items: Vec<Item>,
 }
+
+impl File {
+    /// Lets the tree go. A crate that ends it by this call need not prove how each of its
+    /// parts is dropped.
+    pub fn release(self) {}
+}

@@ -12,7 +12,7 @@ use Rattle.clap.specs.declared.error.kind.ErrorKind.TheVariants as kind
 use Rattle.clap.proofs.WalkLemmas.{both}
 use Rattle.proto_faults.specs.Texts.{Text}
 use Rattle.proto_findings.specs.declared.rule_set.RuleSet.{RuleSet}
-use Rattle.protoref_words.specs.CommandLines.{Asked, asked, bad_line, help, lint, taken}
+use Rattle.protoref_words.specs.CommandLines.{Asked, bad_line, help, lint, taken}
 use Rattle.protoref_words.specs.Matched.{asked_of}
 use Rattle.protoref_words.specs.Program.{program}
 use Rattle.protoref_words.specs.Requests.{IsAnswerTo, IsHelpOf, IsSetFor, IsTextOf}
