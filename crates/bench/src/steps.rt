@@ -2,9 +2,9 @@
 
 ghost use Rattle.proto_names.specs.LinkOfFiles.{IsLinkOf};
 
+use crate::Given;
 use crate::counts::Counts;
 use crate::report::{Report, report_on};
-use crate::{Given, files_at};
 use proto_desc::{Descriptors, to_json};
 use proto_faults::{NoMemory, SchemaFault};
 use proto_files::{Files, Paths};

@@ -23,11 +23,11 @@ use Rattle.proto_imports.specs.Links.{uses_of}
 use Rattle.proto_rename_laws.specs.Cases.{Captures, StandsBefore}
 use Rattle.proto_rename_laws.specs.Targets.{Target, name_map}
 use Rattle.proto_rename_laws.proofs.Inside.{tokens_are_inside}
-use Rattle.proto_targets.specs.Aims.{IsAimOf, IsAimedAt}
-use Rattle.proto_targets.specs.declared.aim.Aim.{Aim}
+use Rattle.proto_captures.specs.Aims.{IsAimOf, IsAimedAt}
+use Rattle.proto_captures.specs.declared.aim.Aim.{Aim}
 use Rattle.proto_captures.specs.FirstCaptured.{AreNewNames, IsFirstCaptured, IsFirstIn, IsRenameOf}
 use Rattle.proto_captures.specs.NewTexts.{NewTexts, texts_by}
-use Rattle.proto_captures.proofs.PlainWords.{word_plain}
+use Rattle.proto_captures.proofs.JoinedNames.{word_is_plain}
 
 pub if_ok : {A E : Type 0} {P Q : A → Type 0} (r : Result A E) → IfOk r P → ((x : A) → P x → Q x) → IfOk r Q
 if_ok (Ok x) h f = f x h
@@ -96,7 +96,7 @@ aim_inside files aim r is =
 
 module _ (files : List FileOf) (aim : Aim) (to : List ℕ) (reads : List ReadOf) (are : AreRead files reads) (t : Target) (aimed : IsAimedAt files reads aim t) where
   pub rename_of : HasNoFault (LinkFaults files) → is_run to ≡ true → (Collides (name_map files reads t to) (names_of_files files reads) → ⊥) → IsRenameOf files reads t to
-  rename_of clean word free = record { read = are; clean = clean; name = aim.name.now; named = aimed.named; word = word_plain to word; free = free }
+  rename_of clean word free = record { read = are; clean = clean; name = aim.name.now; named = aimed.named; word = word_is_plain to word; free = free }
 
   pub names_of_aim : (ls : List Lexeme) (n : NewTexts) → aim.file < length files → ((tokens : List TextToken) → AreTokensOf files aim.file tokens → ls ≡ map (lexeme_at (file_at files aim.file).bytes) tokens)
       → n ≡ texts_by aim.name.now (word_at ls aim.token) aim.is_map to → AreNewNames files reads t to n

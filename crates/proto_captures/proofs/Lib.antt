@@ -1,3 +1,5 @@
+mod Aimed
+pub mod Aims
 mod AllFiles
 mod ByTexts
 mod CapturedWords
@@ -5,7 +7,11 @@ mod FileCaptures
 mod FileOvertaken
 mod FirstOnes
 mod FrontLengths
+mod IfOks
+mod JoinedNames
 mod KindNamed
+mod LookedUp
+mod NewNames
 mod NewlyShown
 mod Overtaken
 mod PackageSets
@@ -13,4 +19,5 @@ mod PackagesSeen
 mod PlainWords
 mod ScopePaths
 mod SeenTexts
+mod Taken
 mod UsesByTexts

@@ -1,43 +1,12 @@
--- A word of identifier characters is plain; and a reference stands in scopes that are declared.
-use Rattle.std.proofs.Common.{◌≡◌, ◌≢◌, ℕ, zero, suc, Bool, true, false, ◌||◌, List, [], ◌∷◌, ◌++◌, length, take, drop, refl, sym, ap, subst, ◌∙◌, inl, inr, arith, length-append, append_assoc}
-use Rattle.std.specs.Prelude.{◌==◌}
-use Rattle.std.specs.List.{Contains, list_any}
-use Rattle.std.proofs.lemmas.Bool.{cases_Bool, eqb-true}
+-- A reference stands in scopes that are declared, and so their words are plain.
+use Rattle.std.proofs.Common.{◌≡◌, ◌≢◌, ℕ, zero, suc, List, [], ◌∷◌, ◌++◌, length, take, drop, refl, sym, ap, subst, ◌∙◌, arith, length-append, append_assoc}
+use Rattle.std.specs.List.{Contains}
 use Rattle.std.proofs.lemmas.List.{append-nil, take-append-drop, take-map, take_at}
-use Rattle.proto_text.specs.declared.class.Class.TheVariants.{Letter}
-use Rattle.proto_text.specs.Bytes.{Each}
-use Rattle.proto_text.specs.Classes.{class_of, extends_word, is_identifier}
-use Rattle.proto_text.specs.Pieces.{IsRun}
-use Rattle.proto_text.specs.Words.{is_run}
 use Rattle.proto_text.proofs.Lists.{contains_map}
-use Rattle.proto_text.proofs.WordTest.{run_is}
-use Rattle.proto_meaning.specs.Joined.{ArePlain, IsPlain}
+use Rattle.proto_meaning.specs.Joined.{ArePlain}
 use Rattle.proto_meaning.specs.Names.{Reference, Symbol, Workspace}
 use Rattle.proto_meaning.specs.Skeleton.{Source, Declared, Used, Skeleton, IsWoven, name_of, reference_of, spell, symbol_of, workspace_of}
 use Rattle.proto_rename_laws.specs.Captures.{HasScope}
-
-differ : false ≡ true → ⊥
-differ e = cc
-
-no_point : (b : ℕ) → is_identifier b ≡ true → (b == 46) ≡ false
-unfolding class_of
-no_point b h = elim (cases_Bool (b == 46)) [
-  | inr f ↦ f
-  | inl t ↦ absurd (differ (sym (ap is_identifier (eqb-true b 46 t)) ∙ h))
-]
-
-none_pointed : (bytes : List ℕ) → Each is_identifier bytes → list_any (λ b. b == 46) bytes ≡ false
-none_pointed [] h = refl
-none_pointed (b ∷ bytes) h = ap (λ (t : Bool). t || list_any (λ b. b == 46) bytes) (no_point b h.0) ∙ none_pointed bytes h.1
-
-run_plain : (w : List ℕ) → IsRun Letter w → IsPlain w
-run_plain [] h = absurd h
-run_plain (b ∷ bytes) h = (none_pointed (b ∷ bytes) (ap extends_word h.0, h.1), λ e. cc)
-
-pub word_plain : (w : List ℕ) → is_run w ≡ true → IsPlain w
-word_plain w h = run_plain w (run_is w h)
-
--- ---- scopes
 
 split_source : {X : Type 0} (b : List (Source X)) → b ≢ [] → (a : List (Source X)) × (x : Source X) × (b ≡ a ++ x ∷ [])
 split_source [] h = absurd (h refl)

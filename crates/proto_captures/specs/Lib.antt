@@ -5,3 +5,6 @@ pub mod OvertakenLaw
 pub mod Overtaking
 pub mod ShownAnew
 pub mod ShownTexts
+pub mod Aims
+pub mod Collisions
+pub mod Looked

@@ -10,10 +10,11 @@ ghost use Rattle.proto_listing.specs.Listing.{IsSound};
 ghost use Rattle.proto_meaning.specs.Edits.{Collides};
 ghost use Rattle.proto_names.specs.LinkOfFiles.{IsLinkOf};
 ghost use Rattle.proto_rename_laws.specs.Targets.{Target, name_map};
-ghost use Rattle.proto_targets.specs.Aims.{IsAimOf, IsAimedAt};
+ghost use Rattle.proto_captures.specs.Aims.{IsAimOf, IsAimedAt};
 ghost use Rattle.proto_text.specs.Texts.{word_at};
 ghost use Rattle.proto_text.specs.Words.{is_run};
 
+use crate::aim::Aim;
 use crate::capturing::{is_captured, meaning};
 use crate::names::NewNames;
 use proto_faults::NoMemory;
@@ -22,7 +23,6 @@ use proto_listing::file_listing::list_file;
 use proto_listing::listing::Listing;
 use proto_names::laws::visible_is_seen;
 use proto_names::{Link, Meant, RefId};
-use proto_targets::Aim;
 use std::alloc::Global;
 
 /// The first token of the first reference of a list that is captured. What

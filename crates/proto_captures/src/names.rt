@@ -4,10 +4,10 @@ ghost use Rattle.std.specs.Prelude.{◌≡◌, ◌<◌, IfOk};
 ghost use Rattle.proto_text.specs.Texts.{word_at};
 ghost use Rattle.proto_captures.specs.NewTexts.{entry_texts, entry_words, is_new_word, texts_of, texts_by};
 
+use crate::aim::Aim;
 use proto_case::entry_name;
 use proto_faults::NoMemory;
 use proto_files::Words;
-use proto_targets::Aim;
 use std::alloc::Global;
 
 /// The simple names of a map field's entry, before and after.

@@ -5,11 +5,9 @@ ghost use Rattle.proto_tree.specs.File.{item_tree, tree_of_file, trees};
 ghost use Rattle.proto_described.specs.Described.{file_described, messages_described, package_prefix};
 ghost use Rattle.proto_json.specs.Views.{file_desc, messages_desc};
 
+use crate::described_items::{enum_descriptors, message_descriptors, prefix, service_descriptors};
 use crate::file_options::{syntax, written_options};
 use crate::head::head;
-use proto_described::described_file::{
-    enum_descriptors, message_descriptors, prefix, service_descriptors,
-};
 use proto_faults::NoMemory;
 use proto_json::{FileDescriptor, MessageDescriptor};
 use proto_parts::Scene;

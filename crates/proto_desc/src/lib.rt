@@ -3,6 +3,7 @@
 
 mod checking;
 mod described;
+mod described_items;
 mod file_options;
 mod head;
 mod json_form;

@@ -1,4 +1,4 @@
--- What stands right in a message or a file, of trees that stand one behind another.
+-- What stands right in a message or a file, of trees that stand one behind another (for the crates above).
 use Rattle.std.proofs.Common.{◌≡◌, ℕ, ◌+◌, ◌<◌, ◌≤◌, List, [], ◌∷◌, ◌++◌, length, get_or, take, drop, refl, sym, ap, ◌∙◌, map, append_assoc}
 use Rattle.std.specs.Prelude.{Option, option_to_list}
 use Rattle.std.proofs.lemmas.List.{append-nil, at_drop_more, at_drop_all, map-append, take_more}

@@ -97,8 +97,8 @@ fn reserved(
     Ok((numbers, strings(alloc, scene, &names)?))
 }
 
-/// Puts the descriptor of an enum behind those found.
-pub(crate) fn push_enum(
+/// Puts the descriptor of an enum behind those found. Fails for want of memory alone.
+pub fn push_enum(
     alloc: Global,
     scene: &Scene,
     found: &mut Vec<EnumDescriptor>,

@@ -26,9 +26,10 @@ use proto_parts::{
 use proto_tree::{Member, Message, Range};
 use std::alloc::Global;
 
-/// The message, and those nested in it, right below the name around it.
+/// The message, and those nested in it, right below the name around it. Fails for want of memory
+/// alone, as do all of this crate.
 #[cycle(messages)]
-pub(crate) fn message_descriptor(
+pub fn message_descriptor(
     alloc: Global,
     scene: &Scene,
     around: &str,

@@ -19,8 +19,8 @@ pub(crate) fn below(alloc: Global, full: &str, word: &str) -> Result<String, NoM
     Ok(name)
 }
 
-/// A full name behind a dot.
-pub(crate) fn absolute(alloc: Global, name: &str) -> Result<String, NoMemory>
+/// A full name behind a dot. Fails for want of memory alone.
+pub fn absolute(alloc: Global, name: &str) -> Result<String, NoMemory>
     ensures { IfOk result (λ s. string_bytes s ≡ absolute name.now) }
 {
     below(alloc, "", name)

@@ -101,8 +101,8 @@ fn method_descriptors(
     Ok(descriptors)
 }
 
-/// The service with its methods.
-pub(crate) fn service_descriptor(
+/// The service with its methods. Fails for want of memory alone.
+pub fn service_descriptor(
     alloc: Global,
     scene: &Scene,
     service: &Service,

@@ -2,8 +2,8 @@
 
 use super::calls::texts;
 use super::rows::{DONE, ONE};
-use proto_edit::{Change, Entry};
 use proto_edit_rows::{Said, Step, are_texts, edit_of, is_said, open};
+use proto_journal::{Change, Entry};
 use proto_text::{Splice, Splices};
 use std::process::Abort;
 

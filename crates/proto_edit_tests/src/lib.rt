@@ -1,4 +1,4 @@
-//! Tests of the workspace and of all edits, through its public calls alone.
+//! Tests of the workspace, of all edits and of their journal, through the public calls alone.
 #![tactic(auto)]
 
 #[cfg(test)]
@@ -11,6 +11,8 @@ mod deletions;
 mod entries;
 #[cfg(test)]
 mod imports;
+#[cfg(test)]
+mod journal;
 #[cfg(test)]
 mod lists;
 #[cfg(test)]

@@ -11,7 +11,7 @@ mod writing;
 
 pub use committing::commit;
 pub use loading::{LoadFault, all_files, load};
-pub use proto_edit::{Change, Edit, Entry, NoMemory, Refusal, Workspace};
+pub use proto_edit::{Change, Edit, Entry, NoMemory, Refusal, Workspace, to_json};
 pub use proto_records::{JournalFault, Record, State, entry_text, read_entry, read_records};
 pub use proto_recovery::recover;
 pub use proto_store::{FolderStore, MemoryStore, Store, StoreFault};

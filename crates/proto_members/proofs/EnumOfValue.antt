@@ -34,8 +34,8 @@ use Rattle.proto_rename_laws.proofs.Declarations.{declared_there, ends_with_toke
 use Rattle.proto_rename_laws.proofs.NoLinkFault.{files_are_woven}
 use Rattle.proto_rename_laws.proofs.OneTarget.{place_last}
 use Rattle.proto_rename_laws.proofs.Scenes.{find_there, index_map}
-use Rattle.proto_targets.specs.Aims.{IsAimedAt}
-use Rattle.proto_targets.specs.declared.aim.Aim.{Aim}
+use Rattle.proto_captures.specs.Aims.{IsAimedAt}
+use Rattle.proto_captures.specs.declared.aim.Aim.{Aim}
 use Rattle.proto_members.specs.Blocks.{holders_in, may_hold}
 use Rattle.proto_members.specs.Members.{has_value, holds_value, name_token}
 use Rattle.proto_members.proofs.AimedAt.{aim_inside}

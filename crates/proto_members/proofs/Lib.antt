@@ -1,8 +1,6 @@
-mod AimedAt
+pub mod AimedAt
 mod BlockTrees
-mod DefaultTexts
 mod EnumOfValue
-mod JsonClashes
-mod MemberTests
+pub mod MemberTests
 mod OneScene
 mod ReservedNames

@@ -1,4 +1,4 @@
--- Tests of the blocks that have members, and what they say of all blocks.
+-- Tests of the blocks that have members, and what they say of all blocks (for the crates above).
 use Rattle.std.proofs.Common.{◌≡◌, ℕ, ◌<◌, ◌==◌, Bool, true, false, cond, List, [], ◌∷◌, length, map, refl, sym, ap, subst, ◌∙◌, inl, inr, arith}
 use Rattle.std.specs.List.{Contains, filter}
 use Rattle.std.proofs.lemmas.Bool.{cond-true, eq-eqb, eqb-true}

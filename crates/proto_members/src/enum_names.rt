@@ -7,17 +7,17 @@ ghost use Rattle.proto_files.specs.FilesRead.{AreRead, ReadOf};
 ghost use Rattle.proto_meaning.specs.Joined.{joined};
 ghost use Rattle.proto_meaning.specs.declared.kind.Kind.TheVariants.{Value};
 ghost use Rattle.proto_rename_laws.specs.Targets.{Target};
-ghost use Rattle.proto_targets.specs.Aims.{IsAimOf, IsAimedAt};
+ghost use Rattle.proto_captures.specs.Aims.{IsAimOf, IsAimedAt};
 ghost use Rattle.proto_members.specs.Blocks.{block_of, holders_in};
 ghost use Rattle.proto_members.specs.Members.{holds_value, name_token};
 
 use crate::blocks::{BlockAt, blocks_of};
 use crate::members::has_value;
+use proto_captures::Aim;
 use proto_faults::NoMemory;
 use proto_files::{Files, Words, are_read};
 use proto_meaning::Kind;
 use proto_parts::values;
-use proto_targets::Aim;
 use proto_tree::File;
 use std::alloc::Global;
 

@@ -1,16 +1,15 @@
-//! What the blocks of a file say of a field or a value: reserved names, JSON names, the enum of a
-//! value, and the defaults that mean it.
+//! The blocks of a file, and what they say of a field or a value: reserved names, and the enum of a
+//! value.
 #![tactic(auto)]
 
 mod blocks;
-mod defaults;
 mod enum_names;
-mod json_names;
 mod members;
 mod reserved;
 mod scenes;
 
-pub use defaults::renamed_defaults_in;
+pub use blocks::{BlockAt, blocks_of};
 pub use enum_names::enum_name;
-pub use json_names::clashes;
+pub use members::oneof_fields;
 pub use reserved::is_reserved;
+pub use scenes::scene;

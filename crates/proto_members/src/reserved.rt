@@ -7,17 +7,17 @@ ghost use Rattle.proto_files.specs.FilesRead.{AreRead, ReadOf};
 ghost use Rattle.proto_parts.specs.Parts.{fields_in, reserved_names_in, values_in};
 ghost use Rattle.proto_rename_laws.specs.Cases.{Reserves};
 ghost use Rattle.proto_rename_laws.specs.Targets.{Target};
-ghost use Rattle.proto_targets.specs.Aims.{IsAimOf, IsAimedAt};
+ghost use Rattle.proto_captures.specs.Aims.{IsAimOf, IsAimedAt};
 ghost use Rattle.proto_members.specs.Blocks.{block_of};
 ghost use Rattle.proto_members.specs.Members.{has_field, has_value, reserves, says};
 
 use crate::blocks::{BlockAt, blocks_of};
 use crate::members::{has_field, has_value};
 use crate::scenes::scene;
+use proto_captures::Aim;
 use proto_faults::NoMemory;
 use proto_files::{Files, are_read};
 use proto_parts::{Scene, enum_reserved_names, fields_of, reserved_names, values};
-use proto_targets::Aim;
 use proto_tree::{EnumItem, Member};
 use std::alloc::Global;
 

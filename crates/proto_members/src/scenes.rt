@@ -8,8 +8,9 @@ use proto_files::{Files, Words};
 use proto_parts::{Scene, is_proto3};
 use std::alloc::Global;
 
-/// The texts, strings and version of a file; nothing of what its references mean.
-pub(crate) fn scene<'a>(alloc: Global, files: &'a Files, file: u32) -> Scene<'a>
+/// The texts, strings and version of the file at a place, from 0; nothing of what its references
+/// mean.
+pub fn scene<'a>(alloc: Global, files: &'a Files, file: u32) -> Scene<'a>
     requires { file < length files.now }
     ensures { (reads : List ReadOf) → AreRead files.entry.now reads
         → IsReadAs files.entry.now reads file result }

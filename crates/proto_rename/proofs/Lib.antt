@@ -1,5 +1,15 @@
+mod DefaultTexts
+mod EndTokens
+mod FileChanges
+mod JsonClashes
 mod LeastCases
+mod MarkTurns
+mod NameTexts
 mod OneAim
+mod OuterKinds
 mod Placed
+mod PlacedWords
 mod Refused
+mod StandingUses
+mod TokensInOrder
 mod WholeChanges

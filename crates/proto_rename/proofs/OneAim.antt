@@ -16,8 +16,8 @@ use Rattle.proto_rename_laws.specs.Targets.{Target, IsNamed, may_rename}
 use Rattle.proto_rename_laws.proofs.NoLinkFault.{files_are_linked}
 use Rattle.proto_rename_laws.proofs.OneTarget.{targets_are_one}
 use Rattle.proto_imports.proofs.PlainNames.{names_are_plain}
-use Rattle.proto_targets.specs.Aims.{IsAimOf, IsAimedAt}
-use Rattle.proto_targets.specs.declared.aim.Aim.{Aim}
+use Rattle.proto_captures.specs.Aims.{IsAimOf, IsAimedAt}
+use Rattle.proto_captures.specs.declared.aim.Aim.{Aim}
 
 module _ (files : List FileOf) (reads : List ReadOf) (r : AreRead files reads) (clean : HasNoFault (LinkFaults files)) where
   pub aimed_one : (a : Aim) → IsAimOf files a → (t : Target) → IsNamed files reads a.name.now t → IsAimedAt files reads a t

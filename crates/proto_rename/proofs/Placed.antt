@@ -19,13 +19,13 @@ use Rattle.proto_rename_laws.specs.Targets.{HasEnum, Target, name_map, renamed_w
 use Rattle.proto_rename_laws.proofs.Places.{from_flat_map, is_listed, listed}
 use Rattle.proto_imports.proofs.PlainNames.{names_are_plain}
 use Rattle.proto_rename.specs.Changes.{ArePlacesIn, HasDefaultsIn, IsChangeIn, IsFaultIn, IsValueOf, or_own, places_of}
-use Rattle.proto_rewording.specs.MadeChanges.{IsChangeAt, IsRewordFault, PutsAt}
-use Rattle.proto_rewording.specs.StandingTokens.{IsStandingIn}
-use Rattle.proto_rewording.specs.declared.changing.RewordFault.{RewordFault}
-use Rattle.proto_rewording.specs.declared.changing.RewordFault.TheVariants.{TooLarge, NoMemory}
+use Rattle.proto_rename.specs.MadeChanges.{IsChangeAt, IsRewordFault, PutsAt}
+use Rattle.proto_rename.specs.StandingTokens.{IsStandingIn}
+use Rattle.proto_rename.specs.declared.changing.RewordFault.{RewordFault}
+use Rattle.proto_rename.specs.declared.changing.RewordFault.TheVariants.{TooLarge, NoMemory}
 use Rattle.proto_entries.specs.declared.entry.Change.{Change}
-use Rattle.proto_targets.specs.Aims.{IsAimedAt}
-use Rattle.proto_targets.specs.declared.aim.Aim.{Aim}
+use Rattle.proto_captures.specs.Aims.{IsAimedAt}
+use Rattle.proto_captures.specs.declared.aim.Aim.{Aim}
 
 file_of : (f g i j : ℕ) → at f i ≡ at g j → f ≡ g
 file_of f g i j e = ap (λ (z : At). z.file) e

@@ -30,11 +30,11 @@ use Rattle.proto_rename.specs.Changes.{AreChangesOf, IsChangesFault, IsFaultIn}
 use Rattle.proto_rename.specs.Renames.{IsLeastRenameCase, IsRenameCase, IsRenameRefusal, IsRenamed}
 use Rattle.proto_rename.proofs.LeastCases.{all_free, first_free, from_1, from_16, from_2, from_3, from_4, from_5, from_6, from_7, from_8, from_9, last_free, least, next_free}
 use Rattle.proto_rename.proofs.OneAim.{aimed_one, same_kind}
-use Rattle.proto_rewording.specs.declared.changing.RewordFault.{RewordFault}
-use Rattle.proto_rewording.specs.declared.changing.RewordFault.TheVariants as fault
-use Rattle.proto_targets.specs.Aims.{IsAimOf, IsAimedAt, IsNoTarget}
-use Rattle.proto_targets.specs.declared.aim.Aim.{Aim}
-use Rattle.proto_targets.specs.declared.aim.NoTarget.TheVariants as no_target
+use Rattle.proto_rename.specs.declared.changing.RewordFault.{RewordFault}
+use Rattle.proto_rename.specs.declared.changing.RewordFault.TheVariants as fault
+use Rattle.proto_captures.specs.Aims.{IsAimOf, IsAimedAt, IsNoTarget}
+use Rattle.proto_captures.specs.declared.aim.Aim.{Aim}
+use Rattle.proto_captures.specs.declared.aim.NoTarget.TheVariants as no_target
 
 -- ---- cases 1 and 2
 

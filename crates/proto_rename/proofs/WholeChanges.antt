@@ -10,8 +10,8 @@ use Rattle.proto_entries.specs.Entries.{ChangeOf, change_of}
 use Rattle.proto_entries.specs.declared.entry.Change.{Change}
 use Rattle.proto_rename_laws.specs.Changes.{IsTooLong, change_by, changes_from, changes_of_words}
 use Rattle.proto_rename_laws.specs.Rewording.{NewWords, in_file}
-use Rattle.proto_rewording.specs.MadeChanges.{IsMade}
-use Rattle.proto_rewording.specs.StandingTokens.{listed}
+use Rattle.proto_rename.specs.MadeChanges.{IsMade}
+use Rattle.proto_rename.specs.StandingTokens.{listed}
 use Rattle.proto_rename.specs.Changes.{AreWholeChanges, changes_up_to}
 
 module _ (c : NewWords) where

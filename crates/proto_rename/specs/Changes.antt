@@ -14,11 +14,11 @@ use Rattle.proto_rename_laws.specs.Places.{renamed_places}
 use Rattle.proto_rename_laws.specs.Rewording.{NewWords}
 use Rattle.proto_rename_laws.specs.Targets.{Target, name_map, renamed_words}
 use Rattle.proto_entries.specs.declared.entry.Change.{Change}
-use Rattle.proto_rewording.specs.MadeChanges.{IsMade}
-use Rattle.proto_rewording.specs.declared.changing.RewordFault.{RewordFault}
-use Rattle.proto_rewording.specs.declared.changing.RewordFault.TheVariants.{TooLarge, NoMemory}
-use Rattle.proto_targets.specs.Aims.{IsAimedAt}
-use Rattle.proto_targets.specs.declared.aim.Aim.{Aim}
+use Rattle.proto_rename.specs.MadeChanges.{IsMade}
+use Rattle.proto_rename.specs.declared.changing.RewordFault.{RewordFault}
+use Rattle.proto_rename.specs.declared.changing.RewordFault.TheVariants.{TooLarge, NoMemory}
+use Rattle.proto_captures.specs.Aims.{IsAimedAt}
+use Rattle.proto_captures.specs.declared.aim.Aim.{Aim}
 
 -- the tokens that a rename changes
 abbrev pub places_of : List FileOf → List ReadOf → Target → Text → List At

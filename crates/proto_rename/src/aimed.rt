@@ -6,12 +6,12 @@ ghost use Rattle.proto_imports.specs.Links.{LinkFaults};
 ghost use Rattle.proto_names.specs.LinkOfFiles.{IsLinkOf};
 ghost use Rattle.proto_rename.specs.Cases.{IsFreeBefore};
 ghost use Rattle.proto_rename.specs.Renames.{IsRenameRefusal};
-ghost use Rattle.proto_targets.specs.Aims.{IsAimOf, IsNoTarget};
+ghost use Rattle.proto_captures.specs.Aims.{IsAimOf, IsNoTarget};
 
+use proto_captures::{Aim, NoTarget, target};
 use proto_entries::Refusal;
 use proto_files::{Files, are_read};
 use proto_names::Link;
-use proto_targets::{Aim, NoTarget, target};
 use std::alloc::Global;
 
 /// The case of a name that aims at nothing.

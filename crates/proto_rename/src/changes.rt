@@ -6,17 +6,17 @@ ghost use Rattle.proto_files.specs.Faults.{HasNoFault};
 ghost use Rattle.proto_imports.specs.Links.{LinkFaults};
 ghost use Rattle.proto_names.specs.LinkOfFiles.{IsLinkOf};
 ghost use Rattle.proto_rename.specs.Changes.{AreChangesOf, IsChangesFault, IsValueOf, IsChangeIn, IsFaultIn};
-ghost use Rattle.proto_rewording.specs.StandingTokens.{listed};
-ghost use Rattle.proto_targets.specs.Aims.{IsAimOf};
+ghost use Rattle.proto_rename.specs.StandingTokens.{listed};
+ghost use Rattle.proto_captures.specs.Aims.{IsAimOf};
 
+use crate::changing::{RewordFault, change_of_file};
 use crate::places::places_in;
+use proto_captures::Aim;
 use proto_entries::Change;
 use proto_faults::NoMemory;
 use proto_files::{Files, Words};
 use proto_members::enum_name;
 use proto_names::Link;
-use proto_rewording::{RewordFault, change_of_file};
-use proto_targets::Aim;
 use std::alloc::Global;
 
 fn push_some(changes: &mut Vec<Change>, change: Option<Change>) -> Result<(), NoMemory>

@@ -6,16 +6,16 @@ ghost use Rattle.proto_imports.specs.Links.{LinkFaults};
 ghost use Rattle.proto_names.specs.LinkOfFiles.{IsLinkOf};
 ghost use Rattle.proto_rename.specs.Cases.{IsFreeBefore, IsCapturedPlace};
 ghost use Rattle.proto_rename.specs.Renames.{IsRenameRefusal};
-ghost use Rattle.proto_targets.specs.Aims.{IsAimOf};
+ghost use Rattle.proto_captures.specs.Aims.{IsAimOf};
 ghost use Rattle.proto_text.specs.Words.{is_run};
 
-use proto_captures::first_captured;
+use crate::json_names::clashes;
+use proto_captures::{Aim, collides, first_captured, has_name, is_keyword};
 use proto_entries::Refusal;
 use proto_faults::NoMemory;
 use proto_files::{Files, are_read, offset_of};
-use proto_members::{clashes, is_reserved};
+use proto_members::is_reserved;
 use proto_names::{Link, RefId};
-use proto_targets::{Aim, collides, has_name, is_keyword};
 use proto_text::is_word;
 use std::alloc::Global;
 

@@ -3,8 +3,12 @@
 
 mod aimed;
 mod changes;
+mod changing;
 mod checks;
+mod defaults;
+mod json_names;
 mod places;
 mod renaming;
+mod standing;
 
 pub use renaming::rename;

@@ -6,14 +6,14 @@ ghost use Rattle.proto_imports.specs.Links.{LinkFaults};
 ghost use Rattle.proto_meaning.specs.Grown.{at};
 ghost use Rattle.proto_names.specs.LinkOfFiles.{IsLinkOf};
 ghost use Rattle.proto_rename.specs.Changes.{ArePlacesIn, IsValueOf, HasDefaultsIn, or_own};
-ghost use Rattle.proto_targets.specs.Aims.{IsAimOf};
+ghost use Rattle.proto_captures.specs.Aims.{IsAimOf};
 
+use crate::defaults::renamed_defaults_in;
+use crate::standing::standing_in;
+use proto_captures::Aim;
 use proto_faults::NoMemory;
 use proto_files::Files;
-use proto_members::renamed_defaults_in;
 use proto_names::Link;
-use proto_rewording::standing_in;
-use proto_targets::Aim;
 use std::alloc::Global;
 
 /// The token, if it is one of this file.

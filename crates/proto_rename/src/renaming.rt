@@ -8,16 +8,16 @@ ghost use Rattle.proto_names.specs.LinkOfFiles.{IsLinkOf};
 ghost use Rattle.proto_rename.specs.Cases.{IsFreeBefore};
 ghost use Rattle.proto_rename.specs.Changes.{IsChangesFault};
 ghost use Rattle.proto_rename.specs.Renames.{IsRenamed, IsRenameRefusal};
-ghost use Rattle.proto_targets.specs.Aims.{IsAimOf};
+ghost use Rattle.proto_captures.specs.Aims.{IsAimOf};
 
 use crate::aimed::aimed;
 use crate::changes::changes;
+use crate::changing::RewordFault;
 use crate::checks::{check_members, check_names, check_word};
+use proto_captures::Aim;
 use proto_entries::{Change, Refusal};
 use proto_files::{Files, are_read};
 use proto_names::Link;
-use proto_rewording::RewordFault;
-use proto_targets::Aim;
 use std::alloc::Global;
 
 /// Case 16, and want of memory.

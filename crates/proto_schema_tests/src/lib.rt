@@ -1,4 +1,4 @@
-//! Tests of compiling and linting schemas, through the public calls alone.
+//! Tests of linking, compiling and linting schemas, through the public calls alone.
 #![tactic(auto)]
 
 #[cfg(test)]
@@ -13,3 +13,5 @@ mod compiling;
 mod descriptors;
 #[cfg(test)]
 mod inputs;
+#[cfg(test)]
+mod names;

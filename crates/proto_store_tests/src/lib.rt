@@ -1,4 +1,4 @@
-//! Tests of stores, through the public calls of their crate alone.
+//! Tests of stores, and of the journals that they hold, through the public calls of their crates alone.
 #![tactic(auto)]
 
 #[cfg(test)]
@@ -11,5 +11,7 @@ mod folders;
 mod listings;
 #[cfg(test)]
 mod memory;
+#[cfg(test)]
+mod records;
 #[cfg(test)]
 mod steps;

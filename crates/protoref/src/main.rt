@@ -1,10 +1,7 @@
 //! `protoref`: a compiler, a linter and an editor of Protocol Buffers schemas.
 #![tactic(auto)]
 
-use proto_edit::Edit;
-use proto_output::write_text;
-use proto_store::FolderStore;
-use protoref_run::{Command, RunFault, Status, fault_line, run};
+use protoref_run::{Command, Edit, FolderStore, RunFault, Status, fault_line, run, write_text};
 use protoref_words::{Request, WordsFault, read_words};
 use std::process::ExitCode;
 use std::rt::{Env, Files};

@@ -1,8 +1,7 @@
 //! Files, and running a command over a store.
 
 use crate::pipe::Pipe;
-use proto_store::{MemoryStore, Store};
-use protoref_run::{Command, RunFault, Status, run};
+use protoref_run::{Command, MemoryStore, RunFault, Status, Store, run};
 use std::process::Abort;
 
 /// Files for a store: paths and texts.

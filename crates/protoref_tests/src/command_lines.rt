@@ -1,7 +1,7 @@
 //! Which command the words of the command line ask for.
 
 use crate::linting::rules_named;
-use proto_lint::{Rule, RuleSet};
+use protoref_run::{Rule, RuleSet};
 use protoref_words::{Request, WordsFault, read_words};
 use std::process::Abort;
 

@@ -1,8 +1,7 @@
 //! What `compile` prints, and where a run stops.
 
 use crate::calls::{WIDE, expect, expect_end, given};
-use proto_store::{MemoryStore, StoreFault};
-use protoref_run::{Command, RunFault, Status, fault_line};
+use protoref_run::{Command, MemoryStore, RunFault, Status, StoreFault, fault_line};
 
 const ROW: &str = "a.proto syntax = \"proto3\"; message A { string b_c = 1; }";
 

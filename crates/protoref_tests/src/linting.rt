@@ -3,8 +3,7 @@
 use crate::calls::{WIDE, expect, given};
 use crate::lint_rows;
 use crate::lint_rows::Row;
-use proto_lint::{Rule, RuleSet};
-use protoref_run::{Command, Status};
+use protoref_run::{Command, Rule, RuleSet, Status};
 use std::process::Abort;
 
 /// The rules of these names, with spaces between them, or `all`.

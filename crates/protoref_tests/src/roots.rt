@@ -1,9 +1,7 @@
 //! Roots that name no folder.
 
 use crate::calls::{WIDE, expect_end};
-use proto_lint::RuleSet;
-use proto_store::FolderStore;
-use protoref_run::{Command, RunFault};
+use protoref_run::{Command, FolderStore, RuleSet, RunFault};
 use std::process::Abort;
 use std::rt::Files;
 

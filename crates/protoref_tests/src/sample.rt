@@ -2,9 +2,7 @@
 
 use crate::calls::{WIDE, add, expect_end};
 use crate::shop::{DESCRIPTORS, FILES, FINDINGS};
-use proto_lint::RuleSet;
-use proto_store::MemoryStore;
-use protoref_run::{Command, Status};
+use protoref_run::{Command, MemoryStore, RuleSet, Status};
 
 #[test]
 fn compiles_and_lints_as_protoc_tells(rt: HostRuntime) {

@@ -1,10 +1,7 @@
 //! Stores with a journal, and what is asked of the program.
 
 use crate::calls::given;
-use proto_edit::Edit;
-use proto_lint::RuleSet;
-use proto_store::MemoryStore;
-use protoref_run::Command;
+use protoref_run::{Command, Edit, MemoryStore, RuleSet};
 use std::process::Abort;
 
 /// A file with one field, of 48 bytes.

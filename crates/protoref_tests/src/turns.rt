@@ -3,9 +3,7 @@
 use crate::calls::{End, expect_end, given};
 use crate::stores::{command_of, joined, store_of};
 use crate::three_files::{Step, files_at};
-use proto_journal::all_files;
-use proto_store::{MemoryStore, Store};
-use protoref_run::{RunFault, Status};
+use protoref_run::{MemoryStore, RunFault, Status, Store, all_files};
 use std::process::Abort;
 
 /// What is asked and printed, or what the store has then.

@@ -1,6 +1,6 @@
 use Rattle.std.proofs.Common.{subst}
 use Rattle.proto_rename.proofs.Refused.{kind_refused, unknown_refused}
-use Rattle.proto_targets.specs.Aims.{IsNoTarget}
+use Rattle.proto_captures.specs.Aims.{IsNoTarget}
 use Rattle.proto_rename.proofs.aimed.refusal_of.Goals as goal
 
 pub returns-in-Unknown : goal.returns-in-Unknown

@@ -3,7 +3,7 @@ use Rattle.proto_entries.specs.Entries.{change_of}
 use Rattle.proto_files.specs.FilesRead.{ReadOf, AreRead}
 use Rattle.proto_rename_laws.specs.Targets.{Target, renamed_words}
 use Rattle.proto_rename.proofs.WholeChanges.{AreChangesUpTo}
-use Rattle.proto_targets.specs.Aims.{IsAimedAt}
+use Rattle.proto_captures.specs.Aims.{IsAimedAt}
 use Rattle.proto_rename.proofs.changes.changes_with.Given as goal
 
 abbrev pub invariant-loop-file : goal.invariant-loop-file

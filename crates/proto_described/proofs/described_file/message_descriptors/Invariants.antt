@@ -1,9 +1,0 @@
-use Rattle.std.proofs.Common.{◌≡◌, drop}
-use Rattle.proto_tree.specs.File.{trees, item_tree}
-use Rattle.proto_described.specs.Described.{messages_described}
-use Rattle.proto_json.specs.Views.{messages_desc}
-use Rattle.proto_described.proofs.Levels.{and_then}
-use Rattle.proto_described.proofs.described_file.message_descriptors.Given as goal
-
-abbrev pub invariant-loop-item : goal.invariant-loop-item
-invariant-loop-item l = and_then (messages_desc l.descriptors.items) (messages_described l.scene l.around (trees item_tree (drop l.item-index l.items))) ≡ messages_described l.scene l.around (trees item_tree l.items)

@@ -1,8 +1,0 @@
-use Rattle.std.proofs.Common.{◌≡◌, ◌++◌, map, drop}
-use Rattle.proto_tree.specs.File.{trees, item_tree}
-use Rattle.proto_described.specs.Described.{services_described}
-use Rattle.proto_json.specs.Views.{service_desc}
-use Rattle.proto_described.proofs.described_file.service_descriptors.Given as goal
-
-abbrev pub invariant-loop-item : goal.invariant-loop-item
-invariant-loop-item l = map service_desc l.descriptors.items ++ services_described l.scene (trees item_tree (drop l.item-index l.items)) ≡ services_described l.scene (trees item_tree l.items)

@@ -1,0 +1,8 @@
+//! Commits, undos and recoveries.
+
+mod allocations;
+mod calls;
+mod failing;
+mod journals;
+mod rows;
+mod three_files;

@@ -1,0 +1,154 @@
+-- Defaults that mean a value, told by the texts of a link.
+use Rattle.std.proofs.Common.{◌≡◌, ℕ, ◌+◌, ◌<◌, ◌==◌, ◌&&◌, Bool, true, false, cond, if◌then◌else◌, List, [], ◌∷◌, ◌++◌, length, map, get_or, drop, flat_map, Option, Some, None, option_map, refl, sym, ap, subst, ◌∙◌, inl, inr}
+use Rattle.std.specs.List.{filter, find}
+use Rattle.std.specs.Option.{option_and_then}
+use Rattle.std.specs.Str.{bytes_eq}
+use Rattle.std.proofs.lemmas.Bool.{cases_Bool, true≢false}
+use Rattle.std.proofs.lemmas.Option.{none-some}
+use Rattle.std.proofs.lemmas.Grind.{flat_map-append}
+use Rattle.proto_text.specs.Texts.{word_at}
+use Rattle.proto_text.specs.Tokens.{Lexeme}
+use Rattle.proto_text.proofs.Lists.{fails_from, same_from_word, word_from_same}
+use Rattle.proto_tree.specs.declared.piece.Header.{Header}
+use Rattle.proto_tree.specs.declared.piece.Header.TheVariants as header
+use Rattle.proto_tree.specs.declared.tree.FieldType.{FieldType}
+use Rattle.proto_tree.specs.declared.tree.FieldType.TheVariants as field_type
+use Rattle.proto_tree.specs.References.{first_of}
+use Rattle.proto_tree.specs.Tree.{Tree}
+use Rattle.proto_files.specs.GivenFiles.{FileOf, file_at}
+use Rattle.proto_files.specs.FilesRead.{AreRead, ReadOf, read_at}
+use Rattle.proto_files.proofs.OneReading.{IsTreeOf, same_tree}
+use Rattle.proto_meaning.specs.Grown.{at}
+use Rattle.proto_meaning.specs.Joined.{ArePlain, joined}
+use Rattle.proto_meaning.specs.Names.{same_name}
+use Rattle.proto_meaning.specs.Skeleton.{Used}
+use Rattle.proto_meaning.proofs.Basics.{name_from_same, same_from_name}
+use Rattle.proto_meaning.proofs.Joined.{joined_apart}
+use Rattle.proto_meaning.proofs.Renamed.{meant}
+use Rattle.proto_imports.specs.Links.{names_of_files, text_of}
+use Rattle.proto_imports.specs.Links.{used_named}
+use Rattle.proto_imports.specs.Links.{uses_of}
+use Rattle.proto_names.specs.LinkOfFiles.{IsLinkRead, TextMeant, meant_by_link, meant_by_use}
+use Rattle.proto_names.specs.Linking.{LinkOf, row_at, text_at}
+use Rattle.proto_names.specs.declared.references.Meant.{Meant}
+use Rattle.proto_parts.specs.Parts.{BlockOf, FieldOf, blocks_in}
+use Rattle.proto_parts.specs.Scenes.{Scene, text}
+use Rattle.proto_scenes.specs.SceneOf.{meaning_of}
+use Rattle.proto_rename_laws.specs.Defaults.{default_words, fields_of_block, fields_of_file, meaning_from, means_value, renamed_default, type_meaning}
+use Rattle.proto_imports.proofs.PlainNames.{names_are_plain}
+use Rattle.proto_members.specs.Blocks.{holders_in, may_hold}
+use Rattle.proto_rename.specs.Defaults.{defaults_in, defaults_of, is_text, spelled, type_means}
+use Rattle.proto_members.specs.Members.{IsReadAs}
+use Rattle.proto_text.proofs.Turns.{listed_turn}
+
+-- ---- lists
+
+flat_none : {X : Type 0} (xs : List X) → flat_map (λ (x : X). let ys : List X = [] in ys) xs ≡ []
+flat_none [] = refl
+flat_none (x ∷ xs) = flat_none xs
+
+flat_agree : {X Y : Type 0} (f g : X → List Y) (xs : List X) → ((x : X) → f x ≡ g x) → flat_map f xs ≡ flat_map g xs
+flat_agree f g [] h = refl
+flat_agree f g (x ∷ xs) h = ap (λ ys. ys ++ flat_map f xs) (h x) ∙ ap (λ ys. g x ++ ys) (flat_agree f g xs h)
+
+-- those of what one element more gives
+pub spelled_turn : {X Y : Type 0} (text : ℕ → List ℕ) (old : List ℕ) (part : Y → List ℕ) (view : X → Y) (xs : List X) (i : ℕ) (x : X) (found next whole : List ℕ) → i < length xs → x ≡ get_or xs i x
+    → next ≡ found ++ spelled text old (part (view x)) → found ++ spelled text old (flat_map part (map view (drop i xs))) ≡ whole
+    → next ++ spelled text old (flat_map part (map view (drop (i + 1) xs))) ≡ whole
+spelled_turn text old part view xs i x found next whole lt is new before =
+    listed_turn (λ ys. spelled text old (flat_map part (map view ys))) (λ y. spelled text old (part (view y)))
+    (λ y ys. flat_map-append (λ w. if bytes_eq (text w) old then w ∷ [] else []) (part (view y)) (flat_map part (map view ys))) xs i x x found next whole lt is new before
+
+flat_flat : {X Y Z : Type 0} (g : Y → List Z) (f : X → List Y) (xs : List X) → flat_map g (flat_map f xs) ≡ flat_map (λ x. flat_map g (f x)) xs
+flat_flat g f [] = refl
+flat_flat g f (x ∷ xs) = flat_map-append g (f x) (flat_map f xs) ∙ ap (λ zs. flat_map g (f x) ++ zs) (flat_flat g f xs)
+
+-- what fails the test gives nothing
+flat_filter : {X Y : Type 0} (p : X → Bool) (f : X → List Y) (xs : List X) → ((x : X) → p x ≡ false → f x ≡ []) → flat_map f (filter p xs) ≡ flat_map f xs
+flat_filter p f [] h = refl
+flat_filter {X} {Y} p f (x ∷ xs) h = go (p x) refl (flat_filter p f xs h)
+  where
+    go : (b : Bool) → p x ≡ b → flat_map f (filter p xs) ≡ flat_map f xs → flat_map f (cond b (x ∷ filter p xs) (filter p xs)) ≡ f x ++ flat_map f xs
+    go true e more = ap (λ ys. f x ++ ys) more
+    go false e more = more ∙ ap (λ (ys : List Y). ys ++ flat_map f xs) (sym (h x e))
+
+no_fields : (h : Header) (within : Tree) → may_hold h ≡ false → fields_of_block h within ≡ []
+no_fields (header.Message h) within e = absurd cc
+no_fields (header.Oneof h) within e = refl
+no_fields (header.Enum h) within e = refl
+no_fields (header.Service h) within e = refl
+no_fields (header.Method s) within e = refl
+
+-- ---- names by their texts
+
+says_same : (m enum : List (List ℕ)) → ArePlain m → ArePlain enum → bytes_eq (joined m) (joined enum) ≡ same_name m enum
+says_same m enum pm pe = elim (cases_Bool (same_name m enum)) [
+  | inl t ↦ same_from_word (joined m) (joined enum) (ap joined (name_from_same m enum t)) ∙ sym t
+  | inr f ↦ fails_from (bytes_eq (joined m) (joined enum)) (λ t. true≢false (sym (same_from_name m enum (joined_apart m enum pm pe (word_from_same (joined m) (joined enum) t))) ∙ f)) ∙ sym f
+]
+
+-- a type's meaning is the enum
+is_enum : List (List ℕ) → Option (List (List ℕ)) → Bool
+is_enum enum None = false
+is_enum enum (Some m) = same_name m enum
+
+by_meaning : (word : ℕ → List ℕ) (enum : List (List ℕ)) (old : List ℕ) (o : Option (List (List ℕ))) (ws : List ℕ) → flat_map (λ w. if means_value (Some enum) old o (word w) then w ∷ [] else []) ws ≡ (if is_enum enum o then spelled word old ws else [])
+unfolding is_enum
+by_meaning word enum old None ws = flat_none ws
+by_meaning word enum old (Some m) ws = go (same_name m enum)
+  where
+    go : (b : Bool) → flat_map (λ w. if b && bytes_eq (word w) old then w ∷ [] else []) ws ≡ (if b then spelled word old ws else [])
+    go true = refl
+    go false = flat_none ws
+
+module _ (files : List FileOf) (reads : List ReadOf) (are : AreRead files reads) (l : LinkOf) (link : IsLinkRead files reads l) (file : ℕ) (within : file < length files) (enum : List (List ℕ)) (plain : ArePlain enum) where
+  -- the link's answer for a first token
+  same_texts : (ms : List Meant) (us : List (Used ℕ)) (first : ℕ) → map (meant_by_link l) ms ≡ map (meant_by_use files reads file) us
+      → option_and_then (text_at l) (row_at ms first) ≡ option_map joined (option_and_then (meaning_of files reads file) (find (λ (u : Used ℕ). u.first == first) us))
+  same_texts [] [] first e = refl
+  same_texts [] (u ∷ us) first e = absurd cc
+  same_texts (m ∷ ms) [] first e = absurd cc
+  same_texts (m ∷ ms) (u ∷ us) first e =
+      let here : meant_by_link l m ≡ meant_by_use files reads file u = cc in
+      let on : map (meant_by_link l) ms ≡ map (meant_by_use files reads file) us = cc in
+      go (m.token == first) (u.first == first) (ap (λ (z : TextMeant). z.token == first) here) (ap (λ (z : TextMeant). z.text) here) (same_texts ms us first on)
+    where
+      go : (b d : Bool) → b ≡ d → text_at l m.row ≡ option_map joined (meaning_of files reads file u)
+          → option_and_then (text_at l) (row_at ms first) ≡ option_map joined (option_and_then (meaning_of files reads file) (find (λ (x : Used ℕ). x.first == first) us))
+          → option_and_then (text_at l) (option_map (λ (x : Meant). x.row) (cond b (Some m) (find (λ (x : Meant). x.token == first) ms)))
+          ≡ option_map joined (option_and_then (meaning_of files reads file) (cond d (Some u) (find (λ (x : Used ℕ). x.first == first) us)))
+      go true true e now more = now
+      go false false e now more = more
+      go true false e now more = absurd cc
+      go false true e now more = absurd cc
+
+  -- what is meant is of plain words
+  plain_meaning : (o : Option (Used ℕ)) (m : List (List ℕ)) → option_and_then (meaning_of files reads file) o ≡ Some m → ArePlain m
+  plain_meaning None m e = absurd (none-some m e)
+  plain_meaning (Some u) m e = let s = meant (names_of_files files reads) (used_named (text_of files reads) file u) m e in subst ArePlain s.2 (names_are_plain files reads are s.0 s.1)
+
+  same_type : (kind : FieldType) → type_means l file (joined enum) kind ≡ is_enum enum (type_meaning files reads file kind)
+  unfolding is_enum
+  same_type (field_type.Scalar t) = refl
+  same_type (field_type.Reference r) =
+      let first = first_of r.dot r.words in
+      ap (is_text (joined enum)) (same_texts (get_or l.meant file []) (uses_of reads file) first (link.means file within).texts) ∙ go (meaning_from files reads file first) (plain_meaning (find (λ (u : Used ℕ). u.first == first) (uses_of reads file)))
+    where
+      go : (o : Option (List (List ℕ))) → ((m : List (List ℕ)) → o ≡ Some m → ArePlain m) → is_text (joined enum) (option_map joined o) ≡ is_enum enum o
+      go None p = refl
+      go (Some m) p = says_same m enum (p m refl) plain
+
+  module _ (scene : Scene) (as_read : IsReadAs files reads file scene) (tree : Tree) (of_file : IsTreeOf (file_at files file).bytes tree) (old : List ℕ) where
+    one_field : (f : FieldOf) → defaults_of (text scene) (type_means l file (joined enum)) old f ≡ renamed_default files reads (Some enum) old file f
+    one_field f =
+        ap (λ (ls : List Lexeme). if type_means l file (joined enum) f.kind then spelled (word_at ls) old (default_words (word_at ls) f) else []) as_read.lexemes
+        ∙ ap (λ b. if b then spelled (λ (t : ℕ). text_of files reads (at file t)) old (default_words (λ (t : ℕ). text_of files reads (at file t)) f) else []) (same_type f.kind)
+        ∙ sym (by_meaning (λ (t : ℕ). text_of files reads (at file t)) enum old (type_meaning files reads file f.kind) (default_words (λ (t : ℕ). text_of files reads (at file t)) f))
+
+    pub defaults_are : flat_map (defaults_in (text scene) (type_means l file (joined enum)) old) (holders_in tree) ≡ flat_map (renamed_default files reads (Some enum) old file) (fields_of_file (read_at reads file).tree)
+    defaults_are =
+        flat_filter (λ (b : BlockOf). may_hold b.header) (defaults_in (text scene) (type_means l file (joined enum)) old) (blocks_in tree)
+        (λ (b : BlockOf) e. ap (flat_map (defaults_of (text scene) (type_means l file (joined enum)) old)) (no_fields b.header b.within e))
+        ∙ sym (flat_flat (defaults_of (text scene) (type_means l file (joined enum)) old) (λ (b : BlockOf). fields_of_block b.header b.within) (blocks_in tree))
+        ∙ flat_agree (defaults_of (text scene) (type_means l file (joined enum)) old) (renamed_default files reads (Some enum) old file) (fields_of_file tree) one_field
+        ∙ ap (λ t. flat_map (renamed_default files reads (Some enum) old file) (fields_of_file t)) (sym (same_tree files reads file tree are within of_file))

@@ -1,0 +1,13 @@
+use Rattle.std.proofs.Common.{◌≡◌, [], ◌++◌, map, drop, codes}
+use Rattle.std.specs.Prelude.{flat_map, if◌then◌else◌}
+use Rattle.proto_parts.specs.Options.{is_named}
+use Rattle.proto_parts.specs.Scenes.{text}
+use Rattle.proto_parts.specs.Views.{option_of}
+use Rattle.proto_checks_laws.specs.Renamed.{constant_tokens}
+use Rattle.proto_rename.specs.Defaults.{spelled}
+use Rattle.proto_rename.proofs.defaults.push_defaults.Given as goal
+
+abbrev pub invariant-loop-option : goal.invariant-loop-option
+invariant-loop-option l =
+    l.found.items ++ spelled (text l.scene) l.old (flat_map (λ o. if is_named (text l.scene) (codes "default") o then constant_tokens o.value else []) (map option_of (drop l.option-index l.options)))
+    ≡ l.initial.found.items ++ spelled (text l.scene) l.old (flat_map (λ o. if is_named (text l.scene) (codes "default") o then constant_tokens o.value else []) (map option_of l.options))

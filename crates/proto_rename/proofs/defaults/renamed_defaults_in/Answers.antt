@@ -1,0 +1,25 @@
+use Rattle.std.proofs.Common.{List, ℕ, flat_map, map, sym, ap, ◌∙◌}
+use Rattle.std.proofs.lemmas.Result.{IfOk-weaker}
+use Rattle.proto_tree.specs.File.{tree_of_file}
+use Rattle.proto_parts.specs.Scenes.{text}
+use Rattle.proto_members.specs.Blocks.{block_of, holders_in}
+use Rattle.proto_rename.specs.Defaults.{defaults_in, type_means}
+use Rattle.proto_rename.proofs.DefaultTexts.{defaults_are}
+use Rattle.proto_rename.proofs.defaults.renamed_defaults_in.Goals as goal
+
+pub returns : goal.returns
+returns c =
+    IfOk-weaker c.defaults.result _ _
+    (λ found e. λ reads are (enum : List (List ℕ)) plain named.
+    let files = c.args.files.now in
+    let link = c.args.link.now in
+    let file = c.args.file in
+    let old = c.args.old.now in
+    let scene = c.scene-scene.result in
+    let tree = tree_of_file c.tree.result.now in
+    let blocks = ap (map block_of) c.deref.ensures.value ∙ c.in_ok-blocks.ensures in
+    e
+    ∙ ap (flat_map (defaults_in (text c.scene-scene.result) (type_means c.args.link.now c.args.file c.args.enum_name.now) c.args.old.now)) blocks
+    ∙ ap (λ n. flat_map (defaults_in (text c.scene-scene.result) (type_means c.args.link.now c.args.file n) c.args.old.now) (holders_in (tree_of_file c.tree.result.now))) (sym named)
+    ∙ defaults_are files reads are link (c.requires.link reads are) file c.requires.file enum plain scene (c.scene-scene.ensures reads are) tree c.tree.ensures old)
+    c.defaults.ensures

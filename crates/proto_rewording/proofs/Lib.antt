@@ -1,8 +1,0 @@
-mod EndTokens
-mod FileChanges
-mod MarkTurns
-mod NameTexts
-mod OuterKinds
-mod PlacedWords
-mod StandingUses
-mod TokensInOrder

@@ -1,2 +1,0 @@
-pub mod MadeChanges
-pub mod StandingTokens

@@ -1,0 +1,10 @@
+//! The link of files.
+
+mod calls;
+mod clashes;
+mod faults;
+mod limits;
+mod meanings;
+mod readers;
+mod resolving;
+mod sight;

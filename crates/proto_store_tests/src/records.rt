@@ -1,0 +1,7 @@
+//! Lines and journals.
+
+mod allocations;
+mod calls;
+mod faults;
+mod journals;
+mod lines;

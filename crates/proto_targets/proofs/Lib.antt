@@ -1,7 +1,0 @@
-mod Aimed
-pub mod Aims
-mod IfOks
-mod JoinedNames
-mod LookedUp
-mod NewNames
-mod Taken

@@ -1,5 +1,0 @@
-use Rattle.proto_targets.proofs.NewNames.{collisions_are_new_names}
-use Rattle.proto_targets.proofs.laws.collisions_are_new_names.Goals as goal
-
-pub returns : goal.returns
-returns c = collisions_are_new_names

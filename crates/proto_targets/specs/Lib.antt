@@ -1,3 +1,0 @@
-pub mod Aims
-pub mod Collisions
-pub mod Looked
