@@ -15,7 +15,7 @@ use Rattle.proto_findings.specs.Placed.{found_at, found_by, unless_word}
 use Rattle.proto_findings.specs.Readings.{Reading}
 use Rattle.proto_findings.specs.Rules.{is_chosen}
 use Rattle.proto_block_rules.specs.NameRules.{first_not_zero, is_zero}
-use Rattle.proto_text.proofs.Turns.{front}
+use Rattle.proto_faults.proofs.Turns.{front}
 use Rattle.proto_parts.proofs.JoinedTrees.{statements_joined}
 
 values_joined : (t u : Tree) → values_in (joined t u) ≡ values_in t ++ values_in u

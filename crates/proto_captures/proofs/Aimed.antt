@@ -4,7 +4,7 @@ use Rattle.std.specs.List.{Contains}
 use Rattle.std.proofs.lemmas.Bool.{true≢false}
 use Rattle.std.proofs.lemmas.List.Elements.{Contains-get_or}
 use Rattle.proto_case.specs.Camel.{entry_name}
-use Rattle.proto_text.proofs.Lists.{contains_map, from_map}
+use Rattle.proto_faults.proofs.Lists.{contains_map, from_map}
 use Rattle.proto_files.specs.Faults.{HasNoFault}
 use Rattle.proto_files.specs.FilesRead.{ReadOf, AreRead, read_at}
 use Rattle.proto_files.specs.GivenFiles.{FileOf}

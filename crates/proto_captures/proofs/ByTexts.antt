@@ -4,7 +4,7 @@ use Rattle.std.specs.List.{Contains}
 use Rattle.std.specs.Str.{bytes_eq}
 use Rattle.std.proofs.lemmas.Bool.{and_from, and_parts}
 use Rattle.std.proofs.lemmas.Option.{none-some, same_Some}
-use Rattle.proto_text.proofs.Lists.{any_from, same_from_word, word_from_same}
+use Rattle.proto_faults.proofs.Lists.{any_from, same_from_word, word_from_same}
 use Rattle.proto_meaning.specs.Edits.{Renaming, target}
 use Rattle.proto_meaning.specs.Joined.{ArePlain, IsPlain, joined}
 use Rattle.proto_meaning.specs.Linked.{EntryFits, IsRenaming}

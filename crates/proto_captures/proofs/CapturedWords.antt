@@ -6,7 +6,7 @@ use Rattle.std.specs.Str.{bytes_eq}
 use Rattle.std.proofs.lemmas.Bool.{and_from, and_parts, both_ways, cond-false, eq-eqb, eqb-true, or_cases, or_left, or_right}
 use Rattle.std.proofs.lemmas.List.{length-take-le, take-append-drop, take_at}
 use Rattle.std.proofs.lemmas.Option.{none-some}
-use Rattle.proto_text.proofs.Lists.{same_from_word, word_from_same}
+use Rattle.proto_faults.proofs.Lists.{same_from_word, word_from_same}
 use Rattle.proto_meaning.specs.Edits.{Renaming, Collides, IsCaptured, ren, rewritten, shows_mapped, target}
 use Rattle.proto_meaning.specs.Joined.{ArePlain, IsPlain, joined}
 use Rattle.proto_meaning.specs.Linked.{IsLinked, IsRenaming}

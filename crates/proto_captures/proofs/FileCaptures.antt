@@ -6,7 +6,7 @@ use Rattle.std.proofs.lemmas.Bool.{and_from, and_parts, not-true, not_from_false
 use Rattle.std.proofs.lemmas.List.Elements.{Contains-append_left, Contains-append_right}
 use Rattle.proto_case.specs.Camel.{entry_name}
 use Rattle.proto_case.proofs.EntryNames.{entry_differs}
-use Rattle.proto_text.proofs.Lists.{contains_map}
+use Rattle.proto_faults.proofs.Lists.{contains_map}
 use Rattle.proto_text.specs.Texts.{words}
 use Rattle.proto_files.specs.FilesRead.{ReadOf, read_at}
 use Rattle.proto_files.specs.GivenFiles.{FileOf, file_at}

@@ -4,7 +4,7 @@ use Rattle.std.specs.List.{AllPairs, Contains}
 use Rattle.std.proofs.lemmas.Bool.{both_ways, cases_Bool, cases_lt, cond-false, cond-true}
 use Rattle.std.proofs.lemmas.List.{drop_all, drop_more}
 use Rattle.std.proofs.lemmas.Option.{none-some, same_Some}
-use Rattle.proto_text.proofs.Lists.{contains_cases, contains_head, contains_later, contains_map, from_map}
+use Rattle.proto_faults.proofs.Lists.{contains_cases, contains_head, contains_later, contains_map, from_map}
 use Rattle.proto_files.specs.FilesRead.{ReadOf}
 use Rattle.proto_files.specs.GivenFiles.{FileOf}
 use Rattle.proto_meaning.specs.Skeleton.{Used}

@@ -21,3 +21,9 @@ mod ScopePaths
 mod SeenTexts
 mod Taken
 mod UsesByTexts
+pub use Rattle.proto_rename_laws.proofs.Blocks
+pub use Rattle.proto_rename_laws.proofs.Declarations
+pub use Rattle.proto_rename_laws.proofs.Inside
+pub use Rattle.proto_rename_laws.proofs.NoLinkFault
+pub use Rattle.proto_rename_laws.proofs.OneTarget
+pub use Rattle.proto_rename_laws.proofs.Scenes

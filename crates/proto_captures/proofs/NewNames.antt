@@ -3,7 +3,7 @@ use Rattle.std.proofs.Common.{◌≡◌, ℕ, ◌<◌, Bool, true, false, ◌&&�
 use Rattle.std.specs.List.{Contains}
 use Rattle.std.specs.Str.{bytes_eq}
 use Rattle.std.proofs.lemmas.Bool.{cond-true, cond-false, false_from_ne_true}
-use Rattle.proto_text.proofs.Lists.{same_from_word, word_from_same}
+use Rattle.proto_faults.proofs.Lists.{same_from_word, word_from_same}
 use Rattle.proto_meaning.specs.Edits.{Renaming, Collides, in_domain, is_below, moves, moves_by, ren, turn_below, turned, turned_by}
 use Rattle.proto_meaning.specs.Linked.{EntryFits, IsLinked, IsRenaming}
 use Rattle.proto_meaning.specs.Names.{Symbol, Workspace}

@@ -4,7 +4,7 @@ use Rattle.std.specs.List.{Contains}
 use Rattle.std.specs.Str.{bytes_eq}
 use Rattle.std.proofs.lemmas.Bool.{and_from, and_parts, both_ways, cases_Bool, cond-false, cond-true, false_from_ne_true, or_cases, or_left, or_right}
 use Rattle.std.proofs.lemmas.Option.{none-some, same_Some}
-use Rattle.proto_text.proofs.Lists.{any_from, any_to, same_from_word, word_from_same}
+use Rattle.proto_faults.proofs.Lists.{any_from, any_to, same_from_word, word_from_same}
 use Rattle.proto_meaning.specs.declared.kind.Kind.{Kind}
 use Rattle.proto_meaning.specs.Edits.{Renaming, Collides, is_below, moves, moves_by, ren, shows_mapped, target, turned, turned_by}
 use Rattle.proto_meaning.specs.Linked.{IsLinked, EntryFits, IsRenaming}

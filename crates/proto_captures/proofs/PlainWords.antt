@@ -2,7 +2,7 @@
 use Rattle.std.proofs.Common.{◌≡◌, ◌≢◌, ℕ, zero, suc, List, [], ◌∷◌, ◌++◌, length, take, drop, refl, sym, ap, subst, ◌∙◌, arith, length-append, append_assoc}
 use Rattle.std.specs.List.{Contains}
 use Rattle.std.proofs.lemmas.List.{append-nil, take-append-drop, take-map, take_at}
-use Rattle.proto_text.proofs.Lists.{contains_map}
+use Rattle.proto_faults.proofs.Lists.{contains_map}
 use Rattle.proto_meaning.specs.Joined.{ArePlain}
 use Rattle.proto_meaning.specs.Names.{Reference, Symbol, Workspace}
 use Rattle.proto_meaning.specs.Skeleton.{Source, Declared, Used, Skeleton, IsWoven, name_of, reference_of, spell, symbol_of, workspace_of}

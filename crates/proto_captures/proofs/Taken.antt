@@ -6,7 +6,7 @@ use Rattle.std.proofs.lemmas.Option.{none-some, same_Some}
 use Rattle.proto_case.specs.Camel.{entry_name}
 use Rattle.proto_case.proofs.EntryNames.{entry_differs}
 use Rattle.proto_text.specs.Words.{is_run}
-use Rattle.proto_text.proofs.Lists.{contains_map}
+use Rattle.proto_faults.proofs.Lists.{contains_map}
 use Rattle.proto_files.specs.Faults.{HasNoFault}
 use Rattle.proto_files.specs.FilesRead.{ReadOf, AreRead}
 use Rattle.proto_files.specs.GivenFiles.{FileOf}

@@ -8,3 +8,7 @@ pub mod ShownTexts
 pub mod Aims
 pub mod Collisions
 pub mod Looked
+pub use Rattle.proto_rename_laws.specs.Cases
+pub use Rattle.proto_rename_laws.specs.Targets
+pub use Rattle.proto_rename_laws.specs.SceneOf
+pub use Rattle.proto_rename_laws.specs.Enums

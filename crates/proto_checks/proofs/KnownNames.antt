@@ -5,7 +5,7 @@ use Rattle.std.specs.Str.{bytes_eq}
 use Rattle.std.proofs.lemmas.List.{map-append}
 use Rattle.std.proofs.lemmas.List.Folds.{list_any-append}
 use Rattle.std.proofs.lemmas.Slice.Eq.{bytes_eq-Decides}
-use Rattle.proto_text.proofs.Lists.{any_map}
+use Rattle.proto_faults.proofs.Lists.{any_map}
 
 or_right : (a b : Bool) → (b ≡ true → a ≡ true) → a ≡ (a || (b || false))
 or_right true b h = refl

@@ -5,7 +5,7 @@ use Rattle.std.specs.Str.{bytes_eq}
 use Rattle.std.proofs.lemmas.Bool.Decides.{same_from_decides, Decides-like}
 use Rattle.std.proofs.lemmas.List.{map-append, length-map}
 use Rattle.std.proofs.lemmas.Slice.Eq.{bytes_eq-Decides}
-use Rattle.proto_text.proofs.Lists.{any_map}
+use Rattle.proto_faults.proofs.Lists.{any_map}
 use Rattle.proto_numbers.specs.Flaws.{earlier, after_earlier}
 use Rattle.proto_numbers.proofs.FlawLists.{repeats_length}
 

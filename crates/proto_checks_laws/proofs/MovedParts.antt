@@ -13,7 +13,7 @@ use Rattle.proto_tree.specs.declared.piece.Statement.TheVariants as statement
 use Rattle.proto_tree.specs.declared.piece.Header.TheVariants as header
 use Rattle.proto_tree.specs.Moved.{Move, move_behind, move_constant, move_header, move_option, move_range, move_reserved_list, move_separated, move_setting, move_settings, move_signed, move_statement, move_tree, move_type, move_value}
 use Rattle.proto_tree.specs.Tree.{Tree, End, Leaf, Block}
-use Rattle.proto_text.proofs.Lists.{any_map}
+use Rattle.proto_faults.proofs.Lists.{any_map}
 use Rattle.proto_parts.specs.Parts.{BlockOf, FieldOf, OptionOf, blocks_in, closed_ranges, enum_ranges, extension_ranges, extension_words, fields_from, names_of, option_of_setting, options_in, ranges_of, reserved_names, reserved_names_in, reserved_ranges, separated, settings_of, statement_fields, statement_options, statement_values, statements, values_in}
 use Rattle.proto_checks.specs.FileFlaws.{is_empty}
 use Rattle.proto_checks_laws.specs.Imports.{without_imports}

@@ -9,7 +9,7 @@ use Rattle.proto_faults.specs.declared.fault.FaultKind.TheVariants as kind
 use Rattle.proto_tree.specs.declared.piece.Header.{Header}
 use Rattle.proto_tree.specs.declared.piece.Header.TheVariants as header
 use Rattle.proto_tree.specs.Tree.{Tree}
-use Rattle.proto_text.proofs.Lists.{contains_head, contains_later}
+use Rattle.proto_faults.proofs.Lists.{contains_head, contains_later}
 use Rattle.proto_parts.specs.Options.{is_allowed, is_named}
 use Rattle.proto_parts.specs.Parts.{BlockOf, FieldOf, OptionOf, blocks_in, closed_ranges, enum_ranges, extension_words, fields_in, options_in, reserved_names_in, settings_of, statements, values_in}
 use Rattle.proto_parts.specs.Scenes.{Scene, text, value}

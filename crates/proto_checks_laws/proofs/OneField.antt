@@ -2,7 +2,7 @@
 use Rattle.std.proofs.Common.{◌≡◌, ℕ, suc, ◌+◌, List, [], ◌∷◌, ◌++◌, length, map, flat_map, Option, Some, None, refl, sym, subst, ◌∙◌, arith, inl, inr}
 use Rattle.std.specs.List.{Contains}
 use Rattle.std.proofs.lemmas.List.Elements.{Contains-append_cases, Contains-append_left, Contains-append_right}
-use Rattle.proto_text.proofs.Lists.{contains_cases, contains_head, contains_later, from_map}
+use Rattle.proto_faults.proofs.Lists.{contains_cases, contains_head, contains_later, from_map}
 use Rattle.proto_tree.specs.declared.class.Class.TheVariants as class
 use Rattle.proto_tree.specs.declared.class.Want.TheVariants as want
 use Rattle.proto_tree.specs.declared.piece.Header.TheVariants as header

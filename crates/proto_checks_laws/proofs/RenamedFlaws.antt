@@ -20,7 +20,7 @@ use Rattle.proto_tree.specs.declared.tree.Signed.{Signed}
 use Rattle.proto_tree.specs.declared.tree.UpTo.{UpTo}
 use Rattle.proto_tree.specs.declared.tree.Value.{Value}
 use Rattle.proto_tree.specs.Tree.{Tree}
-use Rattle.proto_text.proofs.Lists.{word_from_same}
+use Rattle.proto_faults.proofs.Lists.{word_from_same}
 use Rattle.proto_parts.specs.Numbers.{number_of}
 use Rattle.proto_parts.specs.Options.{fits_kind, idempotency_levels, is_allowed, is_named, is_word_of, optimize_modes, truth_named, truth_of, value_kind_of, word_of}
 use Rattle.proto_parts.specs.Parts.{BlockOf, FieldOf, OptionOf, blocks_in, closed_ranges, enum_ranges, extension_words, fields_in, options_in, reserved_names_in, settings_of, statements, values_in}

@@ -3,7 +3,7 @@ use Rattle.std.proofs.Common.{◌≡◌, ℕ, suc, List, [], ◌∷◌, subst, a
 use Rattle.std.specs.Prelude.{AllPairs}
 use Rattle.std.proofs.lemmas.List.Sorted.{IsPermutation-sym, All-permutation, length_permutation}
 use Rattle.proto_text.proofs.OneEdit.{length_map}
-use Rattle.proto_text.proofs.Lists.{from_map}
+use Rattle.proto_faults.proofs.Lists.{from_map}
 use Rattle.proto_faults.specs.declared.fault.FaultKind.{FaultKind}
 use Rattle.proto_faults.specs.declared.fault.FaultKind.TheVariants.{BadPath, DoublePath, TooManyFiles}
 use Rattle.proto_files.specs.Faults.{FaultAt, IsLeastFault}

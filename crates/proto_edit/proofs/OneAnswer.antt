@@ -22,10 +22,10 @@ use Rattle.proto_edit.specs.Laws.{DescribedOnce, MappedOnce, RefusedOnce, StepsA
 use Rattle.proto_edit.specs.Workspaces.{Asked, rename, delete_field, add_import, drop_import, AreChanges, ChangesOf, IsLeastCase, IsPlaceOf, Maps, PlaceOf}
 use Rattle.proto_statement_changes.specs.DeletionChanges.{FieldAt, changes_of_deletion}
 use Rattle.proto_statement_changes.specs.ImportChanges.{IsImportOf, changes_of_addition, changes_of_drop}
-use Rattle.proto_statement_described.specs.Files.{tree_at}
-use Rattle.proto_statement_described.specs.Imports.{with_dependency, without_dependency}
-use Rattle.proto_statement_described.specs.Lists.{changed_at}
-use Rattle.proto_statement_described.specs.Mapped.{mapped_deletion}
+use Rattle.proto_statement_deleted.specs.Files.{tree_at}
+use Rattle.proto_statement_deleted.specs.Imports.{with_dependency, without_dependency}
+use Rattle.proto_statement_deleted.specs.Lists.{changed_at}
+use Rattle.proto_statement_deleted.specs.Mapped.{mapped_deletion}
 use Rattle.proto_tree.specs.declared.tree.Import.{Import}
 use Rattle.proto_edit.specs.StatementLaws.{StatementLaws}
 use Rattle.proto_edit.proofs.GivenAgain.{compiled_are_read}

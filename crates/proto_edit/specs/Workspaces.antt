@@ -6,7 +6,7 @@ use Rattle.proto_faults.specs.Texts.{Path, Text}
 use Rattle.proto_files.specs.FilesRead.{ReadOf, AreRead}
 use Rattle.proto_files.specs.GivenFiles.{FileOf}
 use Rattle.proto_json.specs.Descriptors.{FileDesc}
-use Rattle.proto_desc.specs.Checked.{AreDescribed}
+use Rattle.proto_schema.specs.Checked.{AreDescribed}
 use Rattle.proto_entries.specs.declared.refusal.Refusal.{Refusal}
 use Rattle.proto_entries.specs.Entries.{ChangeOf, inverted}
 use Rattle.proto_entries.specs.Putting.{IsPut}
@@ -18,10 +18,10 @@ use Rattle.proto_rename_laws.specs.Targets.{Target, IsNamed, renamed_words}
 use Rattle.proto_rename_described.specs.Renamed.{AreRenamed}
 use Rattle.proto_statement_changes.specs.DeletionChanges.{FieldAt, changes_of_deletion}
 use Rattle.proto_statement_changes.specs.ImportChanges.{IsImportOf, changes_of_addition, changes_of_drop}
-use Rattle.proto_statement_described.specs.Files.{tree_at}
-use Rattle.proto_statement_described.specs.Imports.{with_dependency, without_dependency}
-use Rattle.proto_statement_described.specs.Lists.{changed_at}
-use Rattle.proto_statement_described.specs.Mapped.{mapped_deletion}
+use Rattle.proto_statement_deleted.specs.Files.{tree_at}
+use Rattle.proto_statement_deleted.specs.Imports.{with_dependency, without_dependency}
+use Rattle.proto_statement_deleted.specs.Lists.{changed_at}
+use Rattle.proto_statement_deleted.specs.Mapped.{mapped_deletion}
 use Rattle.proto_statement_edits.specs.Edits.{IsFieldNamed, RefusesAddition, RefusesDeletion}
 use Rattle.proto_statement_names.specs.Cases.{DropCase, IsNeededAt, IsOvertakenAt, IsPlaceOf as IsFileAt}
 use Rattle.proto_tree.specs.declared.tree.Import.{Import}

@@ -1,7 +1,7 @@
 //! A workspace that compiles.
 
 ghost use Rattle.std.specs.Prelude.{◌≡◌, List, IfOk, IfErr};
-ghost use Rattle.proto_desc.specs.Checked.{AreDescribed};
+ghost use Rattle.proto_schema.specs.Checked.{AreDescribed};
 ghost use Rattle.proto_json.specs.Views.{files_desc};
 ghost use Rattle.proto_files.specs.Faults.{HasNoFault};
 ghost use Rattle.proto_files.specs.GivenFiles.{files_of};
@@ -11,11 +11,10 @@ ghost use Rattle.proto_schema.specs.Whole.{WorkspaceFaults, IsSortedOf};
 ghost use Rattle.proto_names.specs.LinkOfFiles.{IsLinkOf};
 ghost use Rattle.proto_edit.specs.Compiled.{AreCompiled};
 
-use proto_desc::Descriptors;
 use proto_faults::SchemaFault;
 use proto_files::Files;
 use proto_names::Link;
-use proto_schema::Schema;
+use proto_schema::{Descriptors, Schema};
 use std::alloc::Global;
 use std::marker::Model;
 

@@ -9,7 +9,7 @@ use Rattle.proto_text.specs.Edits.{Edit, Puts, old_len, new_len}
 use Rattle.proto_text.proofs.EditLaws.{inverse_leads_back}
 use Rattle.proto_text.proofs.Once.{puts_once, puts_length}
 use Rattle.proto_files.specs.GivenFiles.{FileOf}
-use Rattle.proto_text.proofs.Lists.{contains_head, contains_later, contains_cases, contains_map, from_map, word_from_same, same_from_word}
+use Rattle.proto_faults.proofs.Lists.{contains_head, contains_later, contains_cases, contains_map, from_map, word_from_same, same_from_word}
 use Rattle.proto_entries.specs.Entries.{ChangeOf, turned_round, inverted, IsChange}
 use Rattle.proto_entries.specs.Putting.{PutsFile, EachPuts, IsPut}
 use Rattle.proto_entries.specs.Laws.{PutsOnce, EntriesLeadBack}

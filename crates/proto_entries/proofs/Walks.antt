@@ -11,7 +11,7 @@ use Rattle.proto_text.proofs.Once.{puts_once}
 use Rattle.proto_files.specs.GivenFiles.{FileOf, file_at, file_of, files_of, AreWorkspaceFiles}
 use Rattle.proto_files.specs.WorkspacePaths.{IsBefore, IsWorkspacePath}
 use Rattle.proto_files.proofs.PathOrder.{never_before_itself, before_trans, sides}
-use Rattle.proto_text.proofs.Lists.{contains_head, contains_later, contains_cases}
+use Rattle.proto_faults.proofs.Lists.{contains_head, contains_later, contains_cases}
 use Rattle.proto_entries.specs.Entries.{ChangeOf, AreRising, inverted}
 use Rattle.proto_entries.specs.Putting.{HasChange, IsNext, ArePut, PutsFile, EachPuts, IsPut, AreShortFiles}
 use Rattle.proto_entries.specs.Laws.{WalksPut, PutsAreWalked, PutsKeepPaths}

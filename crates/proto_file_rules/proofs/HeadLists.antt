@@ -12,7 +12,7 @@ use Rattle.std.proofs.lemmas.List.Folds.{find_at}
 use Rattle.proto_text.specs.declared.lexer.Token.{Token}
 use Rattle.proto_text.specs.Tokens.{AreTokens, lexeme_at}
 use Rattle.proto_text.proofs.Once.{one_token_list}
-use Rattle.proto_text.proofs.Lists.{same_from_word, word_from_same}
+use Rattle.proto_faults.proofs.Lists.{same_from_word, word_from_same}
 use Rattle.proto_tree.specs.Tree.{Tree}
 use Rattle.proto_files.specs.GivenFiles.{FileOf, file_at}
 use Rattle.proto_meaning.specs.Faults.{file_of}

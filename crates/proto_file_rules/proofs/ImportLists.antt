@@ -7,7 +7,7 @@ use Rattle.std.proofs.lemmas.List.{append-nil, map-append}
 use Rattle.proto_text.specs.declared.lexer.Token.{Token}
 use Rattle.proto_text.specs.Strings.{IsString}
 use Rattle.proto_text.specs.Texts.{words}
-use Rattle.proto_text.proofs.Lists.{contains_map}
+use Rattle.proto_faults.proofs.Lists.{contains_map}
 use Rattle.proto_tree.specs.declared.piece.Statement.{Statement}
 use Rattle.proto_tree.specs.declared.piece.Statement.TheVariants as statement
 use Rattle.proto_tree.specs.declared.tree.Import.{Import}

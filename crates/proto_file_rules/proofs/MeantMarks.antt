@@ -4,7 +4,7 @@ use Rattle.std.proofs.lemmas.Bool.{cases_eq}
 use Rattle.std.proofs.lemmas.List.{get_or-set_same, get_or-set_other, length-set}
 use Rattle.std.proofs.lemmas.List.Elements.{Contains-append_left, Contains-append_right, Contains-append_cases}
 use Rattle.std.proofs.lemmas.Option.{none-some, same_Some}
-use Rattle.proto_text.proofs.Lists.{contains_cases, contains_head}
+use Rattle.proto_faults.proofs.Lists.{contains_cases, contains_head}
 use Rattle.proto_imports.specs.Walks.{IsMarked}
 use Rattle.proto_imports.proofs.Turned.{take_more}
 use Rattle.proto_names.specs.Linking.{LinkOf, file_at}

@@ -7,7 +7,7 @@ use Rattle.std.proofs.lemmas.Bool.{true≢false, and_parts, and_from, eqb-true, 
 use Rattle.std.proofs.lemmas.List.{length-map}
 use Rattle.std.proofs.lemmas.List.Elements.{Contains-append_left, Contains-append_right, Contains-append_cases, Contains-get_or}
 use Rattle.std.proofs.lemmas.Option.{none-some, same_Some}
-use Rattle.proto_text.proofs.Lists.{any_from, any_to, contains_map, from_map}
+use Rattle.proto_faults.proofs.Lists.{any_from, any_to, contains_map, from_map}
 use Rattle.proto_files.specs.GivenFiles.{FileOf}
 use Rattle.proto_meaning.specs.Faults.{place_from, place_of}
 use Rattle.proto_meaning.specs.Grown.{At, at, FileNames, all_declared, all_used, declared_of, file_declared, file_used, used_in}

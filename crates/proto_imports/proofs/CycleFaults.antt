@@ -12,7 +12,7 @@ use Rattle.proto_meaning.specs.Grown.{at}
 use Rattle.proto_imports.specs.Importing.{asked_by, all_asked, AreRising}
 use Rattle.proto_imports.specs.ImportSteps.{AreImporters, CycleFault, cycle, MarkedFault}
 use Rattle.proto_imports.specs.declared.import.WrittenImport.{WrittenImport}
-use Rattle.proto_text.proofs.Lists.{from_map, contains_map}
+use Rattle.proto_faults.proofs.Lists.{from_map, contains_map}
 use Rattle.proto_imports.proofs.Walks.{walk_on}
 use Rattle.proto_imports.proofs.PathFaults.{Stands, least_at}
 use Rattle.proto_imports.proofs.FilesAsked.{asked_in, asked_of, first_here, none_more}

@@ -16,7 +16,7 @@ use Rattle.proto_imports.specs.Links.{text_of, asked_as, all_wanted, names_in, l
 use Rattle.proto_listing.specs.Listing.{whole}
 use Rattle.proto_meaning.specs.Skeleton.{Source, Token, EntryOf, Given, Declared, Used, name_of, shifted_source, shifted_declared}
 use Rattle.proto_meaning.specs.Tree.{Placed, file_placed}
-use Rattle.proto_text.proofs.Lists.{from_map}
+use Rattle.proto_faults.proofs.Lists.{from_map}
 use Rattle.proto_meaning.proofs.Following.{follows_after, follows_second}
 use Rattle.proto_listing.proofs.InTokens.{import_here, use_here, name_here}
 

@@ -10,7 +10,7 @@ use Rattle.proto_meaning.specs.Faults.{Fault, IsLeast, AfterEarlier, Asked}
 use Rattle.proto_imports.specs.Importing.{asked_by, all_asked}
 use Rattle.proto_imports.specs.ImportSteps.{PathFault, unknown, double}
 use Rattle.proto_imports.specs.declared.import.WrittenImport.{WrittenImport}
-use Rattle.proto_text.proofs.Lists.{from_map}
+use Rattle.proto_faults.proofs.Lists.{from_map}
 
 -- the same file, and more of them
 abbrev SameFile : (Asked → Asked → Type 0) → Asked → Asked → Type 0

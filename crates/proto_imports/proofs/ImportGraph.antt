@@ -12,7 +12,7 @@ use Rattle.proto_meaning.specs.Faults.{Fault, Asked, file_of, import_at, imports
 use Rattle.proto_imports.specs.Importing.{import_from, all_imports}
 use Rattle.proto_imports.specs.ImportSteps.{AreTurned, AreImporters, CycleFault, cycle}
 use Rattle.proto_imports.specs.declared.import.FileImport.{FileImport}
-use Rattle.proto_text.proofs.Lists.{from_map, contains_map, contains_cases, contains_head, contains_later}
+use Rattle.proto_faults.proofs.Lists.{from_map, contains_map, contains_cases, contains_head, contains_later}
 use Rattle.proto_imports.proofs.Turned.{contains_within}
 
 -- an import stands in its file

@@ -11,7 +11,7 @@ use Rattle.proto_meaning.specs.Grown.{at}
 use Rattle.proto_imports.specs.Importing.{asked_by, AreRising}
 use Rattle.proto_imports.specs.ImportSteps.{PathFault, unknown, double}
 use Rattle.proto_imports.specs.declared.import.WrittenImport.{WrittenImport}
-use Rattle.proto_text.proofs.Lists.{word_from_same}
+use Rattle.proto_faults.proofs.Lists.{word_from_same}
 
 -- two paths of one file are the same
 pub same_path : (paths : List (List ℕ)) (p q : List ℕ) (to : ℕ) → file_of paths p ≡ Some to → file_of paths q ≡ Some to → p ≡ q

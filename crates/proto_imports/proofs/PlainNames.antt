@@ -15,7 +15,7 @@ use Rattle.proto_meaning.specs.declared.kind.Kind.TheVariants.{Field, Value, Met
 use Rattle.proto_meaning.specs.Names.{Symbol}
 use Rattle.proto_meaning.specs.Skeleton.{shifted_source, Source, Token, EntryOf, Given, Declared, name_of, spell, symbol_of, shifted_declared}
 use Rattle.proto_meaning.specs.Tree.{Member, field, map_field, oneof, message, enum, service, Members, no_members, member, Items, no_items, packaged, item, package_of, Placed, place, placed, all_placed, prefixes, items_placed, file_placed}
-use Rattle.proto_text.proofs.Lists.{contains_cases, from_map}
+use Rattle.proto_faults.proofs.Lists.{contains_cases, from_map}
 use Rattle.proto_meaning.proofs.Edited.{map_append}
 use Rattle.proto_listing.proofs.Growing.{token_last, entry_last}
 use Rattle.proto_meaning.proofs.Items.{file_stands}

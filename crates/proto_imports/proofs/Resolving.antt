@@ -12,7 +12,7 @@ use Rattle.proto_meaning.specs.Faults.{file_of, import_at, imports_of}
 use Rattle.proto_imports.specs.Importing.{asked_by, all_asked, import_from, all_imports}
 use Rattle.proto_imports.specs.declared.import.WrittenImport.{WrittenImport}
 use Rattle.proto_imports.specs.declared.import.FileImport.{FileImport}
-use Rattle.proto_text.proofs.Lists.{word_from_same, same_from_word}
+use Rattle.proto_faults.proofs.Lists.{word_from_same, same_from_word}
 use Rattle.proto_imports.proofs.Turned.{take_more}
 
 -- the first of some paths, or a later one

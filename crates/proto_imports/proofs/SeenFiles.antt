@@ -11,7 +11,7 @@ use Rattle.proto_meaning.specs.Marks.{MarksSeen}
 use Rattle.proto_imports.specs.Walks.{Walks, stays, goes, IsMarked}
 use Rattle.proto_imports.specs.Importing.{import_from, all_imports}
 use Rattle.proto_imports.specs.declared.import.FileImport.{FileImport}
-use Rattle.proto_text.proofs.Lists.{from_map, contains_map, contains_cases, contains_head, contains_later}
+use Rattle.proto_faults.proofs.Lists.{from_map, contains_map, contains_cases, contains_head, contains_later}
 use Rattle.proto_imports.proofs.Turned.{contains_within}
 use Rattle.proto_imports.proofs.ImportGraph.{import_in, import_of_file, graph_of, targets_twice, within_map}
 use Rattle.proto_meaning.proofs.Seeing.{sees_is}

@@ -5,7 +5,7 @@ use Rattle.std.proofs.lemmas.Bool.{cases_eq}
 use Rattle.std.proofs.lemmas.List.{get_or-set_same, get_or-set_other}
 use Rattle.std.proofs.lemmas.List.Elements.{Contains-append_left, Contains-append_cases}
 use Rattle.std.proofs.Math.Seq.{take-suc}
-use Rattle.proto_text.proofs.Lists.{contains_cases}
+use Rattle.proto_faults.proofs.Lists.{contains_cases}
 use Rattle.proto_imports.proofs.Walks.{last_in}
 
 pub contains_within : (ls : List (List ℕ)) (a b : ℕ) → Contains (get_or ls a []) b → a < length ls

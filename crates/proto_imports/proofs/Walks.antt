@@ -6,7 +6,7 @@ use Rattle.std.proofs.lemmas.List.{get_or-set_same, get_or-set_other, length-set
 use Rattle.std.proofs.lemmas.List.Elements.{Contains-append_left, Contains-append_right, Contains-append_cases}
 use Rattle.std.proofs.Math.Seq.{take-suc}
 use Rattle.proto_imports.specs.Walks.{Walks, stays, goes, unseen, IsMarked, Visits}
-use Rattle.proto_text.proofs.Lists.{contains_head, contains_cases}
+use Rattle.proto_faults.proofs.Lists.{contains_head, contains_cases}
 
 -- where none is visited, all is as it was
 pub visits_none : (seen : List Bool) (todo : List ℕ) → Visits [] seen todo seen todo

@@ -33,7 +33,7 @@ use Rattle.proto_meaning.specs.Tree.{Member, field, map_field, oneof, message, e
 use Rattle.proto_meaning.specs.Grown.{IsGrown}
 use Rattle.proto_tree.specs.References.{dotted}
 use Rattle.proto_listing.specs.FromTree.{field_names, value_names, method_names, no_names, block_names, picked, add_statement, add_block, members_in, file_statement, file_block, items_in, statement_uses, type_uses, used_as, signature_uses, header_uses, flat_uses, member_uses, item_uses, file_names}
-use Rattle.proto_text.proofs.Lists.{contains_head, contains_later, contains_cases}
+use Rattle.proto_faults.proofs.Lists.{contains_head, contains_later, contains_cases}
 use Rattle.proto_meaning.proofs.Items.{prefix_whole, package_within}
 
 -- the indices of the marks are those from n on, in order

@@ -11,7 +11,7 @@ use Rattle.proto_tree.specs.declared.piece.Header.{Header}
 use Rattle.proto_tree.specs.Flat.{Mark, mark, one, flat_statement, flat_heading, flat_header}
 use Rattle.proto_tree.specs.Laws.{Numbered}
 use Rattle.proto_tree.specs.Tree.{Tree, Leaf, Block, flat}
-use Rattle.proto_text.proofs.Lists.{contains_head, contains_later, contains_cases}
+use Rattle.proto_faults.proofs.Lists.{contains_head, contains_later, contains_cases}
 use Rattle.proto_meaning.proofs.RisingLists.{Spreads}
 
 module _ (W R S : ℕ → Type 0) where

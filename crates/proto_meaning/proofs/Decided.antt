@@ -7,7 +7,7 @@ use Rattle.std.proofs.lemmas.List.{get_or-map, length-map, get_or_default}
 use Rattle.proto_meaning.specs.Names.{Package, Symbol, Reference, Workspace, same_name, fits, hit}
 use Rattle.proto_meaning.specs.Edits.{Renaming, ren, turned, moves, in_domain, rewritten, Collides, collides, collides_with, IsCaptured, is_captured, captured_from, any_above, shows_mapped, renamed, renamed_symbol}
 use Rattle.proto_meaning.specs.Linked.{AreApart, IsLinked, IsRenaming}
-use Rattle.proto_text.proofs.Lists.{any_from, any_to}
+use Rattle.proto_faults.proofs.Lists.{any_from, any_to}
 use Rattle.proto_meaning.proofs.Basics.{name_from_same, same_from_name}
 use Rattle.proto_meaning.proofs.Symbols.{package_out, stays}
 use Rattle.proto_meaning.proofs.Ren.{turn_below_outside}

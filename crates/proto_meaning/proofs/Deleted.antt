@@ -9,7 +9,7 @@ use Rattle.std.proofs.lemmas.List.Elements.{Contains-get_or}
 use Rattle.proto_meaning.specs.Names.{Kind, Package, Entry, Field, Symbol, Reference, Workspace, same_name, is_type, fits, sees, shows, hits_at, meaning, meaning_at}
 use Rattle.proto_meaning.specs.Edits.{Renaming, moves, is_below, in_domain, deleted}
 use Rattle.proto_meaning.specs.Linked.{is_leaf, AreApart, IsLinked, EntryStands, IsDeletion}
-use Rattle.proto_text.proofs.Lists.{any_from, contains_head, contains_later, contains_cases}
+use Rattle.proto_faults.proofs.Lists.{any_from, contains_head, contains_later, contains_cases}
 use Rattle.proto_meaning.proofs.Basics.{same_from_name}
 use Rattle.proto_meaning.proofs.Rename.{hit_relative, typed_is, first_and_rest}
 use Rattle.proto_meaning.proofs.Symbols.{type_not_leaf, one_symbol, shown, front_of, below_split, moved}

@@ -9,7 +9,7 @@ use Rattle.proto_meaning.specs.Edits.{Renaming, turned, turned_by, moves, ren, r
 use Rattle.proto_meaning.specs.Linked.{IsLinked, EntryFits, IsRenaming, IsFree}
 use Rattle.proto_meaning.specs.Skeleton.{Source, Token, EntryOf, Given, Declared, Used, Skeleton, spell, name_of, symbol_of, reference_of, workspace_of, IsWoven, IsAim, IsAimEntry, renaming_of, IsRespelled, Means}
 use Rattle.proto_meaning.proofs.Basics.{name_from_same, same_from_name}
-use Rattle.proto_text.proofs.Lists.{same_from_word, word_from_same, contains_head, contains_later, contains_map}
+use Rattle.proto_faults.proofs.Lists.{same_from_word, word_from_same, contains_head, contains_later, contains_map}
 use Rattle.proto_meaning.proofs.Ren.{turn_below-more, turn_below-nil}
 use Rattle.proto_meaning.proofs.Symbols.{moved, stays, ren_apart}
 use Rattle.proto_meaning.proofs.Renamed.{renamed_linked, each_means, has_meaning, meant}

@@ -7,7 +7,7 @@ use Rattle.proto_meaning.specs.Linked.{holds, IsNested}
 use Rattle.proto_meaning.specs.Skeleton.{Source, Token, EntryOf, Given, Declared, Used, spell, name_of, symbol_of, shifted_source, shifted_declared, IsWoven}
 use Rattle.proto_meaning.specs.Tree.{Placed, file_placed, token_of}
 use Rattle.proto_meaning.specs.Grown.{FileNames, IsGrown, At, at, declared_of, used_in, file_declared, file_used, all_declared, all_used, skeleton_of_files}
-use Rattle.proto_text.proofs.Lists.{contains_map, contains_head, contains_later, from_map}
+use Rattle.proto_faults.proofs.Lists.{contains_map, contains_head, contains_later, from_map}
 use Rattle.proto_meaning.proofs.Ren.{last_parts}
 use Rattle.proto_meaning.proofs.Edited.{map_append}
 use Rattle.proto_meaning.proofs.Grown.{snoc_parts}

@@ -4,7 +4,7 @@ use Rattle.std.specs.List.{Contains, filter}
 use Rattle.std.proofs.lemmas.Bool.{cond-true}
 use Rattle.std.proofs.lemmas.List.Elements.{Contains-get_or}
 use Rattle.proto_meaning.specs.Faults.{AfterEarlier}
-use Rattle.proto_text.proofs.Lists.{contains_cases, contains_head, contains_later, contains_map, from_map}
+use Rattle.proto_faults.proofs.Lists.{contains_cases, contains_head, contains_later, contains_map, from_map}
 
 -- the second stands behind the first
 abbrev pub Follows : {A : Type 0} → List A → A → A → Type 0

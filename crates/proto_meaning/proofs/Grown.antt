@@ -5,7 +5,7 @@ use Rattle.proto_meaning.specs.Linked.{holds, IsNested}
 use Rattle.proto_meaning.specs.Skeleton.{Source, Token, EntryOf, Declared, spell, name_of, symbol_of, IsWoven}
 use Rattle.proto_meaning.specs.Tree.{Members, all_placed, AllSpan, token_of}
 use Rattle.proto_meaning.specs.Grown.{declared_of, skeleton_of}
-use Rattle.proto_text.proofs.Lists.{contains_map, from_map}
+use Rattle.proto_faults.proofs.Lists.{contains_map, from_map}
 use Rattle.proto_meaning.proofs.Ren.{last_parts}
 use Rattle.proto_meaning.proofs.Edited.{map_append}
 use Rattle.proto_meaning.proofs.Tree.{all_stand, all_one_place}

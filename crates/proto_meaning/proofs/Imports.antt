@@ -8,7 +8,7 @@ use Rattle.std.proofs.lemmas.List.{length-take-le}
 use Rattle.proto_meaning.specs.Names.{Kind, Symbol, Import, Reference, Workspace, same_name, is_type, is_outer, fits, reaches, sees, shows, greatest, hit, hits_at, meaning, meaning_at, typed}
 use Rattle.proto_meaning.specs.Edits.{with_imports, import_of, IsAddition, IsOvertaken, IsNeeded}
 use Rattle.proto_meaning.specs.Linked.{IsNested, IsLinked}
-use Rattle.proto_text.proofs.Lists.{any_from, any_to}
+use Rattle.proto_faults.proofs.Lists.{any_from, any_to}
 use Rattle.proto_meaning.proofs.Basics.{same_from_name, IsGreatest, greatest_is, greatest_above}
 use Rattle.proto_meaning.proofs.Rename.{hit_relative, hit_from, typed_is, typed_from}
 use Rattle.proto_meaning.proofs.Symbols.{one_symbol, shown, fronts}

@@ -6,7 +6,7 @@ use Rattle.proto_meaning.specs.Names.{Package}
 use Rattle.proto_meaning.specs.Linked.{holds}
 use Rattle.proto_meaning.specs.Skeleton.{Source, Token}
 use Rattle.proto_meaning.specs.Tree.{Items, no_items, packaged, item, Placed, place, placed, prefixes, package_of, items_placed, file_placed, Rises, ItemsSpan, token_of}
-use Rattle.proto_text.proofs.Lists.{contains_head, contains_later, contains_cases}
+use Rattle.proto_faults.proofs.Lists.{contains_head, contains_later, contains_cases}
 use Rattle.proto_meaning.proofs.Tree.{none_left, token_is, in_span, one_place, stands}
 
 -- a declaration stands right in another one

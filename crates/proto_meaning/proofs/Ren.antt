@@ -6,7 +6,7 @@ use Rattle.std.proofs.lemmas.Bool.{cases_Bool, cond-true, cond-false, true≢fal
 use Rattle.proto_meaning.specs.Names.{same_name}
 use Rattle.proto_meaning.specs.Edits.{Renaming, target, turned_by, turned, turn_below, ren, is_below, rewritten, is_entry, is_entry_by, IsClear}
 use Rattle.proto_meaning.proofs.Basics.{name_from_same, same_from_name}
-use Rattle.proto_text.proofs.Lists.{word_from_same, same_from_word}
+use Rattle.proto_faults.proofs.Lists.{word_from_same, same_from_word}
 
 pub turn_below-take : (ps : List (List ℕ)) (f : List ℕ → List ℕ) (k : ℕ) (x : List (List ℕ)) → turn_below ps f (take k x) ≡ take k (turn_below ps f x)
 turn_below-take [] f zero [] = refl

@@ -5,7 +5,7 @@ use Rattle.std.proofs.lemmas.Option.{none-some, cond_some}
 use Rattle.std.proofs.lemmas.List.{length-take-le}
 use Rattle.proto_meaning.specs.Names.{Kind, Reference, Workspace, same_name, is_type, fits, shows, sees, greatest, hit, hits_at, meaning, meaning_at, typed}
 use Rattle.proto_meaning.specs.Edits.{Renaming, turned, ren, rewritten, IsClear, renamed_symbol, renamed_at, renamed_reference, renamed, shows_mapped, IsCaptured}
-use Rattle.proto_text.proofs.Lists.{any_from, any_to, any_map}
+use Rattle.proto_faults.proofs.Lists.{any_from, any_to, any_map}
 use Rattle.proto_meaning.proofs.Basics.{name_from_same, same_from_name, IsGreatest, greatest_is, greatest_from, greatest_above}
 use Rattle.proto_meaning.proofs.Ren.{turn_below-take, turn_below-length, turn_below-nil, ren-rewritten}
 

@@ -8,7 +8,7 @@ use Rattle.std.proofs.lemmas.List.Elements.{Contains-get_or}
 use Rattle.proto_meaning.specs.Names.{Symbol, Reference, Workspace, same_name, is_type, meaning, meaning_at, typed, hit, sees}
 use Rattle.proto_meaning.specs.Edits.{Renaming, turned, ren, IsClear, Collides, IsCaptured, renamed, renamed_symbol, renamed_reference}
 use Rattle.proto_meaning.specs.Linked.{holds, IsNested, AreApart, IsLinked, IsRenaming, IsFree}
-use Rattle.proto_text.proofs.Lists.{contains_map, from_map}
+use Rattle.proto_faults.proofs.Lists.{contains_map, from_map}
 use Rattle.proto_meaning.proofs.Ren.{last_parts, turn_below-more, turn_below-length}
 use Rattle.proto_meaning.proofs.Rename.{rename_means, captured_means_else, typed_is}
 use Rattle.proto_meaning.proofs.Symbols.{split_last, ren_apart, type_clear, shown}

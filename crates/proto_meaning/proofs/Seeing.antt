@@ -6,7 +6,7 @@ use Rattle.std.proofs.lemmas.Bool.{cases_Bool, true≢false, and_parts, and_from
 use Rattle.std.proofs.lemmas.Map.Steps.{length-le_from_distinct_below}
 use Rattle.proto_meaning.specs.Names.{Import, Workspace, Reaches, here, along, Sees, itself, by_import, reaches, sees}
 use Rattle.proto_meaning.specs.Linked.{AreFiles}
-use Rattle.proto_text.proofs.Lists.{any_from, any_to}
+use Rattle.proto_faults.proofs.Lists.{any_from, any_to}
 
 -- no number stands twice
 abbrev Apart : List ℕ → Type 0

@@ -9,7 +9,7 @@ use Rattle.proto_meaning.specs.Skeleton.{Declared, Skeleton, name_of, symbol_of,
 use Rattle.proto_meaning.specs.Grown.{At}
 use Rattle.proto_meaning.specs.Linked.{is_package, IsNested, IsLinked}
 use Rattle.proto_meaning.specs.Faults.{Fault, fault, NameFault, earlier, of_package, ReferenceFault, unresolved, wrong_kind, of_entry, place_of}
-use Rattle.proto_text.proofs.Lists.{contains_map, from_map}
+use Rattle.proto_faults.proofs.Lists.{contains_map, from_map}
 use Rattle.proto_meaning.proofs.Symbols.{one_symbol}
 
 pub package_from : (k : Kind) → is_package k ≡ true → k ≡ Package

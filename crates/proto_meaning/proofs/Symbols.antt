@@ -8,7 +8,7 @@ use Rattle.std.proofs.lemmas.List.{append-nil, get_or_default}
 use Rattle.proto_meaning.specs.Names.{Kind, Package, Message, Entry, Enum, Service, Field, EntryField, Oneof, Value, Method, Symbol, Workspace, same_name, is_type, is_outer, shows, sees}
 use Rattle.proto_meaning.specs.Edits.{Renaming, turned, turned_by, moves, moves_by, ren, is_below, in_domain, is_entry, is_entry_by, IsClear, Collides}
 use Rattle.proto_meaning.specs.Linked.{is_leaf, holds, IsNested, AreApart, IsLinked, EntryFits, IsRenaming}
-use Rattle.proto_text.proofs.Lists.{any_to, word_from_same}
+use Rattle.proto_faults.proofs.Lists.{any_to, word_from_same}
 use Rattle.proto_meaning.proofs.Basics.{name_from_same}
 use Rattle.proto_meaning.proofs.Ren.{turn_below_outside, turn_below_apart}
 

@@ -7,7 +7,7 @@ use Rattle.proto_meaning.specs.Names.{Kind, Message, Entry, Enum, Service, Field
 use Rattle.proto_meaning.specs.Linked.{holds, is_package, is_leaf}
 use Rattle.proto_meaning.specs.Skeleton.{Source, Token, EntryOf, Given}
 use Rattle.proto_meaning.specs.Tree.{Member, field, map_field, oneof, message, enum, service, Members, no_members, member, Placed, place, beside, key_word, value_word, placed, all_placed, Spans, AllSpan, token_of}
-use Rattle.proto_text.proofs.Lists.{contains_head, contains_later, contains_cases, from_map}
+use Rattle.proto_faults.proofs.Lists.{contains_head, contains_later, contains_cases, from_map}
 
 pub none_left : {P : Type 0} (p : Placed) → Contains [] p → P
 none_left p c = absurd (omega (arith, c.1))

@@ -3,8 +3,8 @@ use Rattle.std.proofs.Common.{◌<◌, List, length, sym, ap, subst, inl}
 use Rattle.proto_files.specs.GivenFiles.{FileOf}
 use Rattle.proto_files.specs.FilesRead.{AreRead, ReadOf}
 use Rattle.proto_meaning.specs.Grown.{At}
-use Rattle.proto_rename_laws.specs.Targets.{Target}
-use Rattle.proto_rename_laws.proofs.Inside.{tokens_are_inside}
+use Rattle.proto_captures.specs.Targets.{Target}
+use Rattle.proto_captures.proofs.Inside.{tokens_are_inside}
 use Rattle.proto_captures.specs.Aims.{IsAimedAt}
 use Rattle.proto_captures.specs.declared.aim.Aim.{Aim}
 

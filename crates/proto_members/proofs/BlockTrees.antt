@@ -4,7 +4,7 @@ use Rattle.std.specs.List.{filter}
 use Rattle.std.proofs.lemmas.Bool.{and_right}
 use Rattle.std.proofs.lemmas.List.{append-nil}
 use Rattle.std.proofs.lemmas.List.Elements.{filter-append}
-use Rattle.proto_text.proofs.Turns.{listed_turn}
+use Rattle.proto_faults.proofs.Turns.{listed_turn}
 use Rattle.proto_tree.specs.declared.tree.Block.{Block as Braced}
 use Rattle.proto_tree.specs.declared.tree.EnumItem.{EnumItem}
 use Rattle.proto_tree.specs.declared.tree.EnumItem.TheVariants as enum_item
@@ -22,7 +22,7 @@ use Rattle.proto_tree.specs.Tree.{Tree, joined}
 use Rattle.proto_parts.specs.Parts.{BlockOf, blocks_in, fields_in, reserved_names_in}
 use Rattle.proto_parts.specs.Scenes.{Scene}
 use Rattle.proto_parts.proofs.JoinedTrees.{blocks_joined}
-use Rattle.proto_scenes.specs.Enums.{enum_block}
+use Rattle.proto_captures.specs.Enums.{enum_block}
 use Rattle.proto_members.specs.Blocks.{holders_in, may_hold, message_block, oneof_block}
 use Rattle.proto_members.specs.Members.{has_field, reserves, says}
 

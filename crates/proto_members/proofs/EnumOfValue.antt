@@ -5,7 +5,7 @@ use Rattle.std.proofs.lemmas.Bool.{cases_Bool, eqb-true, true≢false}
 use Rattle.std.proofs.lemmas.Option.{none-some, same_Some}
 use Rattle.proto_case.specs.Camel.{entry_name}
 use Rattle.proto_text.specs.Tokens.{lexeme_at}
-use Rattle.proto_text.proofs.Lists.{any_to, contains_cases, from_map}
+use Rattle.proto_faults.proofs.Lists.{any_to, contains_cases, from_map}
 use Rattle.proto_text.proofs.OneEdit.{length_map}
 use Rattle.proto_tree.specs.declared.piece.Header.{Header}
 use Rattle.proto_tree.specs.declared.piece.Header.TheVariants as header
@@ -27,13 +27,13 @@ use Rattle.proto_listing.specs.FromTree.{items_in}
 use Rattle.proto_imports.specs.Links.{link_skeleton, names_in, text_of}
 use Rattle.proto_parts.specs.Parts.{BlockOf, blocks_in, values_in}
 use Rattle.proto_checks_laws.proofs.Declarations.{values_are_declared}
-use Rattle.proto_scenes.specs.SceneOf.{is_enum_at}
-use Rattle.proto_rename_laws.specs.Targets.{HasEnum, IsEnumOf, Target}
-use Rattle.proto_rename_laws.proofs.Blocks.{one_block}
-use Rattle.proto_rename_laws.proofs.Declarations.{declared_there, ends_with_token, is_written}
-use Rattle.proto_rename_laws.proofs.NoLinkFault.{files_are_woven}
-use Rattle.proto_rename_laws.proofs.OneTarget.{place_last}
-use Rattle.proto_rename_laws.proofs.Scenes.{find_there, index_map}
+use Rattle.proto_captures.specs.SceneOf.{is_enum_at}
+use Rattle.proto_captures.specs.Targets.{HasEnum, IsEnumOf, Target}
+use Rattle.proto_captures.proofs.Blocks.{one_block}
+use Rattle.proto_captures.proofs.Declarations.{declared_there, ends_with_token, is_written}
+use Rattle.proto_captures.proofs.NoLinkFault.{files_are_woven}
+use Rattle.proto_captures.proofs.OneTarget.{place_last}
+use Rattle.proto_captures.proofs.Scenes.{find_there, index_map}
 use Rattle.proto_captures.specs.Aims.{IsAimedAt}
 use Rattle.proto_captures.specs.declared.aim.Aim.{Aim}
 use Rattle.proto_members.specs.Blocks.{holders_in, may_hold}

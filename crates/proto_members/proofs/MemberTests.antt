@@ -3,7 +3,7 @@ use Rattle.std.proofs.Common.{◌≡◌, ℕ, ◌<◌, ◌==◌, Bool, true, fal
 use Rattle.std.specs.List.{Contains, filter}
 use Rattle.std.proofs.lemmas.Bool.{cond-true, eq-eqb, eqb-true}
 use Rattle.proto_text.specs.Tokens.{lexeme_at}
-use Rattle.proto_text.proofs.Lists.{any_from, any_to, contains_cases, contains_head, contains_later, contains_map, from_map}
+use Rattle.proto_faults.proofs.Lists.{any_from, any_to, contains_cases, contains_head, contains_later, contains_map, from_map}
 use Rattle.proto_tree.specs.declared.piece.Header.{Header}
 use Rattle.proto_tree.specs.declared.piece.Header.TheVariants as header
 use Rattle.proto_tree.specs.declared.tree.Value.{Value}
@@ -15,7 +15,7 @@ use Rattle.proto_listing.specs.FromTree.{items_in}
 use Rattle.proto_parts.specs.Parts.{BlockOf, FieldOf, blocks_in, fields_in, values_in}
 use Rattle.proto_checks_laws.specs.Declarations.{IsDeclared}
 use Rattle.proto_checks_laws.proofs.Declarations.{blocks_are_declared}
-use Rattle.proto_rename_laws.specs.Cases.{HasMember}
+use Rattle.proto_captures.specs.Cases.{HasMember}
 use Rattle.proto_members.specs.Blocks.{may_hold}
 use Rattle.proto_members.specs.Members.{fields_by, has_field, has_member, has_value}
 

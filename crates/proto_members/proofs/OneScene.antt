@@ -8,7 +8,7 @@ use Rattle.proto_files.specs.FileTokens.{AreTokensOf}
 use Rattle.proto_files.specs.FilesRead.{ReadOf, AreRead, read_at}
 use Rattle.proto_files.proofs.OneReading.{IsTreeOf, same_tree}
 use Rattle.proto_parts.specs.Scenes.{Scene, is_proto3, value_in}
-use Rattle.proto_scenes.specs.SceneOf.{lexemes_of}
+use Rattle.proto_captures.specs.SceneOf.{lexemes_of}
 use Rattle.proto_members.specs.Members.{IsReadAs}
 
 pub is_read_as : (files : List FileOf) (file : ℕ) → file < length files → (words : List Lexeme) → ((tokens : List Token) → AreTokensOf files file tokens → words ≡ map (lexeme_at (file_at files file).bytes) tokens)

@@ -4,7 +4,7 @@ use Rattle.std.specs.List.{Contains, list_any}
 use Rattle.std.specs.Str.{bytes_eq}
 use Rattle.std.proofs.lemmas.Bool.{and_from, and_parts}
 use Rattle.proto_text.specs.Tokens.{Lexeme}
-use Rattle.proto_text.proofs.Lists.{any_from, any_to, contains_map, from_map, same_from_word, word_from_same}
+use Rattle.proto_faults.proofs.Lists.{any_from, any_to, contains_map, from_map, same_from_word, word_from_same}
 use Rattle.proto_tree.specs.Tree.{Tree}
 use Rattle.proto_files.specs.GivenFiles.{FileOf, file_at}
 use Rattle.proto_files.specs.FilesRead.{AreRead, ReadOf, read_at}
@@ -14,8 +14,8 @@ use Rattle.proto_meaning.specs.Tree.{file_placed}
 use Rattle.proto_listing.specs.FromTree.{items_in}
 use Rattle.proto_parts.specs.Parts.{blocks_in, reserved_names_in}
 use Rattle.proto_parts.specs.Scenes.{Scene, value, value_in}
-use Rattle.proto_scenes.specs.SceneOf.{scene_of}
-use Rattle.proto_rename_laws.specs.Cases.{Reserves}
+use Rattle.proto_captures.specs.SceneOf.{scene_of}
+use Rattle.proto_captures.specs.Cases.{Reserves}
 use Rattle.proto_members.specs.Blocks.{holders_in, may_hold}
 use Rattle.proto_members.specs.Members.{IsReadAs, has_member, reserves, says}
 use Rattle.proto_members.proofs.MemberTests.{block_declared, from_filter, in_filter, member_from, member_to}

@@ -9,7 +9,7 @@ use Rattle.proto_tree.specs.declared.tree.Member.{Member}
 use Rattle.proto_tree.specs.File.{field_tree, member_tree, trees}
 use Rattle.proto_tree.specs.Tree.{Tree}
 use Rattle.proto_parts.specs.Parts.{BlockOf, blocks_in}
-use Rattle.proto_scenes.specs.Enums.{enum_block}
+use Rattle.proto_captures.specs.Enums.{enum_block}
 use Rattle.proto_members.specs.declared.blocks.BlockAt.{BlockAt}
 use Rattle.proto_members.specs.declared.blocks.BlockAt.TheVariants as block_at
 

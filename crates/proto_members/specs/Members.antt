@@ -13,7 +13,7 @@ use Rattle.proto_parts.specs.JsonNames.{json_name_of}
 use Rattle.proto_parts.specs.Options.{text_option}
 use Rattle.proto_parts.specs.Parts.{BlockOf, FieldOf, fields_in, reserved_names_in, values_in}
 use Rattle.proto_parts.specs.Scenes.{Scene, text, value}
-use Rattle.proto_scenes.specs.SceneOf.{is_proto3_file, lexemes_of}
+use Rattle.proto_captures.specs.SceneOf.{is_proto3_file, lexemes_of}
 
 -- the texts, the strings and the version of a file, as it is read
 pub record IsReadAs

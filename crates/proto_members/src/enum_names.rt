@@ -6,7 +6,7 @@ ghost use Rattle.proto_tree.specs.File.{tree_of_file};
 ghost use Rattle.proto_files.specs.FilesRead.{AreRead, ReadOf};
 ghost use Rattle.proto_meaning.specs.Joined.{joined};
 ghost use Rattle.proto_meaning.specs.declared.kind.Kind.TheVariants.{Value};
-ghost use Rattle.proto_rename_laws.specs.Targets.{Target};
+ghost use Rattle.proto_captures.specs.Targets.{Target};
 ghost use Rattle.proto_captures.specs.Aims.{IsAimOf, IsAimedAt};
 ghost use Rattle.proto_members.specs.Blocks.{block_of, holders_in};
 ghost use Rattle.proto_members.specs.Members.{holds_value, name_token};

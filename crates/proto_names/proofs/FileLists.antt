@@ -30,7 +30,7 @@ use Rattle.proto_listing.specs.declared.listing.Listed.{Listed}
 use Rattle.proto_listing.specs.declared.listing.Listing.{Listing}
 use Rattle.proto_table.specs.declared.spelled.Spelled.{Spelled}
 use Rattle.proto_listing.specs.declared.wanted.Wanted.{Wanted as WantedAt}
-use Rattle.proto_text.proofs.Lists.{contains_map}
+use Rattle.proto_faults.proofs.Lists.{contains_map}
 use Rattle.proto_names.proofs.EachFile.{same_at}
 use Rattle.proto_meaning.proofs.Edited.{map_map}
 use Rattle.proto_files.proofs.OneReading.{AreWordsAt, IsTreeOf, same_tree, same_words}

@@ -31,7 +31,7 @@ use Rattle.proto_names.specs.declared.references.Meant.{Meant}
 use Rattle.proto_names.specs.declared.references.ReferenceError.{ReferenceError}
 use Rattle.proto_names.specs.declared.references.ReferenceError.TheVariants.{Bad, NoMemory}
 use Rattle.proto_table.specs.declared.table.Table.{Table}
-use Rattle.proto_text.proofs.Lists.{contains_map}
+use Rattle.proto_faults.proofs.Lists.{contains_map}
 use Rattle.proto_meaning.proofs.Edited.{map_agree, map_map}
 use Rattle.proto_files.proofs.ReadOnce.{one_reading}
 use Rattle.proto_listing.proofs.ReadTrees.{uses_plain}

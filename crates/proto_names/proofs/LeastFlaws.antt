@@ -27,7 +27,7 @@ use Rattle.proto_names.specs.declared.references.ReferenceError.TheVariants.{Bad
 use Rattle.proto_names.specs.declared.references.ReferenceFlaw.{ReferenceFlaw}
 use Rattle.proto_names.specs.declared.references.ReferenceFlaw.TheVariants.{Unresolved, WrongKind, MapEntry}
 use Rattle.proto_table.specs.declared.table.Table.{Table}
-use Rattle.proto_text.proofs.Lists.{contains_cases, contains_head, contains_map}
+use Rattle.proto_faults.proofs.Lists.{contains_cases, contains_head, contains_map}
 use Rattle.proto_listing.proofs.ReadTrees.{uses_rising}
 use Rattle.proto_names.proofs.Referring.{row_kind}
 use Rattle.proto_table.proofs.UseFaults.{use_faults}

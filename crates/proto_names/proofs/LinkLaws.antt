@@ -6,7 +6,7 @@ use Rattle.std.proofs.lemmas.Bool.{cases_Bool, false_from_ne_true, both_ways, an
 use Rattle.std.proofs.lemmas.List.{length-map}
 use Rattle.std.proofs.lemmas.Option.{slice_get-get_or, none-some, same_Some}
 use Rattle.proto_text.specs.Texts.{words}
-use Rattle.proto_text.proofs.Lists.{any_from, any_to, contains_later, word_from_same, same_from_word}
+use Rattle.proto_faults.proofs.Lists.{any_from, any_to, contains_later, word_from_same, same_from_word}
 use Rattle.proto_text.proofs.Once.{one_token_list}
 use Rattle.proto_tree.specs.References.{dotted}
 use Rattle.proto_files.specs.FilesRead.{ReadOf, AreRead, read_at}

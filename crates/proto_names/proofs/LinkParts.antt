@@ -33,7 +33,7 @@ use Rattle.proto_names.specs.declared.link.RefId.{RefId}
 use Rattle.proto_names.specs.declared.references.Meant.{Meant}
 use Rattle.proto_table.specs.declared.table.Row.{Row}
 use Rattle.proto_table.specs.declared.table.Table.{Table}
-use Rattle.proto_text.proofs.Lists.{same_from_word, word_from_same}
+use Rattle.proto_faults.proofs.Lists.{same_from_word, word_from_same}
 use Rattle.proto_meaning.proofs.Forest.{names_apart}
 use Rattle.proto_imports.proofs.ImportGraph.{import_in}
 use Rattle.proto_table.proofs.Search.{pick}

@@ -19,7 +19,7 @@ use Rattle.proto_table.specs.Search.{is_seen}
 use Rattle.proto_table.specs.Tables.{names_of, aboves_of, look, IsTable}
 use Rattle.proto_table.specs.declared.table.Row.{Row}
 use Rattle.proto_table.specs.declared.table.Table.{Table}
-use Rattle.proto_text.proofs.Lists.{any_to, any_map, word_from_same, same_from_word}
+use Rattle.proto_faults.proofs.Lists.{any_to, any_map, word_from_same, same_from_word}
 use Rattle.proto_meaning.proofs.Forest.{names_apart}
 use Rattle.proto_table.proofs.Resolved.{shows_from, shows_to}
 use Rattle.proto_table.proofs.Search.{pick}

@@ -10,7 +10,7 @@ use Rattle.proto_names.specs.LinkOfFiles.{IsLinkBy}
 use Rattle.proto_names.specs.Linking.{LinkOf, NameOf, meant_at, name_at}
 use Rattle.proto_meaning.specs.declared.kind.Kind.TheVariants.{Package}
 use Rattle.proto_meaning.specs.Skeleton.{Declared, Skeleton, Used, name_of, symbol_of}
-use Rattle.proto_text.proofs.Lists.{contains_map}
+use Rattle.proto_faults.proofs.Lists.{contains_map}
 
 -- the link's answer for a reference: the row of a name with this text
 pub record NameMeant (l : LinkOf) (file : ℕ) (u : Used ℕ) (name : List (List ℕ)) : Type 0 where

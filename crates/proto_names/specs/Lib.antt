@@ -4,3 +4,4 @@ pub mod LinkOfFiles
 pub mod Linking
 pub mod Referring
 pub mod Scopes
+pub use Rattle.proto_imports.specs.Links

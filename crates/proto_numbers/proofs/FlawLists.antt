@@ -8,7 +8,7 @@ use Rattle.std.proofs.lemmas.List.Elements.{Contains-append_left, Contains-appen
 use Rattle.std.proofs.lemmas.List.Folds.{list_any-append}
 use Rattle.proto_faults.specs.declared.fault.FaultKind.{FaultKind}
 use Rattle.proto_faults.specs.FaultTable.{number_of}
-use Rattle.proto_text.proofs.Lists.{contains_cases}
+use Rattle.proto_faults.proofs.Lists.{contains_cases}
 use Rattle.proto_numbers.specs.declared.flaw.Flaw.{Flaw}
 use Rattle.proto_numbers.specs.Flaws.{flaw_if, earlier, after_earlier, marked, comes_before, IsLeast}
 

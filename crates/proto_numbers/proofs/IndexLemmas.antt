@@ -17,7 +17,7 @@ use Rattle.std.proofs.Math.Seq.{get_or-append_seam}
 use Rattle.std.proofs.lemmas.List.Folds.{list_any_at, list_any_more}
 use Rattle.std.proofs.lemmas.List.Sorted.{ranks_by, sorted_far, list_any-IsPermutation, Contains-permutation, IsPermutation-sym}
 use Rattle.std.proofs.lemmas.Map.Views.{any-filter_same}
-use Rattle.proto_text.proofs.Lists.{any_agree, any_to, contains_cases}
+use Rattle.proto_faults.proofs.Lists.{any_agree, any_to, contains_cases}
 use Rattle.proto_parts.specs.declared.ranges.RangeAt.{RangeAt}
 use Rattle.proto_numbers.specs.NumberFlaws.{is_inside, share}
 use Rattle.proto_numbers.specs.RangeIndex.{has_numbers, AreInOrder, reach, reaches, AreRaised, IsIndexOf}

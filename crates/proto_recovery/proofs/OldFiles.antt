@@ -8,7 +8,7 @@ use Rattle.std.specs.List.{Contains}
 use Rattle.std.specs.Str.{bytes_eq}
 use Rattle.std.proofs.lemmas.Bool.{cases_Bool}
 use Rattle.std.proofs.lemmas.Slice.Eq.{bytes_eq-Decides}
-use Rattle.proto_text.proofs.Lists.{contains_cases, contains_head, contains_later, contains_map}
+use Rattle.proto_faults.proofs.Lists.{contains_cases, contains_head, contains_later, contains_map}
 use Rattle.proto_files.specs.GivenFiles.{FileOf, file_of, files_of}
 use Rattle.proto_files.specs.WorkspacePaths.{IsBefore}
 use Rattle.proto_files.proofs.PathOrder.{before_trans, never_before_itself}

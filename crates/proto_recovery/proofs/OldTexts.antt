@@ -9,7 +9,7 @@ use Rattle.std.proofs.lemmas.List.Folds.{list_any-append}
 use Rattle.std.proofs.lemmas.List.Sorted.{list_any-IsPermutation}
 use Rattle.std.proofs.lemmas.Slice.Eq.{bytes_eq-Decides}
 use Rattle.proto_text.specs.Edits.{Puts}
-use Rattle.proto_text.proofs.Lists.{any_map, contains_map}
+use Rattle.proto_faults.proofs.Lists.{any_map, contains_map}
 use Rattle.proto_text.proofs.Once.{puts_length}
 use Rattle.proto_files.specs.GivenFiles.{FileOf, file_of, files_of, paths_of}
 use Rattle.proto_entries.specs.declared.entry.Change.{Change}

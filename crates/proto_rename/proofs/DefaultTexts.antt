@@ -8,7 +8,7 @@ use Rattle.std.proofs.lemmas.Option.{none-some}
 use Rattle.std.proofs.lemmas.Grind.{flat_map-append}
 use Rattle.proto_text.specs.Texts.{word_at}
 use Rattle.proto_text.specs.Tokens.{Lexeme}
-use Rattle.proto_text.proofs.Lists.{fails_from, same_from_word, word_from_same}
+use Rattle.proto_faults.proofs.Lists.{fails_from, same_from_word, word_from_same}
 use Rattle.proto_tree.specs.declared.piece.Header.{Header}
 use Rattle.proto_tree.specs.declared.piece.Header.TheVariants as header
 use Rattle.proto_tree.specs.declared.tree.FieldType.{FieldType}
@@ -33,13 +33,13 @@ use Rattle.proto_names.specs.Linking.{LinkOf, row_at, text_at}
 use Rattle.proto_names.specs.declared.references.Meant.{Meant}
 use Rattle.proto_parts.specs.Parts.{BlockOf, FieldOf, blocks_in}
 use Rattle.proto_parts.specs.Scenes.{Scene, text}
-use Rattle.proto_scenes.specs.SceneOf.{meaning_of}
+use Rattle.proto_rename_laws.specs.SceneOf.{meaning_of}
 use Rattle.proto_rename_laws.specs.Defaults.{default_words, fields_of_block, fields_of_file, meaning_from, means_value, renamed_default, type_meaning}
 use Rattle.proto_imports.proofs.PlainNames.{names_are_plain}
 use Rattle.proto_members.specs.Blocks.{holders_in, may_hold}
 use Rattle.proto_rename.specs.Defaults.{defaults_in, defaults_of, is_text, spelled, type_means}
 use Rattle.proto_members.specs.Members.{IsReadAs}
-use Rattle.proto_text.proofs.Turns.{listed_turn}
+use Rattle.proto_faults.proofs.Turns.{listed_turn}
 
 -- ---- lists
 

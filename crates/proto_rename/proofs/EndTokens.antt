@@ -5,7 +5,7 @@ use Rattle.std.specs.List.{Contains}
 use Rattle.std.proofs.lemmas.Bool.{cases_Bool, cond-true, cond-false, eqb-true, eq-eqb, both_ways, false_from_ne_true}
 use Rattle.std.proofs.lemmas.List.{get_or-map, length-map}
 use Rattle.std.proofs.lemmas.Option.{none-some, same_Some}
-use Rattle.proto_text.proofs.Lists.{contains_cases, contains_head}
+use Rattle.proto_faults.proofs.Lists.{contains_cases, contains_head}
 use Rattle.proto_tree.specs.declared.tree.Behind.{Behind}
 use Rattle.proto_rename.specs.StandingTokens.{from_end, listed}
 

@@ -9,7 +9,7 @@ use Rattle.proto_text.specs.declared.lexer.Token.{Token}
 use Rattle.proto_text.specs.Edits.{Edit, new_len, old_len}
 use Rattle.proto_text.specs.Texts.{token_edits}
 use Rattle.proto_text.specs.Tokens.{AreTokens}
-use Rattle.proto_text.proofs.Lists.{any_from, any_to}
+use Rattle.proto_faults.proofs.Lists.{any_from, any_to}
 use Rattle.proto_text.proofs.Once.{one_token_list}
 use Rattle.proto_files.specs.GivenFiles.{FileOf, file_at}
 use Rattle.proto_files.specs.FilesRead.{ReadOf, AreRead, read_at}

@@ -6,7 +6,7 @@ use Rattle.std.specs.Str.{bytes_eq}
 use Rattle.std.proofs.lemmas.Bool.{and_from, and_parts, eq-eqb, eqb-true, false_from_ne_true, not_from_false, not_from_true, true≢false}
 use Rattle.proto_text.specs.Texts.{word_at}
 use Rattle.proto_text.specs.Tokens.{Lexeme}
-use Rattle.proto_text.proofs.Lists.{any_from, any_to, same_from_word, word_from_same}
+use Rattle.proto_faults.proofs.Lists.{any_from, any_to, same_from_word, word_from_same}
 use Rattle.proto_tree.specs.Tree.{Tree}
 use Rattle.proto_files.specs.GivenFiles.{FileOf, file_at}
 use Rattle.proto_files.specs.FilesRead.{AreRead, ReadOf, read_at}
@@ -18,7 +18,7 @@ use Rattle.proto_parts.specs.JsonNames.{json_name_of, json_word, written_or}
 use Rattle.proto_parts.specs.Options.{text_option}
 use Rattle.proto_parts.specs.Parts.{FieldOf, blocks_in}
 use Rattle.proto_parts.specs.Scenes.{Scene, text, value, value_in}
-use Rattle.proto_scenes.specs.SceneOf.{scene_of}
+use Rattle.proto_rename_laws.specs.SceneOf.{scene_of}
 use Rattle.proto_rename_laws.specs.Cases.{Clashes}
 use Rattle.proto_members.specs.Blocks.{holders_in, may_hold}
 use Rattle.proto_members.specs.Members.{IsReadAs, clash_in, fields_by, is_made, is_other, is_unwritten}

@@ -5,7 +5,7 @@ use Rattle.std.specs.List.{Contains, list_any}
 use Rattle.std.proofs.lemmas.Bool.{cases_Bool, cond-true, cond-false, eqb-true, eq-eqb, false_from_ne_true}
 use Rattle.std.proofs.lemmas.List.Elements.{Contains-append_left, Contains-append_right, Contains-append_cases}
 use Rattle.proto_case.specs.Camel.{entry_name}
-use Rattle.proto_text.proofs.Lists.{contains_cases, contains_head, contains_later, contains_map, from_map}
+use Rattle.proto_faults.proofs.Lists.{contains_cases, contains_head, contains_later, contains_map, from_map}
 use Rattle.proto_files.specs.FilesRead.{ReadOf, AreRead, read_at}
 use Rattle.proto_files.specs.GivenFiles.{FileOf}
 use Rattle.proto_meaning.specs.Grown.{At, at}

@@ -8,7 +8,7 @@ use Rattle.proto_text.specs.declared.lexer.Token.{Token}
 use Rattle.proto_text.specs.Edits.{Edit}
 use Rattle.proto_text.specs.SourceFacts.{text_at}
 use Rattle.proto_text.specs.Texts.{edit_if, token_edits}
-use Rattle.proto_text.proofs.Lists.{contains_cases, contains_head, contains_later}
+use Rattle.proto_faults.proofs.Lists.{contains_cases, contains_head, contains_later}
 use Rattle.proto_rename.specs.MadeChanges.{marked_from, marked_tokens, word_put}
 
 -- ---- marks

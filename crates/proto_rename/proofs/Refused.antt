@@ -8,7 +8,7 @@ use Rattle.proto_text.specs.declared.class.Class.TheVariants.{Letter}
 use Rattle.proto_text.specs.Pieces.{IsRun}
 use Rattle.proto_text.specs.Texts.{offset_at}
 use Rattle.proto_text.specs.Words.{is_run}
-use Rattle.proto_text.proofs.Lists.{contains_map, from_map}
+use Rattle.proto_faults.proofs.Lists.{contains_map, from_map}
 use Rattle.proto_text.proofs.WordTest.{is_run_again, run_is}
 use Rattle.proto_files.specs.Faults.{HasNoFault}
 use Rattle.proto_files.specs.FilesRead.{ReadOf, AreRead, read_at}

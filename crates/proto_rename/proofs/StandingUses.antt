@@ -5,7 +5,7 @@ use Rattle.std.specs.Option.{option_and_then}
 use Rattle.std.proofs.lemmas.List.{append-nil, length-map}
 use Rattle.std.proofs.lemmas.List.Elements.{Contains-append_left, Contains-append_right, Contains-append_cases}
 use Rattle.proto_case.specs.Camel.{entry_name}
-use Rattle.proto_text.proofs.Lists.{contains_cases, contains_head, contains_later, contains_map, from_map}
+use Rattle.proto_faults.proofs.Lists.{contains_cases, contains_head, contains_later, contains_map, from_map}
 use Rattle.proto_tree.specs.References.{dotted}
 use Rattle.proto_tree.specs.Reads.{Reads}
 use Rattle.proto_tree.specs.Tree.{Tree}

@@ -9,7 +9,7 @@ ghost use Rattle.proto_names.specs.Linking.{text_at};
 ghost use Rattle.proto_parts.specs.Options.{is_named};
 ghost use Rattle.proto_parts.specs.Scenes.{text};
 ghost use Rattle.proto_parts.specs.Views.{field_of, option_of};
-ghost use Rattle.proto_checks_laws.specs.Renamed.{constant_tokens};
+ghost use Rattle.proto_rename_laws.specs.Renamed.{constant_tokens};
 ghost use Rattle.proto_rename_laws.specs.Defaults.{fields_of_file, renamed_default};
 ghost use Rattle.proto_members.specs.Blocks.{block_of};
 ghost use Rattle.proto_rename.specs.Defaults.{asked_defaults, asked_type, defaults_in, is_text, spelled, text_meant};

@@ -10,7 +10,7 @@ use Rattle.proto_text.specs.Words.{is_run}
 use Rattle.proto_text.proofs.WordTest.{run_is}
 use Rattle.proto_text.proofs.OneEdit.{length_map}
 use Rattle.proto_text.specs.Texts.{or_word}
-use Rattle.proto_text.proofs.Lists.{contains_cases, contains_head, contains_later, from_map}
+use Rattle.proto_faults.proofs.Lists.{contains_cases, contains_head, contains_later, from_map}
 use Rattle.proto_tree.specs.declared.piece.Header.{Header}
 use Rattle.proto_tree.specs.declared.piece.Heading.{Heading}
 use Rattle.proto_tree.specs.Tree.{Tree}
@@ -37,7 +37,7 @@ use Rattle.proto_checks_laws.specs.NamedFlaws.{flaws_of_block}
 use Rattle.proto_checks_laws.specs.Renamed.{is_of_names}
 use Rattle.proto_checks_laws.proofs.NamedFlaws.{flaws_of_names, no_flaw_comes_in}
 use Rattle.proto_checks_laws.proofs.RenamedFlaws.{names_decide_three_kinds}
-use Rattle.proto_scenes.specs.SceneOf.{scene_of}
+use Rattle.proto_rename_laws.specs.SceneOf.{scene_of}
 use Rattle.proto_desc.specs.Checked.{CheckFaults, of_flaw, fault_of, flaws_of}
 use Rattle.proto_rename_laws.specs.Cases.{collision, captured, name_reserved, json_clash, keyword_name, not_an_identifier}
 use Rattle.proto_rename_laws.specs.Rewording.{AreReworded, SuitFiles}

@@ -21,7 +21,7 @@ use Rattle.proto_text.specs.Strings.{IsAllowed}
 use Rattle.proto_text.specs.Tokens.{AreTokens, IsFaultAt, token_at}
 use Rattle.proto_text.specs.Values.{meaning_from}
 use Rattle.proto_text.proofs.Begins.{accept_other, accept_string, fault_sound, found_some, inside, refuse_string}
-use Rattle.proto_text.proofs.Lists.{contains_head, contains_later}
+use Rattle.proto_faults.proofs.Lists.{contains_head, contains_later}
 use Rattle.proto_text.proofs.Sequence.{IsLexedUpTo, lexed_all, lexed_fault, lexed_more, lexed_none}
 use Rattle.proto_text.proofs.Values.{meaning_again, meaning_sound}
 use Rattle.proto_tree.specs.declared.class.Class.{Class}

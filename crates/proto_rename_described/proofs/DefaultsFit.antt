@@ -23,7 +23,7 @@ use Rattle.proto_checks.specs.FieldFlaws.{default_flaws, holds_number, is_defaul
 use Rattle.proto_checks_laws.specs.NamedFlaws.{flaws_of_block}
 use Rattle.proto_checks_laws.specs.Renamed.{is_of_names}
 use Rattle.proto_checks_laws.proofs.NamedFlaws.{flaws_of_names}
-use Rattle.proto_scenes.specs.SceneOf.{scene_of}
+use Rattle.proto_rename_laws.specs.SceneOf.{scene_of}
 use Rattle.proto_rename_laws.specs.Defaults.{meaning_from}
 use Rattle.proto_rename_laws.specs.Roles.{HasDefaultRoles}
 use Rattle.proto_rename_laws.specs.Rewording.{AreReworded}

@@ -2,7 +2,7 @@
 use Rattle.std.proofs.Common.{◌≡◌, map, sym, ap, subst, ◌∙◌, inl, inr}
 use Rattle.std.specs.List.{Contains}
 use Rattle.std.specs.Str.{bytes_eq}
-use Rattle.proto_text.proofs.Lists.{any_from, any_to, contains_map, from_map, same_from_word, word_from_same}
+use Rattle.proto_faults.proofs.Lists.{any_from, any_to, contains_map, from_map, same_from_word, word_from_same}
 use Rattle.proto_rename_described.specs.DefaultsKept.{DefaultsStayValues}
 
 pub defaults_stay_values : DefaultsStayValues

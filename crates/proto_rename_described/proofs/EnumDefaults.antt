@@ -6,7 +6,7 @@ use Rattle.std.specs.Str.{bytes_eq}
 use Rattle.std.proofs.lemmas.Bool.{cases_Bool, cond-true, cond-false}
 use Rattle.proto_case.specs.Camel.{entry_name}
 use Rattle.proto_text.specs.Texts.{word_at}
-use Rattle.proto_text.proofs.Lists.{any_from, any_to, contains_map, from_map, same_from_word, word_from_same}
+use Rattle.proto_faults.proofs.Lists.{any_from, any_to, contains_map, from_map, same_from_word, word_from_same}
 use Rattle.proto_tree.specs.declared.tree.Reference.{Reference}
 use Rattle.proto_tree.specs.declared.tree.Value.{Value}
 use Rattle.proto_tree.specs.References.{first_of}
@@ -25,7 +25,7 @@ use Rattle.proto_imports.specs.Links.{uses_of}
 use Rattle.proto_parts.specs.Parts.{BlockOf, blocks_in, values_in}
 use Rattle.proto_parts.specs.Scenes.{EnumOf, MeantOf, enum_meant}
 use Rattle.proto_checks.specs.FieldFlaws.{is_value_of}
-use Rattle.proto_scenes.specs.SceneOf.{declared_as, enum_at, enum_named, enum_within, is_enum_at, is_proto3_file, lexemes_of, meaning_of, meant_as, scene_of}
+use Rattle.proto_rename_laws.specs.SceneOf.{declared_as, enum_at, enum_named, enum_within, is_enum_at, is_proto3_file, lexemes_of, meaning_of, meant_as, scene_of}
 use Rattle.proto_rename_laws.specs.Defaults.{means_value, meaning_from}
 use Rattle.proto_rename_laws.specs.Roles.{HasEnumRoles}
 use Rattle.proto_rename_laws.specs.Targets.{HasValue, Target, name_map, renamed_words}

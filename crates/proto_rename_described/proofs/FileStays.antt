@@ -4,7 +4,7 @@ use Rattle.std.proofs.Common.{◌≡◌, ℕ, ℤ, pos, neg_ℤ, Bool, true, fal
 use Rattle.std.specs.List.{Contains}
 use Rattle.std.specs.Str.{bytes_eq}
 use Rattle.std.proofs.lemmas.List.Elements.{Contains-append_left, Contains-append_right}
-use Rattle.proto_text.proofs.Lists.{contains_head, contains_later, word_from_same}
+use Rattle.proto_faults.proofs.Lists.{contains_head, contains_later, word_from_same}
 use Rattle.proto_tree.specs.declared.tree.Constant.{Constant}
 use Rattle.proto_tree.specs.declared.tree.FieldType.{FieldType as WrittenType}
 use Rattle.proto_tree.specs.declared.tree.MapField.{MapField}

@@ -8,7 +8,7 @@ use Rattle.std.proofs.lemmas.List.Elements.{All-contains, Contains-append_left}
 use Rattle.std.proofs.lemmas.Option.{same_Some}
 use Rattle.proto_case.specs.Camel.{entry_name}
 use Rattle.proto_case.proofs.EntryNames.{entry_differs}
-use Rattle.proto_text.proofs.Lists.{contains_map, from_map}
+use Rattle.proto_faults.proofs.Lists.{contains_map, from_map}
 use Rattle.proto_text.specs.Tokens.{lexeme_at}
 use Rattle.proto_tree.specs.declared.piece.Heading.{Heading}
 use Rattle.proto_tree.specs.declared.tree.Constant.{Constant}
@@ -48,7 +48,7 @@ use Rattle.proto_checks.specs.FileFlaws.{block_flaws, flaws_in_blocks}
 use Rattle.proto_checks_laws.proofs.OneField.{names_are_of_one_field}
 use Rattle.proto_checks_laws.specs.Renamed.{DifferInNames, asked_tokens, block_tokens, option_tokens}
 use Rattle.proto_described.specs.Described.{absolute, default_number, default_text, field_type_name, file_described, is_map, type_name_of}
-use Rattle.proto_scenes.specs.SceneOf.{meaning_of, meant_as, scene_of}
+use Rattle.proto_rename_laws.specs.SceneOf.{meaning_of, meant_as, scene_of}
 use Rattle.proto_desc.specs.Checked.{described_from}
 use Rattle.proto_imports.proofs.PlainNames.{name_in, names_are_plain}
 use Rattle.proto_rename_laws.specs.Defaults.{meaning_from, means_value}

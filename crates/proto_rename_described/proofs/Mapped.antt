@@ -5,7 +5,7 @@ use Rattle.std.specs.Str.{bytes_eq}
 use Rattle.std.proofs.lemmas.Bool.{cond-true, cond-false}
 use Rattle.std.proofs.lemmas.List.{append-nil}
 use Rattle.proto_case.specs.Camel.{entry_name}
-use Rattle.proto_text.proofs.Lists.{same_from_word}
+use Rattle.proto_faults.proofs.Lists.{same_from_word}
 use Rattle.proto_tree.specs.declared.tree.Constant.{Constant}
 use Rattle.proto_tree.specs.declared.tree.FieldType.{FieldType as WrittenType}
 use Rattle.proto_tree.specs.declared.tree.MapField.{MapField}

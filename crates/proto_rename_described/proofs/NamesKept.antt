@@ -7,7 +7,7 @@ use Rattle.std.proofs.lemmas.List.Elements.{Contains-append_left, Contains-appen
 use Rattle.proto_faults.specs.declared.fault.FaultKind.{FaultKind}
 use Rattle.proto_faults.specs.declared.fault.FaultKind.TheVariants as kind
 use Rattle.proto_text.proofs.OneEdit.{length_map}
-use Rattle.proto_text.proofs.Lists.{any_from, any_to, contains_head, contains_later, contains_cases, contains_map, from_map, word_from_same}
+use Rattle.proto_faults.proofs.Lists.{any_from, any_to, contains_head, contains_later, contains_cases, contains_map, from_map, word_from_same}
 use Rattle.proto_parts.specs.Options.{is_one_of}
 use Rattle.proto_parts.specs.Parts.{FieldOf}
 use Rattle.proto_parts.specs.Scenes.{Scene, text, value}

@@ -4,7 +4,7 @@ use Rattle.std.specs.List.{Contains, find}
 use Rattle.std.proofs.lemmas.List.Elements.{Contains-append_cases}
 use Rattle.proto_case.specs.Camel.{entry_name}
 use Rattle.proto_case.proofs.EntryNames.{entry_differs}
-use Rattle.proto_text.proofs.Lists.{contains_map, from_map}
+use Rattle.proto_faults.proofs.Lists.{contains_map, from_map}
 use Rattle.proto_tree.specs.declared.tree.Reference.{Reference}
 use Rattle.proto_tree.specs.References.{first_of}
 use Rattle.proto_files.specs.GivenFiles.{FileOf}
@@ -23,7 +23,7 @@ use Rattle.proto_imports.specs.Links.{names_in, names_of_files, text_of, link_sk
 use Rattle.proto_imports.specs.Links.{used_named}
 use Rattle.proto_imports.specs.Links.{uses_of}
 use Rattle.proto_parts.specs.Scenes.{MeantOf, meant_by}
-use Rattle.proto_scenes.specs.SceneOf.{meaning_of, meant_as, scene_of}
+use Rattle.proto_rename_laws.specs.SceneOf.{meaning_of, meant_as, scene_of}
 use Rattle.proto_imports.proofs.PlainNames.{name_in, names_are_plain}
 use Rattle.proto_rename_laws.specs.Scenes.{IsRename}
 use Rattle.proto_rename_roles.proofs.TokenRoles.{placed_declared}

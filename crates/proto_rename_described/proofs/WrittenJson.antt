@@ -3,13 +3,13 @@ use Rattle.std.proofs.Common.{◌≡◌, ℕ, false, ◌⊎◌, List, [], ◌∷
 use Rattle.std.specs.Prelude.{codes}
 use Rattle.std.specs.List.{Contains}
 use Rattle.std.proofs.lemmas.Bool.{cases_eq}
-use Rattle.proto_text.proofs.Lists.{contains_cases, contains_head, contains_later}
+use Rattle.proto_faults.proofs.Lists.{contains_cases, contains_head, contains_later}
 use Rattle.proto_files.specs.FilesRead.{read_at}
 use Rattle.proto_parts.specs.Options.{text_option}
 use Rattle.proto_parts.specs.Parts.{BlockOf, FieldOf, OptionOf, blocks_in, fields_in}
 use Rattle.proto_parts.specs.Scenes.{text, value}
 use Rattle.proto_checks_laws.proofs.OneField.{names_are_of_one_field}
-use Rattle.proto_scenes.specs.SceneOf.{lexemes_of, scene_of}
+use Rattle.proto_rename_laws.specs.SceneOf.{lexemes_of, scene_of}
 use Rattle.proto_rename_roles.proofs.TokenRoles.{block_inside, spelled}
 use Rattle.proto_rename_described.specs.Renamed.{of_another, of_field}
 use Rattle.proto_rename_described.specs.WrittenJson.{JsonIsWrittenOnce, JsonIsWrittenOrNot}

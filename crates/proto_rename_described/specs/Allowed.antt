@@ -10,7 +10,7 @@ use Rattle.proto_files.specs.FilesRead.{ReadOf, AreRead, read_at}
 use Rattle.proto_imports.specs.Links.{LinkFaults}
 use Rattle.proto_parts.specs.Parts.{BlockOf, FieldOf, blocks_in, fields_in}
 use Rattle.proto_checks.specs.FieldFlaws.{default_flaws}
-use Rattle.proto_scenes.specs.SceneOf.{scene_of}
+use Rattle.proto_rename_laws.specs.SceneOf.{scene_of}
 use Rattle.proto_desc.specs.Checked.{CheckFaults}
 use Rattle.proto_rename_laws.specs.Cases.{RenameCase}
 use Rattle.proto_rename_laws.specs.Rewording.{AreReworded}

@@ -9,7 +9,7 @@ use Rattle.proto_meaning.specs.Grown.{at}
 use Rattle.proto_imports.specs.Links.{text_of}
 use Rattle.proto_parts.specs.Scenes.{enum_meant}
 use Rattle.proto_checks.specs.FieldFlaws.{is_value_of}
-use Rattle.proto_scenes.specs.SceneOf.{scene_of}
+use Rattle.proto_rename_laws.specs.SceneOf.{scene_of}
 use Rattle.proto_rename_laws.specs.Defaults.{means_value, meaning_from}
 use Rattle.proto_rename_laws.specs.Rewording.{AreReworded}
 use Rattle.proto_rename_laws.specs.Targets.{Target, renamed_words}

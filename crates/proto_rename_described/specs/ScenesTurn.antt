@@ -13,7 +13,7 @@ use Rattle.proto_meaning.specs.Tree.{Placed, file_placed}
 use Rattle.proto_listing.specs.FromTree.{items_in}
 use Rattle.proto_imports.specs.Links.{text_of}
 use Rattle.proto_parts.specs.Scenes.{text, meant_by}
-use Rattle.proto_scenes.specs.SceneOf.{scene_of}
+use Rattle.proto_rename_laws.specs.SceneOf.{scene_of}
 use Rattle.proto_rename_laws.specs.Scenes.{IsRename}
 use Rattle.proto_rename_laws.specs.Rewording.{NewWords}
 use Rattle.proto_rename_described.specs.Mapped.{word_under}

@@ -4,7 +4,7 @@ use Rattle.std.specs.List.{Contains}
 use Rattle.std.proofs.lemmas.Bool.{cases_Bool, both_ways, cond-true, cond-false}
 use Rattle.std.proofs.lemmas.List.{length-take-le, take-append-drop}
 use Rattle.std.proofs.lemmas.Option.{same_Some}
-use Rattle.proto_text.proofs.Lists.{any_from, any_to}
+use Rattle.proto_faults.proofs.Lists.{any_from, any_to}
 use Rattle.proto_meaning.specs.Edits.{Renaming, Collides, moves, ren, rewritten, shows_mapped, target, turned}
 use Rattle.proto_meaning.specs.Linked.{IsLinked, IsRenaming}
 use Rattle.proto_meaning.specs.Names.{Reference, Symbol, Workspace, fits, hit, hits_at, same_name, sees}

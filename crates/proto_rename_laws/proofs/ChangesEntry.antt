@@ -11,7 +11,7 @@ use Rattle.proto_text.specs.SourceFacts.{text_at}
 use Rattle.proto_text.specs.Texts.{edit_if, token_edits, word_at}
 use Rattle.proto_text.specs.Tokens.{lexeme_at}
 use Rattle.proto_text.proofs.Once.{puts_length}
-use Rattle.proto_text.proofs.Lists.{contains_cases, contains_head, contains_later}
+use Rattle.proto_faults.proofs.Lists.{contains_cases, contains_head, contains_later}
 use Rattle.proto_text.proofs.OneEdit.{length_map}
 use Rattle.proto_files.specs.GivenFiles.{FileOf, AreWorkspaceFiles, file_at}
 use Rattle.proto_files.specs.WorkspacePaths.{IsBefore, IsWorkspacePath}

@@ -5,7 +5,7 @@ use Rattle.std.proofs.lemmas.Bool.{cases_order}
 use Rattle.std.proofs.lemmas.List.Elements.{Contains-append_left, Contains-append_right, Contains-append_cases}
 use Rattle.proto_text.specs.Edits.{Edit, Puts}
 use Rattle.proto_text.specs.Texts.{token_edits}
-use Rattle.proto_text.proofs.Lists.{contains_cases, contains_head}
+use Rattle.proto_faults.proofs.Lists.{contains_cases, contains_head}
 use Rattle.proto_text.proofs.OneEdit.{length_map}
 use Rattle.proto_files.specs.GivenFiles.{FileOf, file_at}
 use Rattle.proto_files.specs.FilesRead.{ReadOf, read_at}

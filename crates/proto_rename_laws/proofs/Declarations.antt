@@ -3,7 +3,7 @@ use Rattle.std.proofs.Common.{◌≡◌, ℕ, zero, suc, ◌+◌, ◌<◌, Bool,
 use Rattle.std.specs.List.{Contains}
 use Rattle.std.specs.Prelude.{slice_index_or}
 use Rattle.std.proofs.lemmas.List.Elements.{Contains-append_cases, Contains-append_left, Contains-append_right}
-use Rattle.proto_text.proofs.Lists.{contains_cases, contains_map, from_map}
+use Rattle.proto_faults.proofs.Lists.{contains_cases, contains_map, from_map}
 use Rattle.proto_files.specs.FilesRead.{ReadOf, read_at}
 use Rattle.proto_meaning.specs.Grown.{FileNames, At, at, declared_of, file_declared, all_declared}
 use Rattle.proto_meaning.specs.declared.kind.Kind.{Kind}

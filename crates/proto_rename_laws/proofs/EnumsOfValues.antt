@@ -3,7 +3,7 @@ use Rattle.std.proofs.Common.{◌≡◌, ℕ, true, List, [], ◌∷◌, ◌++�
 use Rattle.std.specs.List.{Contains}
 use Rattle.std.proofs.lemmas.Bool.{eq-eqb}
 use Rattle.std.proofs.lemmas.List.Elements.{Contains-append_left, Contains-append_right, Contains-append_cases}
-use Rattle.proto_text.proofs.Lists.{contains_cases, contains_head, contains_later, from_map}
+use Rattle.proto_faults.proofs.Lists.{contains_cases, contains_head, contains_later, from_map}
 use Rattle.proto_tree.specs.declared.tree.Value.{Value as ValueParts}
 use Rattle.proto_tree.specs.declared.piece.Statement.{Statement}
 use Rattle.proto_tree.specs.declared.piece.Header.{Header}

@@ -6,7 +6,7 @@ use Rattle.std.proofs.lemmas.List.Elements.{Contains-append_cases}
 use Rattle.proto_text.specs.declared.lexer.Token.{Token as TextToken}
 use Rattle.proto_text.specs.Texts.{word_at, words}
 use Rattle.proto_text.specs.Tokens.{Lexeme, lexeme_at}
-use Rattle.proto_text.proofs.Lists.{contains_cases, from_map}
+use Rattle.proto_faults.proofs.Lists.{contains_cases, from_map}
 use Rattle.proto_text.proofs.OneEdit.{length_map}
 use Rattle.proto_files.specs.FilesRead.{ReadOf, read_at}
 use Rattle.proto_files.specs.GivenFiles.{FileOf, file_at}

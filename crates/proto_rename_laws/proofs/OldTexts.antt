@@ -2,7 +2,7 @@
 use Rattle.std.proofs.Common.{◌≡◌, ℕ, Bool, true, false, ◌&&◌, if◌then◌else◌, List, flat_map, Option, Some, None, refl, sym, ap, inl, inr}
 use Rattle.std.specs.List.{Contains, list_any}
 use Rattle.std.proofs.lemmas.List.Elements.{Contains-append_cases}
-use Rattle.proto_text.proofs.Lists.{contains_cases, word_from_same}
+use Rattle.proto_faults.proofs.Lists.{contains_cases, word_from_same}
 use Rattle.proto_meaning.specs.Edits.{target}
 use Rattle.proto_meaning.specs.Grown.{At}
 use Rattle.proto_meaning.proofs.Basics.{name_from_same}

@@ -7,7 +7,7 @@ use Rattle.std.proofs.lemmas.List.{append-nil}
 use Rattle.std.proofs.lemmas.List.Elements.{Contains-append_left, Contains-append_right, Contains-append_cases}
 use Rattle.proto_case.specs.Camel.{entry_name}
 use Rattle.proto_text.specs.Texts.{or_word}
-use Rattle.proto_text.proofs.Lists.{any_from, any_to, contains_head, contains_later, contains_cases}
+use Rattle.proto_faults.proofs.Lists.{any_from, any_to, contains_head, contains_later, contains_cases}
 use Rattle.proto_meaning.specs.Names.{same_name}
 use Rattle.proto_meaning.specs.Edits.{Renaming, target, rewritten}
 use Rattle.proto_meaning.specs.Grown.{At}

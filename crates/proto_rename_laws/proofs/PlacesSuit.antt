@@ -10,7 +10,7 @@ use Rattle.proto_case.specs.Camel.{entry_name}
 use Rattle.proto_text.specs.declared.class.Class.TheVariants.{Letter}
 use Rattle.proto_text.specs.declared.kind.TokenKind.TheVariants.{Word}
 use Rattle.proto_text.specs.Pieces.{IsRun}
-use Rattle.proto_text.proofs.Lists.{contains_cases, contains_head, contains_later, contains_map}
+use Rattle.proto_faults.proofs.Lists.{contains_cases, contains_head, contains_later, contains_map}
 use Rattle.proto_tree.specs.declared.class.Want.{Want}
 use Rattle.proto_tree.specs.Classes.{fits}
 use Rattle.proto_tree.specs.Flat.{Mark}

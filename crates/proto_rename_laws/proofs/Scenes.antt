@@ -15,7 +15,7 @@ use Rattle.proto_text.specs.declared.kind.TokenKind.TheVariants.{Word, Number, T
 use Rattle.proto_text.specs.Texts.{changed, or_word, word_at, AreWords}
 use Rattle.proto_text.specs.Tokens.{Lexeme}
 use Rattle.proto_text.specs.Values.{value_of}
-use Rattle.proto_text.proofs.Lists.{any_agree, contains_head, contains_later, contains_map}
+use Rattle.proto_faults.proofs.Lists.{any_agree, contains_head, contains_later, contains_map}
 use Rattle.proto_tree.specs.declared.tree.Value.{Value}
 use Rattle.proto_tree.specs.declared.piece.Statement.{Statement}
 use Rattle.proto_tree.specs.Tree.{Tree, End}

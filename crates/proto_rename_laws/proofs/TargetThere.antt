@@ -6,7 +6,7 @@ use Rattle.std.proofs.lemmas.Bool.{cases_Bool, cond-false, cond-true, true≢fal
 use Rattle.proto_case.specs.Camel.{entry_name}
 use Rattle.proto_text.proofs.OneEdit.{length_map}
 use Rattle.proto_text.specs.Tokens.{lexeme_at}
-use Rattle.proto_text.proofs.Lists.{any_from, any_to, contains_cases, from_map, same_from_word, word_from_same}
+use Rattle.proto_faults.proofs.Lists.{any_from, any_to, contains_cases, from_map, same_from_word, word_from_same}
 use Rattle.proto_tree.specs.declared.tree.Value.{Value as ValueParts}
 use Rattle.proto_tree.specs.Laws.{Numbered}
 use Rattle.proto_tree.specs.Tree.{End, flat}

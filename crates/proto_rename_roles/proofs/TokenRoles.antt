@@ -5,7 +5,7 @@ use Rattle.std.proofs.lemmas.Bool.{eq-eqb}
 use Rattle.std.proofs.lemmas.List.Elements.{Contains-append_cases, Contains-append_right, Contains-get_or}
 use Rattle.std.proofs.lemmas.Option.{same_Some}
 use Rattle.proto_case.specs.Camel.{entry_name}
-use Rattle.proto_text.proofs.Lists.{contains_cases, contains_head, from_map}
+use Rattle.proto_faults.proofs.Lists.{contains_cases, contains_head, from_map}
 use Rattle.proto_text.proofs.OneEdit.{length_map}
 use Rattle.proto_tree.specs.declared.class.Class.{Class}
 use Rattle.proto_tree.specs.declared.class.Class.TheVariants as class
@@ -44,7 +44,7 @@ use Rattle.proto_checks_laws.proofs.Declarations.{blocks_are_declared, fields_ar
 use Rattle.proto_checks_laws.proofs.FieldOrder.{field_names_rise}
 use Rattle.proto_checks_laws.proofs.OneField.{options_are_of_one_field}
 use Rattle.proto_checks_laws.proofs.Roles.{defaults_are_not_asked, field_options_have_roles, names_are_not_asked, value_numbers_are_numbers}
-use Rattle.proto_scenes.specs.SceneOf.{is_enum_at, lexemes_of, scene_of}
+use Rattle.proto_rename_laws.specs.SceneOf.{is_enum_at, lexemes_of, scene_of}
 use Rattle.proto_rename_laws.specs.Defaults.{means_value, renamed_defaults, type_meaning}
 use Rattle.proto_rename_laws.specs.Places.{Names, Uses, front_of, renamed_places, standing}
 use Rattle.proto_rename_laws.specs.Roles.{AreApart, HasDefaultWords, HasEnumRoles, HasRoles, HasWants}

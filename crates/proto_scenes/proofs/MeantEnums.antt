@@ -6,21 +6,21 @@ use Rattle.std.proofs.lemmas.Option.{none-some, same_Some, slice_get-get_or}
 use Rattle.proto_files.specs.GivenFiles.{FileOf}
 use Rattle.proto_case.specs.Camel.{entry_name}
 use Rattle.proto_meaning.specs.Faults.{place_of}
-use Rattle.proto_imports.specs.Links.{uses_of}
+use Rattle.proto_names.specs.Links.{uses_of}
 use Rattle.proto_meaning.specs.Grown.{At, at}
 use Rattle.proto_meaning.specs.Joined.{joined}
 use Rattle.proto_meaning.specs.Linked.{is_package}
 use Rattle.proto_names.specs.LinkOfFiles.{IsLinkRead, TextMeant, meant_by_link, meant_by_use}
 use Rattle.proto_names.specs.Linking.{LinkOf, NameOf, name_at, own_file, own_token, text_at}
 use Rattle.proto_files.specs.FilesRead.{ReadOf}
-use Rattle.proto_imports.specs.Links.{link_skeleton, names_of_files, text_of}
+use Rattle.proto_names.specs.Links.{link_skeleton, names_of_files, text_of}
 use Rattle.proto_meaning.specs.Names.{Symbol, is_type, same_name}
 use Rattle.proto_meaning.specs.declared.kind.Kind.{Kind}
 use Rattle.proto_meaning.specs.declared.kind.Kind.TheVariants.{Package, Message, Entry, Enum, Service, Field, EntryField, Oneof, Value, Method}
-use Rattle.proto_imports.specs.Links.{used_named}
+use Rattle.proto_names.specs.Links.{used_named}
 use Rattle.proto_meaning.specs.Skeleton.{Declared, Used, name_of, symbol_of}
 use Rattle.proto_names.specs.declared.references.Meant.{Meant}
-use Rattle.proto_text.proofs.Lists.{contains_cases, contains_head, contains_later, contains_map, from_map}
+use Rattle.proto_faults.proofs.Lists.{contains_cases, contains_head, contains_later, contains_map, from_map}
 use Rattle.proto_meaning.proofs.Basics.{name_from_same, same_from_name}
 use Rattle.proto_names.proofs.MeantNames.{declared_as as stands_at}
 use Rattle.proto_meaning.proofs.Renamed.{meant}

@@ -2,3 +2,4 @@ pub mod Enums
 pub mod Meanings
 pub mod SceneOf
 pub mod Scenes
+pub use Rattle.proto_names.specs.LinkOfFiles

@@ -12,13 +12,13 @@ use Rattle.proto_files.specs.GivenFiles.{FileOf, file_at}
 use Rattle.proto_faults.specs.Texts.{Text}
 use Rattle.proto_case.specs.Camel.{entry_name}
 use Rattle.proto_meaning.specs.Faults.{place_of}
-use Rattle.proto_imports.specs.Links.{uses_of}
+use Rattle.proto_names.specs.Links.{uses_of}
 use Rattle.proto_meaning.specs.Grown.{At}
 use Rattle.proto_meaning.specs.Joined.{joined}
 use Rattle.proto_files.specs.FilesRead.{ReadOf, read_at}
-use Rattle.proto_imports.specs.Links.{text_of, link_skeleton, names_of_files}
+use Rattle.proto_names.specs.Links.{text_of, link_skeleton, names_of_files}
 use Rattle.proto_meaning.specs.Names.{same_name, meaning}
-use Rattle.proto_imports.specs.Links.{used_named}
+use Rattle.proto_names.specs.Links.{used_named}
 use Rattle.proto_meaning.specs.Skeleton.{Declared, Used, name_of}
 use Rattle.proto_parts.specs.Numbers.{number_of}
 use Rattle.proto_parts.specs.Parts.{blocks_in, values_in}

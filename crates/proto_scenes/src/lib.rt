@@ -5,3 +5,5 @@
 mod enum_blocks;
 pub mod enum_table;
 pub mod scenes;
+
+pub use proto_names::Link;

@@ -18,7 +18,7 @@ use Rattle.proto_imports.specs.Links.{LinkFaults, of_import, of_name, of_referen
 use Rattle.proto_imports.proofs.FaultPlaces.{import_found, name_found, reference_found}
 use Rattle.proto_checks.proofs.Phases.{flaws_are_of_checks}
 use Rattle.proto_desc.specs.Checked.{CheckFaults, of_flaw, IsCheckError}
-use Rattle.proto_scenes.specs.SceneOf.{scene_of}
+use Rattle.proto_desc.specs.SceneOf.{scene_of}
 use Rattle.proto_schema.specs.Answers.{IsOpenError}
 use Rattle.proto_schema.specs.Whole.{IsSortedOf, FileFaults, of_read, of_link as of_linking, of_check as of_checking, WorkspaceFaults, of_path, of_files as of_sorted}
 

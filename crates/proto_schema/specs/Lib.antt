@@ -1,2 +1,3 @@
 pub mod Answers
 pub mod Whole
+pub use Rattle.proto_desc.specs.Checked

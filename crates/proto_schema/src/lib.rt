@@ -3,5 +3,6 @@
 
 mod schema;
 
+pub use proto_desc::{Descriptors, to_json};
 pub use proto_faults::SchemaFault as OpenFault;
 pub use schema::Schema;

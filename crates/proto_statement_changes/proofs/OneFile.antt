@@ -7,7 +7,7 @@ use Rattle.std.proofs.lemmas.List.{get_or-set_same, get_or-set_other, length-set
 use Rattle.std.proofs.lemmas.List.Elements.{All-cons, All-head, All-nil}
 use Rattle.proto_text.specs.declared.lexer.Token.{Token}
 use Rattle.proto_text.specs.Edits.{Edit, Puts}
-use Rattle.proto_text.proofs.Lists.{contains_cases, contains_head}
+use Rattle.proto_faults.proofs.Lists.{contains_cases, contains_head}
 use Rattle.proto_tree.specs.Reads.{Reads}
 use Rattle.proto_tree.specs.Tree.{Tree, End}
 use Rattle.proto_files.specs.FilesRead.{ReadOf, read_at}

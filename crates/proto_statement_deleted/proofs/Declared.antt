@@ -5,7 +5,7 @@ use Rattle.std.specs.Option.{option_and_then}
 use Rattle.std.proofs.lemmas.Bool.{cases_eq, both_ways, false_from_ne_true}
 use Rattle.std.proofs.lemmas.List.Elements.{Contains-append_left, Contains-append_right}
 use Rattle.proto_case.specs.Camel.{entry_name}
-use Rattle.proto_text.proofs.Lists.{contains_head, contains_later, contains_map}
+use Rattle.proto_faults.proofs.Lists.{contains_head, contains_later, contains_map}
 use Rattle.proto_text.specs.Texts.{word_at}
 use Rattle.proto_text.specs.Tokens.{Lexeme}
 use Rattle.proto_tree.specs.Moved.{Move}
@@ -22,7 +22,7 @@ use Rattle.proto_meaning.proofs.Basics.{name_from_same}
 use Rattle.proto_meaning.proofs.Symbols.{one_symbol}
 use Rattle.proto_imports.specs.Links.{link_skeleton, names_in, names_of_files, text_of}
 use Rattle.proto_parts.specs.Scenes.{EnumOf}
-use Rattle.proto_scenes.specs.SceneOf.{declared_as, enum_at, enum_named, is_proto3_file, lexemes_of}
+use Rattle.proto_statement_described.specs.SceneOf.{declared_as, enum_at, enum_named, is_proto3_file, lexemes_of}
 use Rattle.proto_statement_described.specs.Deletions.{Reservation, WrittenField}
 use Rattle.proto_statement_described.specs.Files.{tree_at}
 use Rattle.proto_statement_described.proofs.Kept.{deletions_keep_versions}

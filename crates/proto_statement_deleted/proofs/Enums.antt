@@ -12,7 +12,7 @@ use Rattle.proto_tree.specs.Tree.{Tree, Block}
 use Rattle.proto_parts.specs.Numbers.{number_of}
 use Rattle.proto_parts.specs.Parts.{BlockOf, blocks_in, values_in}
 use Rattle.proto_parts.specs.Scenes.{EnumOf}
-use Rattle.proto_scenes.specs.SceneOf.{enum_within, is_enum_at, starts_past_zero}
+use Rattle.proto_statement_described.specs.SceneOf.{enum_within, is_enum_at, starts_past_zero}
 use Rattle.proto_checks_laws.proofs.MovedParts.{blocks_moved, find_moved, maps_kept, move_block_of, values_moved}
 use Rattle.proto_statement_described.specs.Deletions.{AtField, AtOneof, BehindBlock, BehindLeaf, Deeper, Found, FurtherOn, InMessage, IsAmong, IsDeletedIn, IsDeletedRight, PastBlock, PastLeaf, Reservation, WrittenField}
 

@@ -5,8 +5,8 @@ use Rattle.proto_files.specs.FilesRead.{AreRead, ReadOf}
 use Rattle.proto_files.specs.GivenFiles.{FileOf}
 use Rattle.proto_meaning.specs.Grown.{At, at}
 use Rattle.proto_meaning.specs.Skeleton.{Declared, Source, Token, shifted_source}
-use Rattle.proto_rename_laws.specs.Targets.{Target}
-use Rattle.proto_rename_laws.proofs.Declarations.{declared_by, path_of}
+use Rattle.proto_statement_names.specs.Targets.{Target}
+use Rattle.proto_statement_names.proofs.Declarations.{declared_by, path_of}
 use Rattle.proto_statement_changes.specs.DeletionChanges.{FieldAt, FieldsAreOne as StatementsAreOne, FieldsAreThere as StatementsAreThere, IsFieldAt}
 use Rattle.proto_statement_names.specs.Cases.{IsField}
 use Rattle.proto_statement_names.proofs.Fields.{fields_are_one, fields_are_there}

@@ -1,7 +1,7 @@
 -- What the three trees of a deletion declare, use and import.
 use Rattle.std.proofs.Common.{◌≡◌, ℕ, List, [], ◌∷◌, ◌++◌, map, refl, sym, ◌∙◌, ap, ap₂, subst, append_assoc, inl, inr, arith}
 use Rattle.std.specs.List.{AllByRecursion, Contains}
-use Rattle.proto_text.proofs.Lists.{contains_cases}
+use Rattle.proto_faults.proofs.Lists.{contains_cases}
 use Rattle.proto_tree.specs.declared.piece.Header.{Header}
 use Rattle.proto_tree.specs.declared.piece.Header.TheVariants as header
 use Rattle.proto_tree.specs.declared.piece.Heading.{Heading}

@@ -5,7 +5,7 @@ use Rattle.std.proofs.lemmas.Bool.{cases_lt, true≢false}
 use Rattle.std.proofs.lemmas.List.{append-nil}
 use Rattle.std.proofs.lemmas.List.Elements.{Contains-append_left, Contains-append_right}
 use Rattle.proto_case.specs.Camel.{entry_name}
-use Rattle.proto_text.proofs.Lists.{contains_map, from_map}
+use Rattle.proto_faults.proofs.Lists.{contains_map, from_map}
 use Rattle.proto_text.proofs.OneEdit.{length_map}
 use Rattle.proto_text.specs.Texts.{word_at}
 use Rattle.proto_text.specs.Tokens.{Lexeme}
@@ -27,9 +27,9 @@ use Rattle.proto_imports.specs.Links.{link_skeleton, names_in, names_of_files, t
 use Rattle.proto_imports.specs.Links.{used_named}
 use Rattle.proto_imports.specs.Links.{uses_of}
 use Rattle.proto_parts.specs.Scenes.{EnumOf, MeantOf, Scene}
-use Rattle.proto_scenes.specs.SceneOf.{enum_named, is_proto3_file, lexemes_of, meaning_of, meant_as, means_of}
+use Rattle.proto_statement_described.specs.SceneOf.{enum_named, is_proto3_file, lexemes_of, meaning_of, meant_as, means_of}
 use Rattle.proto_checks_laws.proofs.MovedParts.{maps_moved}
-use Rattle.proto_rename_laws.proofs.Scenes.{index_map}
+use Rattle.proto_statement_names.proofs.Scenes.{index_map}
 use Rattle.proto_statement_described.specs.Deletions.{Reservation, WrittenField}
 use Rattle.proto_statement_described.specs.Files.{scene_at, tree_at}
 use Rattle.proto_statement_described.specs.Scenes.{HasTokens, move_meant}

@@ -3,7 +3,7 @@ use Rattle.std.proofs.Common.{◌≡◌, ◌⊎◌, inl, inr, ℕ, suc, ◌<◌,
 use Rattle.std.specs.List.{Contains}
 use Rattle.std.proofs.lemmas.Bool.{and_parts}
 use Rattle.std.proofs.lemmas.List.Elements.{Contains-append_left, Contains-append_right}
-use Rattle.proto_text.proofs.Lists.{contains_cases, contains_head, contains_later, contains_map}
+use Rattle.proto_faults.proofs.Lists.{contains_cases, contains_head, contains_later, contains_map}
 use Rattle.proto_tree.specs.declared.context.Context.{Context}
 use Rattle.proto_tree.specs.declared.context.Context.TheVariants as context
 use Rattle.proto_tree.specs.declared.piece.Header.{Header}
@@ -22,7 +22,7 @@ use Rattle.proto_checks.specs.FieldFlaws.{field_flaws, option_flaws}
 use Rattle.proto_checks.specs.FileFlaws.{block_flaws, flaws_in_blocks, message_flaws}
 use Rattle.proto_checks_laws.proofs.DeletedFlaws.{nil_parts}
 use Rattle.proto_parts.specs.declared.options.Element.TheVariants as element
-use Rattle.proto_desc.specs.Checked.{fault_of, flaws_of, of_flaw}
+use Rattle.proto_statement_described.specs.Checked.{fault_of, flaws_of, of_flaw}
 use Rattle.proto_faults.specs.declared.fault.FaultKind.{FaultKind}
 use Rattle.proto_faults.specs.declared.fault.FaultKind.TheVariants as kind
 use Rattle.proto_text.specs.Texts.{word_at}

@@ -23,8 +23,8 @@ use Rattle.proto_entries.proofs.Puts.{puts_are_once}
 use Rattle.proto_imports.specs.Links.{names_of_files}
 use Rattle.proto_parts.specs.Numbers.{number_of as value_of_digits}
 use Rattle.proto_parts.specs.Scenes.{string_of, value_or_none}
-use Rattle.proto_scenes.specs.SceneOf.{lexemes_of}
-use Rattle.proto_rename_laws.proofs.NoLinkFault.{files_are_linked, read_files_are_clean}
+use Rattle.proto_statement_described.specs.SceneOf.{lexemes_of}
+use Rattle.proto_statement_names.proofs.NoLinkFault.{files_are_linked, read_files_are_clean}
 use Rattle.proto_statement_laws.specs.Deletions.{IsDeleted, StandsAt, first_token, own, reserved_at, without}
 use Rattle.proto_statement_laws.specs.Exchanges.{LexemesAreMoved}
 use Rattle.proto_statement_laws.specs.Statements.{reservation_tokens}

@@ -3,7 +3,7 @@ use Rattle.std.specs.Prelude.{◌<◌, ◌^◌, List}
 use Rattle.proto_files.specs.Faults.{HasNoFault}
 use Rattle.proto_files.specs.FilesRead.{AreRead, ReadOf}
 use Rattle.proto_files.specs.GivenFiles.{FileOf}
-use Rattle.proto_desc.specs.Checked.{CheckFaults}
+use Rattle.proto_statement_described.specs.Checked.{CheckFaults}
 use Rattle.proto_statement_changes.specs.DeletionChanges.{FieldAt, IsFieldAt, number_of_field}
 
 -- Without a fault of the checks the number of each field is below 2^64.

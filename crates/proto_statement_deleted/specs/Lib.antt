@@ -4,3 +4,7 @@ pub mod Numbers
 pub mod Scenes
 pub mod Trees
 pub mod Workspace
+pub use Rattle.proto_statement_described.specs.Files
+pub use Rattle.proto_statement_described.specs.Imports
+pub use Rattle.proto_statement_described.specs.Lists
+pub use Rattle.proto_statement_described.specs.Mapped

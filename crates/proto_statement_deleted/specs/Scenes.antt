@@ -11,7 +11,7 @@ use Rattle.proto_meaning.specs.Skeleton.{Source, Used}
 use Rattle.proto_listing.specs.FromTree.{statement_uses}
 use Rattle.proto_imports.specs.Links.{names_of_files}
 use Rattle.proto_parts.specs.Scenes.{Scene}
-use Rattle.proto_scenes.specs.SceneOf.{lexemes_of}
+use Rattle.proto_statement_described.specs.SceneOf.{lexemes_of}
 use Rattle.proto_statement_described.specs.Deletions.{IsDeletedIn, Reservation, WrittenField, statement_of}
 use Rattle.proto_statement_described.specs.Files.{OthersStay, scene_at, tree_at}
 use Rattle.proto_statement_described.specs.Scenes.{HasTokens}

@@ -10,8 +10,8 @@ use Rattle.proto_files.specs.ReadFaults.{ReadFaults}
 use Rattle.proto_meaning.specs.Grown.{at}
 use Rattle.proto_imports.specs.Links.{LinkFaults}
 use Rattle.proto_json.specs.Descriptors.{FileDesc}
-use Rattle.proto_desc.specs.Checked.{AreDescribed, CheckFaults}
-use Rattle.proto_rename_laws.specs.Targets.{Target}
+use Rattle.proto_statement_described.specs.Checked.{AreDescribed, CheckFaults}
+use Rattle.proto_statement_names.specs.Targets.{Target}
 use Rattle.proto_entries.specs.Entries.{IsEntry}
 use Rattle.proto_entries.specs.Putting.{IsPut}
 use Rattle.proto_statement_changes.specs.DeletionChanges.{FieldAt, IsFieldAt, IsFieldDeleted, changes_of_deletion, splice_of_deletion}

@@ -5,7 +5,7 @@ use Rattle.std.specs.Str.{bytes_eq}
 use Rattle.std.proofs.lemmas.List.{map-append}
 use Rattle.std.proofs.lemmas.Bool.{both_ways, eq-eqb, false_from_ne_true}
 use Rattle.std.proofs.lemmas.List.Elements.{All-from_recursion, Contains-append_left, Contains-append_right}
-use Rattle.proto_text.proofs.Lists.{contains_head, contains_later, contains_map, word_from_same}
+use Rattle.proto_faults.proofs.Lists.{contains_head, contains_later, contains_map, word_from_same}
 use Rattle.std.proofs.lemmas.Grind.{flat_map-append}
 use Rattle.proto_faults.specs.declared.fault.FaultKind.{FaultKind}
 use Rattle.proto_faults.specs.declared.fault.FaultKind.TheVariants as kind

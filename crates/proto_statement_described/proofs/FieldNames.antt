@@ -4,7 +4,7 @@ use Rattle.std.specs.List.{AllPairs, Contains}
 use Rattle.std.proofs.lemmas.List.{map-append}
 use Rattle.std.proofs.lemmas.Option.{same_Some}
 use Rattle.proto_case.specs.Camel.{entry_name}
-use Rattle.proto_text.proofs.Lists.{contains_cases, contains_map}
+use Rattle.proto_faults.proofs.Lists.{contains_cases, contains_map}
 use Rattle.proto_tree.specs.declared.piece.Header.TheVariants as header
 use Rattle.proto_tree.specs.Tree.{Tree}
 use Rattle.proto_files.specs.FilesRead.{AreRead, ReadOf, read_at}
@@ -19,7 +19,7 @@ use Rattle.proto_listing.specs.FromTree.{items_in}
 use Rattle.proto_imports.specs.Links.{names_in, names_of_files, text_of}
 use Rattle.proto_checks_laws.specs.Declarations.{IsDeclared}
 use Rattle.proto_checks_laws.proofs.Declarations.{blocks_are_declared}
-use Rattle.proto_scenes.specs.SceneOf.{lexemes_of, scene_of}
+use Rattle.proto_desc.specs.SceneOf.{lexemes_of, scene_of}
 use Rattle.proto_statement_described.specs.Deletions.{FieldNamesDiffer}
 
 -- ---- two of a list

@@ -8,7 +8,7 @@ use Rattle.std.proofs.lemmas.Bool.Decides.{nat_tests}
 use Rattle.std.proofs.lemmas.Grind.{flat_map-append}
 use Rattle.std.proofs.lemmas.List.{append-nil, map-append}
 use Rattle.std.proofs.lemmas.List.Elements.{All-contains}
-use Rattle.proto_text.proofs.Lists.{contains_head, contains_later, same_from_word}
+use Rattle.proto_faults.proofs.Lists.{contains_head, contains_later, same_from_word}
 use Rattle.proto_text.proofs.OneEdit.{length_map}
 use Rattle.proto_tree.specs.Moved.{Move}
 use Rattle.proto_tree.specs.Tree.{Tree}

@@ -4,7 +4,7 @@ use Rattle.std.specs.Prelude.{cond}
 use Rattle.std.specs.List.{Contains}
 use Rattle.std.specs.Option.{option_and_then}
 use Rattle.std.proofs.lemmas.Bool.{cases_eq, eq-eqb, ne_eqb}
-use Rattle.proto_text.proofs.Lists.{contains_head, contains_later}
+use Rattle.proto_faults.proofs.Lists.{contains_head, contains_later}
 use Rattle.proto_text.specs.Texts.{word_at}
 use Rattle.proto_text.specs.Tokens.{Lexeme}
 use Rattle.proto_tree.specs.declared.tree.Reference.{Reference}

@@ -5,3 +5,5 @@ pub mod Kept
 pub mod Lists
 pub mod Mapped
 pub mod Scenes
+pub use Rattle.proto_desc.specs.Checked
+pub use Rattle.proto_desc.specs.SceneOf

@@ -17,7 +17,7 @@ use Rattle.proto_meaning.specs.Names.{Workspace}
 use Rattle.proto_meaning.specs.Skeleton.{Used, reference_of}
 use Rattle.proto_imports.specs.Links.{uses_of}
 use Rattle.proto_captures.specs.Overtaking.{IsFirstOvertaken, Overtakes}
-use Rattle.proto_rename_laws.specs.Cases.{IsFirstPlace, StandsBefore}
+use Rattle.proto_captures.specs.Cases.{IsFirstPlace, StandsBefore}
 use Rattle.proto_statement_changes.specs.ImportChanges.{splice_of_addition}
 use Rattle.proto_statement_changes.specs.OneFile.{IsTooLong}
 use Rattle.proto_statement_names.specs.Cases.{AdditionCase, IsImported, IsNoFile, IsOvertakenIn, IsPlaceOf, already_imported, captured, cycle, unknown_file, unknown_path, with_added}

@@ -10,7 +10,7 @@ use Rattle.proto_entries.specs.declared.refusal.Refusal.TheVariants as refusal
 use Rattle.proto_meaning.specs.Grown.{At}
 use Rattle.proto_meaning.specs.Skeleton.{Used}
 use Rattle.proto_names.specs.declared.link.RefId.{RefId}
-use Rattle.proto_rename_laws.specs.Cases.{IsFirstPlace}
+use Rattle.proto_captures.specs.Cases.{IsFirstPlace}
 use Rattle.proto_statement_names.specs.Cases.{DropCase, IsImported, IsNeededIn, IsNoFile, IsPlaceOf, needed, no_such_file, not_imported}
 use Rattle.proto_statement_edits.specs.Edits.{IsDropCase, IsDropRefusal}
 use Rattle.proto_statement_edits.specs.Steps.{IsFirstNeeded, IsNeededAtToken, StandsAtToken}

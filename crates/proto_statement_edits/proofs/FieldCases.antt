@@ -9,8 +9,8 @@ use Rattle.proto_files.proofs.ReadOnce.{read_once}
 use Rattle.proto_entries.specs.declared.refusal.Refusal.TheVariants as refusal
 use Rattle.proto_imports.specs.Links.{LinkFaults}
 use Rattle.proto_meaning.specs.Grown.{At, at}
-use Rattle.proto_rename_laws.specs.Targets.{Target}
-use Rattle.proto_rename_laws.proofs.Inside.{tokens_are_inside}
+use Rattle.proto_captures.specs.Targets.{Target}
+use Rattle.proto_captures.proofs.Inside.{tokens_are_inside}
 use Rattle.proto_statement_changes.specs.DeletionChanges.{FieldAt, FieldsAreOne, splice_of_deletion}
 use Rattle.proto_statement_changes.specs.OneFile.{IsTooLong}
 use Rattle.proto_statement_names.specs.Cases.{IsAlone, last_of_oneof}

@@ -20,9 +20,9 @@ use Rattle.proto_meaning.specs.Linked.{is_package}
 use Rattle.proto_meaning.specs.Names.{Symbol}
 use Rattle.proto_names.specs.LinkOfFiles.{HoldsNames, IsLinkOf}
 use Rattle.proto_names.specs.Linking.{LinkOf, NameOf, file_at, name_at, own_file, own_token, text_at, token_at}
-use Rattle.proto_rename_laws.specs.Cases.{IsUnknown}
-use Rattle.proto_rename_laws.specs.Targets.{Target}
-use Rattle.proto_rename_laws.proofs.OneTarget.{place_last}
+use Rattle.proto_captures.specs.Cases.{IsUnknown}
+use Rattle.proto_captures.specs.Targets.{Target}
+use Rattle.proto_captures.proofs.OneTarget.{place_last}
 use Rattle.proto_statement_changes.specs.DeletionChanges.{FieldAt, splice_of_deletion}
 use Rattle.proto_statement_changes.specs.OneFile.{IsTooLong}
 use Rattle.proto_statement_names.specs.Cases.{DeletionCase, IsAlone, IsField, kind_not_allowed, last_of_oneof, unknown_target}

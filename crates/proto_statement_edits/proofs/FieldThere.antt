@@ -20,8 +20,8 @@ use Rattle.proto_meaning.specs.Faults.{place_from, place_of as place_of_declared
 use Rattle.proto_meaning.specs.Grown.{At, at}
 use Rattle.proto_meaning.specs.Skeleton.{Declared, Source, Token, shifted_source}
 use Rattle.proto_parts.specs.Numbers.{number_of, past}
-use Rattle.proto_rename_laws.proofs.Declarations.{IsDeclaredBy, declared_by, path_of}
-use Rattle.proto_rename_laws.proofs.OneTarget.{place_last}
+use Rattle.proto_captures.proofs.Declarations.{IsDeclaredBy, declared_by, path_of}
+use Rattle.proto_captures.proofs.OneTarget.{place_last}
 use Rattle.proto_statement_laws.specs.Deletions.{IsFieldOf, StandsAt, begins, deletion, first_token, next_token, splice}
 use Rattle.proto_statement_laws.specs.Statements.{reservation_text}
 use Rattle.proto_statement_laws.proofs.Found.{found}

@@ -7,7 +7,7 @@ use Rattle.std.proofs.lemmas.List.{length-map}
 use Rattle.std.proofs.lemmas.List.Elements.{Contains-append_cases, Contains-append_left, Contains-append_right}
 use Rattle.std.proofs.lemmas.List.Quantifiers.{position-Some}
 use Rattle.std.proofs.lemmas.Option.{none-some, same_Some}
-use Rattle.proto_text.proofs.Lists.{contains_cases, contains_head, same_from_word, word_from_same}
+use Rattle.proto_faults.proofs.Lists.{contains_cases, contains_head, same_from_word, word_from_same}
 use Rattle.proto_files.specs.FilesRead.{ReadOf}
 use Rattle.proto_files.specs.GivenFiles.{FileOf, paths_of}
 use Rattle.proto_meaning.specs.Faults.{Asked, file_of, import_at, imports_of}

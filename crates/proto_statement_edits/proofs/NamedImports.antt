@@ -15,7 +15,7 @@ use Rattle.proto_text.specs.Strings.{IsString}
 use Rattle.proto_text.specs.Texts.{word_at}
 use Rattle.proto_text.specs.Tokens.{Lexeme, lexeme_at}
 use Rattle.proto_text.specs.Values.{is_value, value_of}
-use Rattle.proto_text.proofs.Lists.{contains_cases, contains_head, contains_map, from_map, same_from_word, word_from_same}
+use Rattle.proto_faults.proofs.Lists.{contains_cases, contains_head, contains_map, from_map, same_from_word, word_from_same}
 use Rattle.proto_text.proofs.Order.{tokens_are_lexemes}
 use Rattle.proto_text.proofs.Values.{strings_have_values, value_again, value_is_value_of}
 use Rattle.proto_tree.specs.declared.piece.Statement.{Statement}

@@ -9,7 +9,7 @@ use Rattle.std.proofs.lemmas.List.{get_or_default}
 use Rattle.std.proofs.lemmas.List.Elements.{Contains-append_cases, Contains-append_left, Contains-append_right}
 use Rattle.std.proofs.lemmas.Option.{none-some, same_Some}
 use Rattle.proto_case.specs.Camel.{entry_name}
-use Rattle.proto_text.proofs.Lists.{contains_cases, contains_head, contains_later, contains_map, from_map}
+use Rattle.proto_faults.proofs.Lists.{contains_cases, contains_head, contains_later, contains_map, from_map}
 use Rattle.proto_files.specs.Faults.{HasNoFault}
 use Rattle.proto_files.specs.FilesRead.{ReadOf, AreRead, read_at}
 use Rattle.proto_files.specs.GivenFiles.{FileOf}
@@ -30,8 +30,8 @@ use Rattle.proto_imports.specs.Links.{uses_of}
 use Rattle.proto_names.specs.LinkOfFiles.{HoldsNames, IsLinkOf, TextMeant, meant_by_link, meant_by_use}
 use Rattle.proto_names.specs.Linking.{LinkOf, NameOf, file_at, name_at, own_file, text_at}
 use Rattle.proto_names.specs.declared.references.Meant.{Meant}
-use Rattle.proto_rename_laws.specs.Cases.{StandsBefore}
-use Rattle.proto_rename_laws.proofs.NoLinkFault.{files_are_linked}
+use Rattle.proto_captures.specs.Cases.{StandsBefore}
+use Rattle.proto_captures.proofs.NoLinkFault.{files_are_linked}
 use Rattle.proto_imports.specs.Links.{used_named}
 use Rattle.proto_statement_names.specs.Cases.{IsNeededIn, with_dropped}
 use Rattle.proto_statement_edits.specs.Steps.{AreSeenIn, IsFirstNeeded, first_hidden, hidden_in, is_hidden}

@@ -4,7 +4,7 @@ use Rattle.std.specs.List.{AllPairs, position, position_or_len}
 use Rattle.std.specs.Str.{bytes_eq}
 use Rattle.std.proofs.lemmas.Bool.{cases_lt, cond-false, cond-true}
 use Rattle.std.proofs.lemmas.Bool.Decides.{nat_tests}
-use Rattle.proto_text.proofs.Lists.{same_from_word}
+use Rattle.proto_faults.proofs.Lists.{same_from_word}
 use Rattle.proto_files.specs.GivenFiles.{AreWorkspaceFiles, FileOf, file_at, paths_of}
 use Rattle.proto_files.specs.WorkspacePaths.{IsBefore}
 use Rattle.proto_files.proofs.PathOrder.{bytes_apart, never_before_itself}

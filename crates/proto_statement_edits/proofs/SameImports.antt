@@ -4,7 +4,7 @@ use Rattle.std.specs.List.{All, Contains, list_any}
 use Rattle.std.proofs.lemmas.Bool.{cases_Bool, cases_eq, both_ways, cond-true, cond-false}
 use Rattle.std.proofs.lemmas.List.{get_or_default, get_or-set_same, get_or-set_other}
 use Rattle.std.proofs.lemmas.List.Elements.{Contains-get_or}
-use Rattle.proto_text.proofs.Lists.{any_from, any_to, contains_cases, contains_head, contains_later}
+use Rattle.proto_faults.proofs.Lists.{any_from, any_to, contains_cases, contains_head, contains_later}
 use Rattle.proto_meaning.specs.Edits.{with_imports}
 use Rattle.proto_meaning.specs.Marks.{MarksSeen}
 use Rattle.proto_meaning.specs.Names.{Import, Workspace, reaches, sees}

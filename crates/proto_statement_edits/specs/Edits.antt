@@ -9,7 +9,7 @@ use Rattle.proto_entries.specs.declared.refusal.Refusal.TheVariants as refusal
 use Rattle.proto_entries.specs.Entries.{ChangeOf}
 use Rattle.proto_entries.specs.RefusalTable.{number_of}
 use Rattle.proto_meaning.specs.Grown.{at}
-use Rattle.proto_rename_laws.specs.Targets.{Target}
+use Rattle.proto_captures.specs.Targets.{Target}
 use Rattle.proto_tree.specs.declared.tree.Import.{Import}
 use Rattle.proto_statement_changes.specs.DeletionChanges.{FieldAt, IsFieldAt, changes_of_deletion, number_of_field, splice_of_deletion}
 use Rattle.proto_statement_changes.specs.ImportChanges.{IsImportOf, changes_of_addition, changes_of_drop, splice_of_addition}

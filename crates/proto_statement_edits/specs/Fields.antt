@@ -9,7 +9,7 @@ use Rattle.proto_files.specs.GivenFiles.{FileOf, file_at}
 use Rattle.proto_meaning.specs.declared.kind.Kind.{Kind}
 use Rattle.proto_meaning.specs.declared.kind.Kind.TheVariants.{Field}
 use Rattle.proto_meaning.specs.Grown.{at}
-use Rattle.proto_rename_laws.specs.Targets.{Target}
+use Rattle.proto_captures.specs.Targets.{Target}
 use Rattle.proto_statement_edits.specs.declared.deleting.FieldName.{FieldName}
 use Rattle.proto_statement_names.specs.Cases.{IsField}
 use Rattle.proto_statement_splices.specs.Fields.{field_in, place_of}

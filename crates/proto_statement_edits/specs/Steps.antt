@@ -19,7 +19,7 @@ use Rattle.proto_meaning.specs.Names.{Workspace}
 use Rattle.proto_meaning.specs.Skeleton.{Used}
 use Rattle.proto_names.specs.Linking.{LinkOf, file_at as file_of_row}
 use Rattle.proto_names.specs.declared.link.RefId.{RefId}
-use Rattle.proto_rename_laws.specs.Cases.{StandsBefore}
+use Rattle.proto_captures.specs.Cases.{StandsBefore}
 use Rattle.proto_statement_names.specs.Cases.{IsNeededIn}
 
 -- the imports of the files, file by file

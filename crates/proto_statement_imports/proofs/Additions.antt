@@ -16,8 +16,8 @@ use Rattle.proto_meaning.specs.Faults.{file_of}
 use Rattle.proto_listing.specs.FromTree.{imports_in}
 use Rattle.proto_parts.specs.Scenes.{string_of, value, value_or_none as value_by_kind}
 use Rattle.proto_json.specs.Descriptors.{FileDesc}
-use Rattle.proto_scenes.specs.SceneOf.{lexemes_of}
-use Rattle.proto_desc.specs.Checked.{AreDescribed}
+use Rattle.proto_statement_described.specs.SceneOf.{lexemes_of}
+use Rattle.proto_statement_described.specs.Checked.{AreDescribed}
 use Rattle.proto_statement_laws.specs.Exchanges.{LexemesAreMoved}
 use Rattle.proto_statement_laws.specs.Imports.{import_place, move_wanted}
 use Rattle.proto_statement_laws.specs.Insertions.{IsInsertion}

@@ -9,7 +9,7 @@ use Rattle.proto_text.specs.Tokens.{lexeme_at}
 use Rattle.proto_tree.specs.Tree.{Tree, End}
 use Rattle.proto_files.specs.FilesRead.{ReadOf, read_at}
 use Rattle.proto_files.specs.GivenFiles.{FileOf, file_at, paths_of}
-use Rattle.proto_scenes.specs.SceneOf.{lexemes_of}
+use Rattle.proto_statement_described.specs.SceneOf.{lexemes_of}
 use Rattle.proto_statement_changes.specs.OneFile.{with_read, with_text}
 use Rattle.proto_statement_names.specs.Files.{IsOneFile}
 use Rattle.proto_statement_described.specs.Files.{tree_at}

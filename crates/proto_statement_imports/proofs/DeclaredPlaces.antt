@@ -1,7 +1,7 @@
 -- Each declaration has a token, so it keeps its place where tokens are moved (for the crates above).
 use Rattle.std.proofs.Common.{◌≡◌, ℕ, ◌+◌, List, [], ◌∷◌, ◌++◌, map, refl, subst, inl, inr, arith}
 use Rattle.std.specs.List.{Contains}
-use Rattle.proto_text.proofs.Lists.{contains_cases}
+use Rattle.proto_faults.proofs.Lists.{contains_cases}
 use Rattle.proto_files.specs.FilesRead.{ReadOf, read_at}
 use Rattle.proto_meaning.specs.declared.kind.Kind.{Kind}
 use Rattle.proto_meaning.specs.declared.kind.Kind.TheVariants.{Field, Method, Value}
@@ -11,7 +11,7 @@ use Rattle.proto_meaning.specs.Skeleton.{Declared, EntryOf, Given, Source, Token
 use Rattle.proto_meaning.specs.Tree.{Items, Member, Members, Placed, all_placed, enum, field, file_placed, item, items_placed, key_word, map_field, member, message, no_items, no_members, oneof, package_of, packaged, place, placed, prefixes, service, value_word}
 use Rattle.proto_listing.specs.FromTree.{items_in}
 use Rattle.proto_imports.specs.Links.{names_in}
-use Rattle.proto_rename_laws.proofs.Declarations.{declared_by}
+use Rattle.proto_statement_names.proofs.Declarations.{declared_by}
 
 -- ---- paths with a token
 

@@ -7,7 +7,7 @@ use Rattle.std.proofs.lemmas.List.Elements.{Contains-append_right, Contains-get_
 use Rattle.proto_text.specs.Segments.{moved}
 use Rattle.proto_text.specs.Tokens.{Lexeme, lexeme_at}
 use Rattle.proto_text.specs.Values.{value_of}
-use Rattle.proto_text.proofs.Lists.{contains_head, contains_map, fails_from, word_from_same}
+use Rattle.proto_faults.proofs.Lists.{contains_head, contains_map, fails_from, word_from_same}
 use Rattle.proto_text.proofs.Values.{value_again}
 use Rattle.proto_tree.specs.declared.piece.Statement.TheVariants as statement
 use Rattle.proto_tree.specs.declared.tree.Import.{Import}
@@ -23,8 +23,8 @@ use Rattle.proto_listing.specs.FromTree.{Wanted, imports_in}
 use Rattle.proto_imports.specs.Links.{asked_as, names_of_files, text_of, value_or_none}
 use Rattle.proto_parts.specs.Scenes.{value}
 use Rattle.proto_json.specs.Descriptors.{FileDesc}
-use Rattle.proto_scenes.specs.SceneOf.{lexemes_of}
-use Rattle.proto_desc.specs.Checked.{AreDescribed}
+use Rattle.proto_statement_described.specs.SceneOf.{lexemes_of}
+use Rattle.proto_statement_described.specs.Checked.{AreDescribed}
 use Rattle.proto_statement_laws.specs.Deletions.{own}
 use Rattle.proto_statement_laws.specs.Exchanges.{LexemesAreMoved}
 use Rattle.proto_statement_laws.specs.Insertions.{IsInsertion}

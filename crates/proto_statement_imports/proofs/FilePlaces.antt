@@ -3,11 +3,11 @@ use Rattle.std.proofs.Common.{◌≡◌, ℕ, ◌<◌, List, [], length, sym, �
 use Rattle.std.specs.Prelude.{slice_index_or}
 use Rattle.std.specs.Str.{bytes_eq}
 use Rattle.std.proofs.lemmas.List.Quantifiers.{position-Some}
-use Rattle.proto_text.proofs.Lists.{word_from_same}
+use Rattle.proto_faults.proofs.Lists.{word_from_same}
 use Rattle.proto_text.proofs.OneEdit.{length_map}
 use Rattle.proto_files.specs.GivenFiles.{AreWorkspaceFiles, FileOf, file_at, paths_of}
 use Rattle.proto_files.specs.WorkspacePaths.{IsWorkspacePath}
-use Rattle.proto_rename_laws.proofs.Scenes.{index_map}
+use Rattle.proto_statement_names.proofs.Scenes.{index_map}
 use Rattle.proto_statement_names.specs.Cases.{IsPlaceOf}
 
 module _ (files : List FileOf) (path : List ℕ) (k : ℕ) (is : IsPlaceOf files path k) where

@@ -5,7 +5,7 @@ use Rattle.std.specs.Str.{bytes_eq}
 use Rattle.std.proofs.lemmas.Bool.{and_from, and_parts, cases_Bool, eq-eqb, eqb-true, true≢false}
 use Rattle.std.proofs.lemmas.List.Elements.{Contains-append_cases, Contains-append_right}
 use Rattle.proto_text.specs.Values.{StandsFor}
-use Rattle.proto_text.proofs.Lists.{any_from, any_to, contains_cases, contains_head, from_map, same_from_word, word_from_same}
+use Rattle.proto_faults.proofs.Lists.{any_from, any_to, contains_cases, contains_head, from_map, same_from_word, word_from_same}
 use Rattle.proto_text.proofs.Values.{strings_have_values, value_again}
 use Rattle.proto_tree.specs.declared.piece.Header.{Header}
 use Rattle.proto_tree.specs.declared.piece.Statement.{Statement}

@@ -6,7 +6,7 @@ use Rattle.proto_faults.specs.declared.fault.FaultKind.{FaultKind}
 use Rattle.proto_faults.specs.declared.fault.FaultKind.TheVariants as kind
 use Rattle.proto_faults.specs.FaultTable.{number_of}
 use Rattle.proto_text.specs.Texts.{offset_at}
-use Rattle.proto_text.proofs.Lists.{contains_cases, contains_head, contains_map}
+use Rattle.proto_faults.proofs.Lists.{contains_cases, contains_head, contains_map}
 use Rattle.proto_files.specs.Faults.{HasNoFault}
 use Rattle.proto_files.specs.FilesRead.{AreRead, ReadOf, read_at}
 use Rattle.proto_files.specs.GivenFiles.{FileOf, file_at, paths_of}

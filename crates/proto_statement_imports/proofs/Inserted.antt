@@ -15,7 +15,7 @@ use Rattle.proto_files.specs.GivenFiles.{FileOf}
 use Rattle.proto_meaning.specs.Grown.{at}
 use Rattle.proto_listing.specs.FromTree.{Wanted, imports_in}
 use Rattle.proto_imports.specs.Links.{text_of}
-use Rattle.proto_scenes.specs.SceneOf.{lexemes_of}
+use Rattle.proto_statement_described.specs.SceneOf.{lexemes_of}
 use Rattle.proto_statement_laws.specs.Exchanges.{LexemesAreMoved}
 use Rattle.proto_statement_laws.specs.Insertions.{IsInsertion}
 use Rattle.proto_statement_laws.proofs.ImportLists.{imports_come_in}

@@ -16,7 +16,7 @@ use Rattle.proto_parts.specs.Numbers.{number_of}
 use Rattle.proto_parts.specs.Parts.{BlockOf, blocks_in, values_in}
 use Rattle.proto_parts.specs.Scenes.{EnumOf, is_proto3, string_of}
 use Rattle.proto_checks_laws.proofs.MovedParts.{file_blocks_moved, find_moved, maps_kept, move_block_of, values_moved}
-use Rattle.proto_scenes.specs.SceneOf.{enum_at, enum_within, is_enum_at, is_proto3_file, lexemes_of, starts_past_zero}
+use Rattle.proto_statement_described.specs.SceneOf.{enum_at, enum_within, is_enum_at, is_proto3_file, lexemes_of, starts_past_zero}
 use Rattle.proto_statement_described.specs.Files.{tree_at}
 use Rattle.proto_statement_described.proofs.Kept.{imports_keep_versions}
 use Rattle.proto_statement_imports.specs.MovedFiles.{AreMoved}

@@ -17,8 +17,8 @@ use Rattle.proto_meaning.proofs.Edited.{map_agree, map_append, map_map}
 use Rattle.proto_listing.specs.FromTree.{file_names}
 use Rattle.proto_imports.specs.Links.{link_skeleton, names_in, text_of}
 use Rattle.proto_checks_laws.proofs.MovedParts.{find_moved, maps_moved}
-use Rattle.proto_scenes.specs.SceneOf.{declared_as, enum_at, enum_named}
-use Rattle.proto_rename_laws.proofs.Scenes.{find_there}
+use Rattle.proto_statement_described.specs.SceneOf.{declared_as, enum_at, enum_named}
+use Rattle.proto_statement_names.proofs.Scenes.{find_there}
 use Rattle.proto_statement_names.specs.Trees.{MovesNames, move_placed, placed_in}
 use Rattle.proto_statement_names.proofs.MovedNames.{imports_move_names}
 use Rattle.proto_statement_described.specs.Files.{tree_at}

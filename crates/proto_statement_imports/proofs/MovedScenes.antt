@@ -11,7 +11,7 @@ use Rattle.proto_imports.specs.Links.{names_of_files, text_of}
 use Rattle.proto_imports.specs.Links.{used_named}
 use Rattle.proto_imports.specs.Links.{uses_of}
 use Rattle.proto_parts.specs.Scenes.{MeantOf}
-use Rattle.proto_scenes.specs.SceneOf.{meaning_of, meant_as, means_of}
+use Rattle.proto_statement_described.specs.SceneOf.{meaning_of, meant_as, means_of}
 use Rattle.proto_statement_names.specs.Kept.{MeanTheSame}
 use Rattle.proto_statement_described.specs.Files.{scene_at}
 use Rattle.proto_statement_described.specs.Scenes.{HasTokens, IsMovedScene, move_meant}

@@ -13,7 +13,7 @@ use Rattle.proto_meaning.specs.Skeleton.{EntryOf, Given, Source, Token, Used, na
 use Rattle.proto_meaning.proofs.Edited.{map_agree, map_map}
 use Rattle.proto_imports.specs.Links.{text_of}
 use Rattle.proto_imports.specs.Links.{used_named}
-use Rattle.proto_scenes.specs.SceneOf.{lexemes_of}
+use Rattle.proto_statement_described.specs.SceneOf.{lexemes_of}
 use Rattle.proto_statement_imports.specs.MovedFiles.{AreMoved}
 use Rattle.proto_statement_imports.proofs.PathTokens.{text_in, word_by}
 

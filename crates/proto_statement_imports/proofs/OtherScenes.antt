@@ -6,7 +6,7 @@ use Rattle.std.proofs.lemmas.List.Elements.{Contains-append_left, Contains-appen
 use Rattle.proto_case.specs.Camel.{entry_name}
 use Rattle.proto_text.specs.Texts.{word_at}
 use Rattle.proto_text.specs.Tokens.{Lexeme}
-use Rattle.proto_text.proofs.Lists.{contains_map}
+use Rattle.proto_faults.proofs.Lists.{contains_map}
 use Rattle.proto_tree.specs.Tree.{Tree}
 use Rattle.proto_files.specs.FilesRead.{ReadOf, read_at}
 use Rattle.proto_files.specs.GivenFiles.{FileOf}
@@ -20,7 +20,7 @@ use Rattle.proto_imports.specs.Links.{link_skeleton, names_in, names_of_files, t
 use Rattle.proto_imports.specs.Links.{used_named}
 use Rattle.proto_imports.specs.Links.{uses_of}
 use Rattle.proto_parts.specs.Scenes.{EnumOf, MeantOf, Scene, is_proto3, string_of}
-use Rattle.proto_scenes.specs.SceneOf.{enum_named, lexemes_of, meaning_of, meant_as, means_of}
+use Rattle.proto_statement_described.specs.SceneOf.{enum_named, lexemes_of, meaning_of, meant_as, means_of}
 use Rattle.proto_statement_names.specs.Kept.{MeanTheSame}
 use Rattle.proto_statement_described.specs.Files.{scene_at}
 use Rattle.proto_statement_imports.specs.OtherScenes.{IsLeft, OtherScenesStay}

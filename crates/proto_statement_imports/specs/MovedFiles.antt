@@ -5,7 +5,7 @@ use Rattle.proto_files.specs.FilesRead.{ReadOf}
 use Rattle.proto_files.specs.GivenFiles.{FileOf}
 use Rattle.proto_tree.specs.Moved.{Move, move_tree}
 use Rattle.proto_checks_laws.specs.Imports.{without_imports}
-use Rattle.proto_scenes.specs.SceneOf.{lexemes_of}
+use Rattle.proto_statement_described.specs.SceneOf.{lexemes_of}
 use Rattle.proto_statement_names.specs.Kept.{MeanTheSame}
 use Rattle.proto_statement_described.specs.Files.{scene_at, tree_at}
 use Rattle.proto_statement_described.specs.Scenes.{IsMovedScene}

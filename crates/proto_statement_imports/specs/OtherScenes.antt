@@ -6,7 +6,7 @@ use Rattle.proto_files.specs.FilesRead.{ReadOf}
 use Rattle.proto_files.specs.GivenFiles.{FileOf}
 use Rattle.proto_meaning.specs.Skeleton.{Used}
 use Rattle.proto_imports.specs.Links.{uses_of}
-use Rattle.proto_scenes.specs.SceneOf.{enum_named, lexemes_of, meaning_of}
+use Rattle.proto_statement_described.specs.SceneOf.{enum_named, lexemes_of, meaning_of}
 use Rattle.proto_statement_names.specs.Kept.{MeanTheSame}
 use Rattle.proto_statement_described.specs.Files.{scene_at, tree_at}
 

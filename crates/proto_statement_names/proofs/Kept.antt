@@ -9,7 +9,7 @@ use Rattle.proto_faults.specs.declared.fault.FaultKind.TheVariants as kind
 use Rattle.proto_faults.specs.FaultTable.{number_of}
 use Rattle.proto_case.specs.Camel.{entry_name}
 use Rattle.proto_text.specs.Texts.{offset_at}
-use Rattle.proto_text.proofs.Lists.{contains_head, contains_map, from_map, same_from_word}
+use Rattle.proto_faults.proofs.Lists.{contains_head, contains_map, from_map, same_from_word}
 use Rattle.proto_files.specs.Faults.{HasNoFault}
 use Rattle.proto_files.specs.FilesRead.{AreRead, ReadOf, read_at}
 use Rattle.proto_files.specs.GivenFiles.{FileOf, file_at, paths_of}

@@ -9,3 +9,6 @@ pub mod Places
 mod Sight
 pub mod Spelled
 mod Walks
+pub use Rattle.proto_rename_laws.proofs.Declarations
+pub use Rattle.proto_rename_laws.proofs.Scenes
+pub use Rattle.proto_rename_laws.proofs.NoLinkFault

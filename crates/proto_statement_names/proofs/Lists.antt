@@ -4,7 +4,7 @@ use Rattle.std.specs.List.{AllPairs, Contains, cons_option, filter_map}
 use Rattle.std.proofs.lemmas.List.{get_or-append-add, length-append}
 use Rattle.std.proofs.lemmas.List.Elements.{Contains-append_cases, Contains-append_left, Contains-append_right, filter_map-append}
 use Rattle.proto_meaning.proofs.Edited.{map_append}
-use Rattle.proto_text.proofs.Lists.{contains_cases, contains_head, contains_later, from_map}
+use Rattle.proto_faults.proofs.Lists.{contains_cases, contains_head, contains_later, from_map}
 use Rattle.proto_statement_names.specs.Lists.{HasMore, HasOneMore}
 
 -- ---- elements more

@@ -18,7 +18,7 @@ use Rattle.proto_meaning.specs.Skeleton.{Source, Token, EntryOf, Given, Used, sh
 use Rattle.proto_meaning.specs.Tree.{Items, Members, Placed, all_placed, beside, items_placed, key_word, map_field, package_of, packaged, place, placed, prefixes, value_word}
 use Rattle.proto_meaning.proofs.Edited.{map_append, map_map}
 use Rattle.proto_listing.specs.FromTree.{Wanted, add_statement, block_names, block_uses, field_names, file_block, flat_uses, header_uses, imports_in, item_uses, items_in, member_uses, members_in, method_names, no_names, picked, scope_in, signature_uses, statement_imports, statement_uses, type_uses, used_as, value_names}
-use Rattle.proto_checks_laws.specs.Imports.{without_imports}
+use Rattle.proto_rename_laws.specs.Imports.{without_imports}
 use Rattle.proto_statement_names.specs.Trees.{ImportsMoveNames, MovesNames, TreesMoveImports, TreesMoveNames, move_placed, move_wanted}
 
 module _ (g : Move) where

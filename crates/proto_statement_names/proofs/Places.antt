@@ -5,7 +5,7 @@ use Rattle.std.proofs.lemmas.Bool.{and_from, and_parts, both_ways, cases_Bool, c
 use Rattle.std.proofs.lemmas.Option.{none-some, same_Some}
 use Rattle.proto_case.specs.Camel.{entry_name}
 use Rattle.proto_text.specs.Texts.{offset_at}
-use Rattle.proto_text.proofs.Lists.{any_from, any_to, contains_cases, contains_head, contains_later, contains_map}
+use Rattle.proto_faults.proofs.Lists.{any_from, any_to, contains_cases, contains_head, contains_later, contains_map}
 use Rattle.proto_files.specs.FilesRead.{ReadOf, read_at}
 use Rattle.proto_files.specs.GivenFiles.{FileOf, file_at, paths_of}
 use Rattle.proto_meaning.specs.Edits.{IsNeeded, IsOvertaken, import_of, with_imports}

@@ -2,7 +2,7 @@
 use Rattle.std.proofs.Common.{◌≡◌, ℕ, zero, suc, Bool, true, false, ◌&&◌, ◌||◌, ◌==◌, List, ◌++◌, take, refl}
 use Rattle.std.specs.List.{Contains, list_any}
 use Rattle.std.proofs.lemmas.Bool.{and_from, false_from_ne_true, both_ways}
-use Rattle.proto_text.proofs.Lists.{any_from, any_to}
+use Rattle.proto_faults.proofs.Lists.{any_from, any_to}
 use Rattle.proto_meaning.specs.Edits.{IsNeeded, IsOvertaken, with_imports}
 use Rattle.proto_meaning.specs.Names.{Import, Reference, Workspace, fits, hits_at, reaches, same_name, sees}
 use Rattle.proto_meaning.proofs.Basics.{same_from_name}

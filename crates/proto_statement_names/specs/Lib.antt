@@ -7,3 +7,4 @@ pub mod Less
 pub mod Lists
 pub mod Places
 pub mod Trees
+pub use Rattle.proto_rename_laws.specs.Targets

@@ -6,7 +6,7 @@ use Rattle.proto_tree.specs.Tree.{Tree}
 use Rattle.proto_meaning.specs.Skeleton.{shifted_source, shifted_used}
 use Rattle.proto_meaning.specs.Tree.{Placed, file_placed}
 use Rattle.proto_listing.specs.FromTree.{Wanted, file_names, imports_in}
-use Rattle.proto_checks_laws.specs.Imports.{without_imports}
+use Rattle.proto_rename_laws.specs.Imports.{without_imports}
 
 -- a declaration by other tokens
 abbrev pub move_placed : Move → Placed → Placed

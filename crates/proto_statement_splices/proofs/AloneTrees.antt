@@ -3,7 +3,7 @@ use Rattle.std.proofs.Common.{◌≡◌, ◌⊎◌, ℕ, ◌≤◌, Bool, true, 
 use Rattle.std.specs.List.{Contains}
 use Rattle.std.proofs.lemmas.Bool.{both_ways, eq-eqb, eqb-true, or_cases, or_left, or_right}
 use Rattle.std.proofs.lemmas.List.Elements.{Contains-append_cases, Contains-append_left, Contains-append_right}
-use Rattle.proto_text.proofs.Lists.{contains_cases, contains_head, contains_later}
+use Rattle.proto_faults.proofs.Lists.{contains_cases, contains_head, contains_later}
 use Rattle.proto_parts.specs.Parts.{BlockOf, FieldOf, blocks_in, fields_in}
 use Rattle.proto_statement_splices.specs.Fields.{alone_in, is_only}
 use Rattle.proto_tree.specs.declared.context.Context.{Context}

@@ -10,7 +10,7 @@ use Rattle.proto_meaning.specs.Linked.{is_package}
 use Rattle.proto_meaning.specs.Faults.{Fault, fault, IsBefore, IsLeast}
 use Rattle.proto_table.specs.Spelled.{Named, ClashFault, earlier, of_package}
 use Rattle.proto_table.specs.Filling.{AreNamesApart, Clashes, packages_in, others_in}
-use Rattle.proto_text.proofs.Lists.{contains_head, contains_later, contains_cases}
+use Rattle.proto_faults.proofs.Lists.{contains_head, contains_later, contains_cases}
 use Rattle.proto_meaning.proofs.Forest.{get_front}
 use Rattle.proto_table.proofs.Naming.{contains_at, IsOrdered}
 use Rattle.proto_meaning.proofs.Sound.{package_from, package_or}

@@ -10,7 +10,7 @@ use Rattle.proto_meaning.specs.Tree.{Items, no_items, packaged, item, Placed, pl
 use Rattle.proto_listing.specs.Listing.{items_below, package_first}
 use Rattle.proto_meaning.specs.Grown.{FileNames}
 use Rattle.proto_table.specs.Naming.{AreSpans}
-use Rattle.proto_text.proofs.Lists.{contains_map, contains_head, contains_later, from_map}
+use Rattle.proto_faults.proofs.Lists.{contains_map, contains_head, contains_later, from_map}
 use Rattle.proto_meaning.proofs.Edited.{map_agree, map_map}
 use Rattle.proto_meaning.proofs.Following.{filter_agree, filter_of_map}
 use Rattle.proto_listing.proofs.PackageFirst.{same_declared}

@@ -14,7 +14,7 @@ use Rattle.proto_table.specs.Tables.{names_of, aboves_of, look, IsTable}
 use Rattle.proto_table.specs.Resolved.{IsDeclared, IsIndexOf, IsTaken}
 use Rattle.proto_table.specs.Spelled.{Named, symbol_named}
 use Rattle.proto_table.specs.Filling.{AreNamesApart, Clashes, Holds, IsKept, IsRowAt, IsRowOf}
-use Rattle.proto_text.proofs.Lists.{contains_head, contains_map, from_map}
+use Rattle.proto_faults.proofs.Lists.{contains_head, contains_map, from_map}
 use Rattle.proto_meaning.proofs.Forest.{get_front, get_last, names_apart}
 use Rattle.proto_meaning.proofs.Joined.{joined_apart}
 use Rattle.proto_table.proofs.Naming.{contains_at}

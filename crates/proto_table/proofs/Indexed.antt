@@ -12,7 +12,7 @@ use Rattle.proto_table.specs.declared.table.Row.{Row}
 use Rattle.proto_table.specs.declared.table.Table.{Table}
 use Rattle.proto_table.specs.Tables.{names_of, aboves_of, look, IsTable}
 use Rattle.proto_table.specs.Resolved.{files_of, IsIndexOf, IsDeclared}
-use Rattle.proto_text.proofs.Lists.{contains_head, contains_cases}
+use Rattle.proto_faults.proofs.Lists.{contains_head, contains_cases}
 use Rattle.proto_meaning.proofs.Edited.{map_append}
 use Rattle.proto_meaning.proofs.Forest.{get_front, get_last}
 

@@ -15,7 +15,7 @@ use Rattle.proto_meaning.specs.Faults.{Fault, fault, NameFault, place_from, plac
 use Rattle.proto_table.specs.Spelled as named
 use Rattle.proto_table.specs.Spelled.{Named, ClashFault, symbol_named}
 use Rattle.proto_table.specs.Naming.{AreSpans, named_as, tree_named}
-use Rattle.proto_text.proofs.Lists.{contains_map, from_map}
+use Rattle.proto_faults.proofs.Lists.{contains_map, from_map}
 use Rattle.proto_meaning.proofs.Following.{Follows, follows_after, after_follows, follows_first, follows_second, follows_map, map_follows, follows_kept, kept_follows}
 use Rattle.proto_table.proofs.Gathered.{gathered, gathered_map, is_other, same_gathered, same_others}
 use Rattle.proto_meaning.proofs.Sound.{package_from, package_or}

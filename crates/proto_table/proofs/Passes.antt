@@ -15,7 +15,7 @@ use Rattle.proto_table.specs.declared.filling.NameError.TheVariants.{Clash, NoMe
 use Rattle.proto_table.specs.Resolved.{IsIndexOf}
 use Rattle.proto_table.specs.Spelled.{Named, named_in, all_named, symbol_named, AreSpelled, ClashFault}
 use Rattle.proto_table.specs.Filling.{AreInFront, AreNamesApart, ArePackageRows, AreRows, AreRowsOf, Clashes, Holds, IsKept, IsNameError, StopsIn, packages_in, others_in}
-use Rattle.proto_text.proofs.Lists.{contains_map, from_map}
+use Rattle.proto_faults.proofs.Lists.{contains_map, from_map}
 use Rattle.proto_table.proofs.Clashing.{clash_least, clash_none, held_at, is_other, kept_from, kept_in}
 use Rattle.proto_table.proofs.Filled.{rows_kept}
 use Rattle.proto_meaning.proofs.Forest.{get_front, get_last}

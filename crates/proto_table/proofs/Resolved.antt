@@ -14,7 +14,7 @@ use Rattle.proto_table.specs.Tables.{names_of, aboves_of, look, IsTable}
 use Rattle.proto_table.specs.Search.{is_seen, fits_first, passes, HitsAt, IsHit}
 use Rattle.proto_table.specs.Resolved.{files_of, IsIndexOf, under_all, IsAsked, IsTypeAt}
 use Rattle.proto_meaning.specs.Marks.{MarksSeen}
-use Rattle.proto_text.proofs.Lists.{any_from, any_to}
+use Rattle.proto_faults.proofs.Lists.{any_from, any_to}
 use Rattle.proto_meaning.proofs.Basics.{same_from_name, greatest_is}
 use Rattle.proto_meaning.proofs.Joined.{joined_apart}
 use Rattle.proto_meaning.proofs.Forest.{names_apart, prefix_named, under_pointed, under_some}

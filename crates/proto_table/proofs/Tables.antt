@@ -11,7 +11,7 @@ use Rattle.proto_table.specs.declared.table.Table.{Table}
 use Rattle.proto_meaning.specs.Joined.{IsPlain}
 use Rattle.proto_meaning.specs.Forest.{under, front, IsForest}
 use Rattle.proto_table.specs.Tables.{found, names_of, aboves_of, look, IsTable}
-use Rattle.proto_text.proofs.Lists.{word_from_same, same_from_word}
+use Rattle.proto_faults.proofs.Lists.{word_from_same, same_from_word}
 use Rattle.proto_meaning.proofs.Edited.{map_append}
 use Rattle.proto_meaning.proofs.Forest.{forest_more}
 

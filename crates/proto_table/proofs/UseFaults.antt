@@ -10,7 +10,7 @@ use Rattle.proto_meaning.specs.Faults as all
 use Rattle.proto_meaning.specs.Faults.{Fault, fault, ReferenceFault}
 use Rattle.proto_table.specs.Naming as one
 use Rattle.proto_table.specs.Naming.{ReferenceFlaw, UseFault}
-use Rattle.proto_text.proofs.Lists.{contains_map, from_map}
+use Rattle.proto_faults.proofs.Lists.{contains_map, from_map}
 
 -- where a use stands, file n the first
 record StandsIn (n : ℕ) (fs : List FileNames) (u : Used At) : Type 0 where

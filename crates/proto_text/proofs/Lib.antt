@@ -4,7 +4,6 @@ pub mod EditLaws
 mod EndLoop
 mod Ends
 mod Grouping
-pub mod Lists
 pub mod Once
 pub mod OneEdit
 pub mod Order
@@ -17,7 +16,6 @@ mod Segments
 pub mod Sequence
 pub mod Spans
 pub mod Texts
-pub mod Turns
 mod Units
 pub mod Values
 pub mod WordChange

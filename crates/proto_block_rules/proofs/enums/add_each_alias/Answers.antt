@@ -8,7 +8,7 @@ use Rattle.proto_findings.specs.Placed.{Found, Named, found_at}
 use Rattle.proto_findings.specs.Readings.{reading_of}
 use Rattle.proto_findings.specs.Views.{found_of}
 use Rattle.proto_block_rules.specs.NameRules.{allowed_alias}
-use Rattle.proto_text.proofs.Turns.{all_listed, listed_turn}
+use Rattle.proto_faults.proofs.Turns.{all_listed, listed_turn}
 use Rattle.proto_block_rules.proofs.JoinedTrees.{placed_of_statements}
 use Rattle.proto_block_rules.proofs.enums.add_each_alias.Goals as goal
 

@@ -8,7 +8,7 @@ use Rattle.proto_findings.specs.declared.rule.Rule.TheVariants as rule
 use Rattle.proto_findings.specs.Placed.{Found, Named, below, found_at, unless, unless_word}
 use Rattle.proto_findings.specs.Readings.{reading_of, text}
 use Rattle.proto_findings.specs.Views.{found_of}
-use Rattle.proto_text.proofs.Turns.{all_listed, listed_turn}
+use Rattle.proto_faults.proofs.Turns.{all_listed, listed_turn}
 use Rattle.proto_block_rules.proofs.messages.add_each_field.Goals as goal
 
 abbrev told : (Named → Found) → (FieldOf → List Named) → List FieldAt → List Found

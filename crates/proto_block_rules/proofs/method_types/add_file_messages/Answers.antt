@@ -4,7 +4,7 @@ use Rattle.proto_tree.specs.File.{item_tree, trees}
 use Rattle.proto_findings.specs.Readings.{Reading, reading_of}
 use Rattle.proto_block_rules.specs.Walks.{outer_messages}
 use Rattle.proto_block_rules.proofs.OuterMessages.{outer_of_items}
-use Rattle.proto_text.proofs.Turns.{all_listed, listed_turn}
+use Rattle.proto_faults.proofs.Turns.{all_listed, listed_turn}
 use Rattle.proto_block_rules.proofs.method_types.add_file_messages.Goals as goal
 
 abbrev seen : List (Bor (List ℕ)) → List (List ℕ)

@@ -6,7 +6,7 @@ use Rattle.proto_findings.specs.Placed.{Found}
 use Rattle.proto_findings.specs.Readings.{reading_of}
 use Rattle.proto_findings.specs.Views.{found_of}
 use Rattle.proto_block_rules.specs.Methods.{method_finds, signatures_in}
-use Rattle.proto_text.proofs.Turns.{all_listed, listed_turn}
+use Rattle.proto_faults.proofs.Turns.{all_listed, listed_turn}
 use Rattle.proto_block_rules.proofs.JoinedTrees.{of_signatures}
 use Rattle.proto_block_rules.proofs.services.add_items.Goals as goal
 

@@ -4,7 +4,7 @@ use Rattle.proto_tree.specs.declared.tree.Signature.{Signature}
 use Rattle.proto_tree.specs.File.{service_item_tree, trees}
 use Rattle.proto_findings.specs.Readings.{Reading, reading_of}
 use Rattle.proto_block_rules.specs.Methods.{messages_of, signatures_in, type_meant}
-use Rattle.proto_text.proofs.Turns.{all_listed, listed_turn}
+use Rattle.proto_faults.proofs.Turns.{all_listed, listed_turn}
 use Rattle.proto_block_rules.proofs.JoinedTrees.{of_signatures}
 use Rattle.proto_block_rules.proofs.shared.add_messages.Goals as goal
 

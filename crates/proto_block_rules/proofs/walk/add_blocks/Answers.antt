@@ -6,7 +6,7 @@ use Rattle.proto_findings.specs.Views.{found_of}
 use Rattle.proto_block_rules.specs.declared.walk.Walk.{Walk}
 use Rattle.proto_block_rules.specs.Walks.{walk_finds}
 use Rattle.proto_block_rules.proofs.BlockTrees.{finds_of_items}
-use Rattle.proto_text.proofs.Turns.{all_listed, listed_turn}
+use Rattle.proto_faults.proofs.Turns.{all_listed, listed_turn}
 use Rattle.proto_block_rules.proofs.walk.add_blocks.Goals as goal
 
 abbrev told : Walk → List ℕ → List Item → List Found

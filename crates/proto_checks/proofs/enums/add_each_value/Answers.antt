@@ -1,5 +1,5 @@
 use Rattle.proto_checks.specs.FileFlaws.{value_option_flaws}
-use Rattle.proto_text.proofs.Turns.{seen_more, seen_all}
+use Rattle.proto_faults.proofs.Turns.{seen_more, seen_all}
 use Rattle.proto_checks.proofs.enums.add_each_value.Goals as goal
 
 pub loop-value-preserved : goal.loop-value-preserved

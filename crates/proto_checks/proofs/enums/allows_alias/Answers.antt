@@ -6,7 +6,7 @@ use Rattle.proto_parts.specs.Parts.{OptionOf}
 use Rattle.proto_parts.specs.Scenes.{text}
 use Rattle.proto_parts.specs.Views.{option_of}
 use Rattle.proto_checks.specs.FileFlaws.{is_true}
-use Rattle.proto_text.proofs.Lists.{any_map}
+use Rattle.proto_faults.proofs.Lists.{any_map}
 use Rattle.proto_checks.proofs.enums.allows_alias.Goals as goal
 
 pub returns : goal.returns

@@ -1,4 +1,4 @@
-use Rattle.proto_text.proofs.Turns.{listed_more, listed_all}
+use Rattle.proto_faults.proofs.Turns.{listed_more, listed_all}
 use Rattle.proto_checks.proofs.enums.value_names.Goals as goal
 
 pub loop-value-preserved : goal.loop-value-preserved

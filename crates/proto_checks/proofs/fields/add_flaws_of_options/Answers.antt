@@ -4,7 +4,7 @@ use Rattle.proto_parts.specs.Parts.{OptionOf}
 use Rattle.proto_parts.specs.Views.{field_of, option_of}
 use Rattle.proto_parts.specs.declared.options.Element.TheVariants as element
 use Rattle.proto_checks.specs.FieldFlaws.{default_flaws, option_flaws, packed_flaws, proto3_defaults}
-use Rattle.proto_text.proofs.Turns.{then_added}
+use Rattle.proto_faults.proofs.Turns.{then_added}
 use Rattle.proto_checks.proofs.fields.add_flaws_of_options.Goals as goal
 
 pub returns : goal.returns

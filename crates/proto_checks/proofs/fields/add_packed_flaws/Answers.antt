@@ -6,7 +6,7 @@ use Rattle.proto_parts.specs.Scenes.{text}
 use Rattle.proto_parts.specs.Views.{field_of, option_of}
 use Rattle.proto_numbers.specs.Flaws.{flaw_if}
 use Rattle.proto_checks.specs.FieldFlaws.{may_be_packed}
-use Rattle.proto_text.proofs.Turns.{and_then, and_else, seen_more, seen_all}
+use Rattle.proto_faults.proofs.Turns.{and_then, and_else, seen_more, seen_all}
 use Rattle.proto_checks.proofs.fields.add_packed_flaws.Goals.{then-eq, else-eq}
 use Rattle.proto_checks.proofs.fields.add_packed_flaws.Goals as goal
 

@@ -5,7 +5,7 @@ use Rattle.proto_tree.specs.File.{service_item_tree}
 use Rattle.proto_numbers.specs.declared.flaw.Flaw.{Flaw}
 use Rattle.proto_checks.specs.FileFlaws.{flaws_in_blocks}
 use Rattle.proto_checks.proofs.Blocks.{flaws_of_trees}
-use Rattle.proto_text.proofs.Turns.{added_more}
+use Rattle.proto_faults.proofs.Turns.{added_more}
 use Rattle.proto_checks.proofs.file.add_service_items.Goals as goal
 
 pub loop-item-preserved : goal.loop-item-preserved

@@ -1,5 +1,5 @@
 use Rattle.proto_parts.specs.Views.{field_of}
-use Rattle.proto_text.proofs.Turns.{listed_more, listed_all}
+use Rattle.proto_faults.proofs.Turns.{listed_more, listed_all}
 use Rattle.proto_checks.proofs.json_clashes.name_tokens.Goals as goal
 
 pub loop-field-preserved : goal.loop-field-preserved

@@ -1,6 +1,6 @@
 use Rattle.proto_parts.specs.Views.{field_of}
 use Rattle.proto_checks.specs.FieldFlaws.{field_flaws}
-use Rattle.proto_text.proofs.Turns.{seen_more, seen_all}
+use Rattle.proto_faults.proofs.Turns.{seen_more, seen_all}
 use Rattle.proto_checks.proofs.messages.add_each_field.Goals as goal
 
 pub loop-field-preserved : goal.loop-field-preserved

@@ -1,7 +1,7 @@
 use Rattle.std.proofs.Common.{◌++◌, Bool, get_or, refl, ap, ◌∙◌}
 use Rattle.proto_faults.specs.declared.fault.FaultKind.TheVariants as kind
 use Rattle.proto_numbers.specs.Flaws.{flaw_if}
-use Rattle.proto_text.proofs.Turns.{added_more, added_all}
+use Rattle.proto_faults.proofs.Turns.{added_more, added_all}
 use Rattle.proto_checks.proofs.messages.add_extensions.Goals as goal
 
 pub loop-word-preserved : goal.loop-word-preserved

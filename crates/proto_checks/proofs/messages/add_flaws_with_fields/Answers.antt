@@ -7,7 +7,7 @@ use Rattle.proto_parts.specs.declared.options.Element.TheVariants as element
 use Rattle.proto_numbers.specs.NumberFlaws.{field_number_flaws, number_of_field, range_of}
 use Rattle.proto_checks.specs.FieldFlaws.{field_flaws, option_flaws}
 use Rattle.proto_checks.specs.FileFlaws.{extension_flaws, json_clashes, name_flaws}
-use Rattle.proto_text.proofs.Turns.{then_added}
+use Rattle.proto_faults.proofs.Turns.{then_added}
 use Rattle.proto_checks.proofs.messages.add_flaws_with_fields.Goals as goal
 
 pub returns : goal.returns

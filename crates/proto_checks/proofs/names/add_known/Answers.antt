@@ -4,7 +4,7 @@ use Rattle.std.specs.Str.{bytes_eq}
 use Rattle.proto_faults.specs.declared.fault.FaultKind.TheVariants as kind
 use Rattle.proto_parts.specs.Scenes.{text}
 use Rattle.proto_numbers.specs.Flaws.{flaw_if}
-use Rattle.proto_text.proofs.Turns.{added_more, added_all}
+use Rattle.proto_faults.proofs.Turns.{added_more, added_all}
 use Rattle.proto_checks.proofs.names.add_known.Goals as goal
 
 pub loop-name-preserved : goal.loop-name-preserved

@@ -4,7 +4,7 @@ use Rattle.proto_parts.specs.Options.{is_allowed}
 use Rattle.proto_parts.specs.Scenes.{text}
 use Rattle.proto_parts.specs.Views.{option_of}
 use Rattle.proto_numbers.specs.Flaws.{flaw_if}
-use Rattle.proto_text.proofs.Turns.{seen_more, seen_all}
+use Rattle.proto_faults.proofs.Turns.{seen_more, seen_all}
 use Rattle.proto_checks.proofs.options.add_misplaced.Goals as goal
 
 pub loop-option-preserved : goal.loop-option-preserved

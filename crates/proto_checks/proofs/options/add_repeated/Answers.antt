@@ -7,7 +7,7 @@ use Rattle.proto_parts.specs.Scenes.{text}
 use Rattle.proto_parts.specs.Views.{option_of}
 use Rattle.proto_numbers.specs.Flaws.{after_earlier, marked}
 use Rattle.proto_checks.proofs.OptionNames.{earlier_map, flags_length}
-use Rattle.proto_text.proofs.Turns.{listed_more}
+use Rattle.proto_faults.proofs.Turns.{listed_more}
 use Rattle.proto_checks.proofs.options.add_repeated.Goals as goal
 
 pub loop-option-preserved : goal.loop-option-preserved

@@ -1,5 +1,5 @@
 use Rattle.std.proofs.Common.{map, arith}
-use Rattle.proto_text.proofs.Turns.{listed_more, listed_all}
+use Rattle.proto_faults.proofs.Turns.{listed_more, listed_all}
 use Rattle.proto_entries.specs.Entries.{change_of, turned_round}
 use Rattle.proto_entries.proofs.change.all_turned_round.Goals as goal
 

@@ -2,7 +2,7 @@ use Rattle.std.proofs.Common.{List, ℕ, [], ◌∷◌, ◌++◌, length, map, �
 use Rattle.std.proofs.lemmas.List.{length-map, map-append}
 use Rattle.proto_imports.specs.ImportSteps.{IsFileIndex}
 use Rattle.proto_file_rules.specs.Packages.{package_name}
-use Rattle.proto_text.proofs.Turns.{pushed_more}
+use Rattle.proto_faults.proofs.Turns.{pushed_more}
 use Rattle.proto_file_rules.proofs.heads.first_of_packages.Goals as goal
 
 pub loop-head-preserved : goal.loop-head-preserved

@@ -2,7 +2,7 @@ use Rattle.std.proofs.Common.{◌≡◌, ◌++◌, List, map, get_or, sym, ◌�
 use Rattle.std.specs.List.{Contains, flat_map}
 use Rattle.std.proofs.lemmas.List.Elements.{Contains-get_or}
 use Rattle.proto_text.specs.Strings.{IsString}
-use Rattle.proto_text.proofs.Lists.{contains_map}
+use Rattle.proto_faults.proofs.Lists.{contains_map}
 use Rattle.proto_tree.specs.File.{tree_of_file}
 use Rattle.proto_tree.specs.declared.tree.Import.{Import}
 use Rattle.proto_files.specs.GivenFiles.{file_at, paths_of}

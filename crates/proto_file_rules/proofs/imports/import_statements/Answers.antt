@@ -4,7 +4,7 @@ use Rattle.proto_tree.specs.declared.tree.Item.{Item}
 use Rattle.proto_tree.specs.File.{item_tree, trees}
 use Rattle.proto_file_rules.specs.Imports.{imports_in}
 use Rattle.proto_file_rules.proofs.ImportLists.{imports_joined}
-use Rattle.proto_text.proofs.Turns.{all_listed, listed_turn}
+use Rattle.proto_faults.proofs.Turns.{all_listed, listed_turn}
 use Rattle.proto_file_rules.proofs.imports.import_statements.Goals.{in-Some+in_ok-push, in_default}
 use Rattle.proto_file_rules.proofs.imports.import_statements.Goals as goal
 

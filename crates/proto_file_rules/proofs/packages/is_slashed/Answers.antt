@@ -2,7 +2,7 @@ use Rattle.std.proofs.Common.{◌≡◌, ℕ, get_or, sym, ◌∙◌, ap, subst,
 use Rattle.std.specs.Prelude.{◌==◌, if◌then◌else◌}
 use Rattle.std.proofs.lemmas.Bool.{cases_lt}
 use Rattle.std.proofs.lemmas.List.{get_or-map, length-map}
-use Rattle.proto_text.proofs.Lists.{same_from_word}
+use Rattle.proto_faults.proofs.Lists.{same_from_word}
 use Rattle.proto_file_rules.proofs.HeadLists.{differs, same_lists}
 use Rattle.proto_file_rules.specs.Packages.{slashed}
 use Rattle.proto_file_rules.proofs.packages.is_slashed.Goals as goal

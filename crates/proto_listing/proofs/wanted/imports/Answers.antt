@@ -5,7 +5,7 @@ use Rattle.proto_tree.specs.File.{item_tree, trees}
 use Rattle.proto_listing.specs.FromTree.{imports_in}
 use Rattle.proto_listing.specs.Listing.{wanted_of}
 use Rattle.proto_listing.proofs.Behind.{imports_joined}
-use Rattle.proto_text.proofs.Turns.{all_listed, listed_turn}
+use Rattle.proto_faults.proofs.Turns.{all_listed, listed_turn}
 use Rattle.proto_listing.proofs.wanted.imports.Goals.{in-Some+in_ok-push, in_default}
 use Rattle.proto_listing.proofs.wanted.imports.Goals as goal
 

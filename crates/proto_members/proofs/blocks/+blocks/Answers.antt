@@ -6,7 +6,7 @@ use Rattle.proto_tree.proofs.Nodes.{member_tree-Enum, member_tree-Oneof}
 use Rattle.proto_parts.specs.Parts.{BlockOf}
 use Rattle.proto_members.specs.Blocks.{block_of, holders_in}
 use Rattle.proto_members.proofs.BlockTrees.{enum_alone, oneof_alone}
-use Rattle.proto_text.proofs.Turns.{all_listed}
+use Rattle.proto_faults.proofs.Turns.{all_listed}
 use Rattle.proto_members.proofs.BlockTrees.{holders_turn}
 use Rattle.proto_members.proofs.blocks.+blocks.Goals as goal
 

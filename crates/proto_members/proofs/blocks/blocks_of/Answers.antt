@@ -1,7 +1,7 @@
 use Rattle.std.proofs.Common.{refl, ap, ◌∙◌, arith}
 use Rattle.proto_tree.specs.File.{item_tree, trees}
 use Rattle.proto_members.specs.Blocks.{holders_in}
-use Rattle.proto_text.proofs.Turns.{all_listed}
+use Rattle.proto_faults.proofs.Turns.{all_listed}
 use Rattle.proto_members.proofs.BlockTrees.{holders_turn}
 use Rattle.proto_members.proofs.blocks.blocks_of.Goals as goal
 

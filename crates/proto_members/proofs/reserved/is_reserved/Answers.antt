@@ -2,7 +2,7 @@ use Rattle.std.proofs.Common.{◌↔◌, IsTrue, map, sym, subst, ap, ◌∙◌}
 use Rattle.std.specs.List.{list_any}
 use Rattle.std.proofs.lemmas.Result.{IfOk-weaker}
 use Rattle.proto_tree.specs.File.{tree_of_file}
-use Rattle.proto_rename_laws.specs.Cases.{Reserves}
+use Rattle.proto_captures.specs.Cases.{Reserves}
 use Rattle.proto_members.specs.Blocks.{block_of}
 use Rattle.proto_members.specs.Members.{reserves}
 use Rattle.proto_members.proofs.AimedAt.{aim_inside}

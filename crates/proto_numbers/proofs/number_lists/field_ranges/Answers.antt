@@ -1,7 +1,7 @@
 use Rattle.std.proofs.Common.{[], ◌∷◌, ◌++◌, refl, ap, ◌∙◌}
 use Rattle.proto_parts.specs.declared.ranges.RangeAt.{RangeAt}
 use Rattle.proto_numbers.specs.NumberFlaws.{range_of}
-use Rattle.proto_text.proofs.Turns.{listed_more, listed_all}
+use Rattle.proto_faults.proofs.Turns.{listed_more, listed_all}
 use Rattle.proto_numbers.proofs.number_lists.field_ranges.Goals as goal
 
 pub loop-range-preserved : goal.loop-range-preserved

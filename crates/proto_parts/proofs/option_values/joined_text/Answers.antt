@@ -1,6 +1,6 @@
 use Rattle.std.proofs.Common.{flat_map, refl, arith}
 use Rattle.proto_parts.specs.Scenes.{value}
-use Rattle.proto_text.proofs.Turns.{all_listed, listed_turn}
+use Rattle.proto_faults.proofs.Turns.{all_listed, listed_turn}
 use Rattle.proto_parts.proofs.option_values.joined_text.Goals as goal
 
 pub loop-token-preserved : goal.loop-token-preserved

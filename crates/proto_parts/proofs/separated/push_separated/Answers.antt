@@ -1,5 +1,5 @@
 use Rattle.std.proofs.Common.{[], ◌∷◌, map, refl, ap, arith}
-use Rattle.proto_text.proofs.Turns.{all_listed, listed_turn}
+use Rattle.proto_faults.proofs.Turns.{all_listed, listed_turn}
 use Rattle.proto_parts.proofs.Statements.{pushed, pushed_before}
 use Rattle.proto_parts.proofs.separated.push_separated.Goals as goal
 

@@ -1,5 +1,5 @@
 use Rattle.std.proofs.Common.{[], ◌∷◌, map, refl, arith}
-use Rattle.proto_text.proofs.Turns.{all_listed, listed_turn}
+use Rattle.proto_faults.proofs.Turns.{all_listed, listed_turn}
 use Rattle.proto_parts.proofs.separated.push_tokens.Goals as goal
 
 pub loop-behind-preserved : goal.loop-behind-preserved

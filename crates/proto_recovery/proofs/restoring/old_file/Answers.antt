@@ -2,7 +2,7 @@ use Rattle.std.proofs.Common.{List, ℕ, map, sym, ap, ◌∙◌}
 use Rattle.std.specs.List.{list_any}
 use Rattle.std.specs.Str.{bytes_eq}
 use Rattle.std.proofs.lemmas.Result.{err_from_is_err_and}
-use Rattle.proto_text.proofs.Lists.{any_map}
+use Rattle.proto_faults.proofs.Lists.{any_map}
 use Rattle.proto_entries.specs.Entries.{change_of}
 use Rattle.proto_recovery.proofs.OldTexts.{counts_neither, is_listed, not_there}
 use Rattle.proto_recovery.proofs.restoring.old_file.Goals as goal

@@ -1,6 +1,6 @@
 use Rattle.std.proofs.Common.{◌∷◌, [], refl, arith, drop, if◌then◌else◌}
 use Rattle.proto_rename.specs.MadeChanges.{marked_tokens}
-use Rattle.proto_text.proofs.Turns.{all_listed, both_turn}
+use Rattle.proto_faults.proofs.Turns.{all_listed, both_turn}
 use Rattle.proto_rename.proofs.changing.marked.Goals as goal
 
 pub loop-place-preserved : goal.loop-place-preserved

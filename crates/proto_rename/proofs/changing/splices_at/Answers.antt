@@ -1,7 +1,7 @@
 use Rattle.std.proofs.Common.{◌≡◌, ◌∷◌, [], List, map, refl, sym, subst, IfOk}
 use Rattle.proto_text.specs.Edits.{AreShort, Edit}
 use Rattle.proto_rename.specs.MadeChanges.{word_put}
-use Rattle.proto_text.proofs.Turns.{all_listed, listed_turn}
+use Rattle.proto_faults.proofs.Turns.{all_listed, listed_turn}
 use Rattle.proto_rename.proofs.changing.splices_at.Goals as goal
 
 pub loop-token-preserved : goal.loop-token-preserved

@@ -4,10 +4,10 @@ use Rattle.proto_parts.specs.Options.{is_named}
 use Rattle.proto_parts.specs.Parts.{OptionOf}
 use Rattle.proto_parts.specs.Scenes.{text}
 use Rattle.proto_parts.specs.Views.{option_of}
-use Rattle.proto_checks_laws.specs.Renamed.{constant_tokens}
+use Rattle.proto_rename_laws.specs.Renamed.{constant_tokens}
 use Rattle.proto_rename.specs.Defaults.{spelled}
 use Rattle.proto_rename.proofs.DefaultTexts.{spelled_turn}
-use Rattle.proto_text.proofs.Turns.{all_listed}
+use Rattle.proto_faults.proofs.Turns.{all_listed}
 use Rattle.proto_rename.proofs.defaults.push_defaults.Goals as goal
 
 pub loop-option-preserved : goal.loop-option-preserved

@@ -1,7 +1,7 @@
 use Rattle.std.proofs.Common.{sym, ◌∙◌, arith}
 use Rattle.proto_parts.specs.Views.{field_of}
 use Rattle.proto_members.specs.Members.{is_made}
-use Rattle.proto_text.proofs.Turns.{none_passed, passed_over, stops_here}
+use Rattle.proto_faults.proofs.Turns.{none_passed, passed_over, stops_here}
 use Rattle.proto_rename.proofs.json_names.has_made.Goals as goal
 
 pub loop-field-preserved : goal.loop-field-preserved

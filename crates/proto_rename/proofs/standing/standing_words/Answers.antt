@@ -2,7 +2,7 @@ use Rattle.std.proofs.Common.{◌++◌, refl, ap, ◌∙◌, drop, arith}
 use Rattle.proto_tree.specs.References.{dotted}
 use Rattle.proto_names.specs.Linking.{text_at}
 use Rattle.proto_rename.specs.StandingTokens.{counted, listed, standing_tokens}
-use Rattle.proto_text.proofs.Turns.{all_listed, both_turn}
+use Rattle.proto_faults.proofs.Turns.{all_listed, both_turn}
 use Rattle.proto_rename.proofs.standing.standing_words.Goals as goal
 
 pub loop-place-preserved : goal.loop-place-preserved

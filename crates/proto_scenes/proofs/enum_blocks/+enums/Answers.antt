@@ -6,7 +6,7 @@ use Rattle.proto_tree.proofs.Nodes.{member_tree-Enum, member_tree-Oneof}
 use Rattle.proto_parts.specs.Parts.{BlockOf}
 use Rattle.proto_scenes.specs.Enums.{enum_block, enums_in}
 use Rattle.proto_scenes.proofs.EnumTrees.{enum_alone, enums_turn, oneof_enums}
-use Rattle.proto_text.proofs.Turns.{all_listed}
+use Rattle.proto_faults.proofs.Turns.{all_listed}
 use Rattle.proto_scenes.proofs.enum_blocks.+enums.Goals as goal
 
 pub push_members-loop-member-preserved : goal.push_members-loop-member-preserved
