@@ -10,10 +10,10 @@ use Rattle.proto_tree.specs.declared.tree.Value.{Value}
 use Rattle.proto_tree.specs.File.{enum_item_tree, trees}
 use Rattle.proto_tree.specs.Tree.{Tree, joined}
 use Rattle.proto_parts.specs.Parts.{statement_values, statements, values_in}
-use Rattle.proto_findings.specs.declared.rule.Rule.{Rule}
+use Rattle.proto_rules.specs.declared.rule.Rule.{Rule}
 use Rattle.proto_findings.specs.Placed.{found_at, found_by, unless_word}
 use Rattle.proto_findings.specs.Readings.{Reading}
-use Rattle.proto_findings.specs.Rules.{is_chosen}
+use Rattle.proto_rules.specs.Rules.{is_chosen}
 use Rattle.proto_block_rules.specs.NameRules.{first_not_zero, is_zero}
 use Rattle.proto_faults.proofs.Turns.{front}
 use Rattle.proto_parts.proofs.JoinedTrees.{statements_joined}

@@ -12,7 +12,7 @@ use Rattle.proto_tree.specs.declared.piece.Header.TheVariants as header
 use Rattle.proto_tree.specs.Tree.{Tree, End, Leaf, Block}
 use Rattle.proto_tree.specs.References.{first_of}
 use Rattle.proto_case.specs.Cases.{is_pascal}
-use Rattle.proto_findings.specs.declared.rule.Rule.TheVariants as rule
+use Rattle.proto_rules.specs.declared.rule.Rule.TheVariants as rule
 use Rattle.proto_findings.specs.Placed.{Found, Named, below, behind_last, found_by, unless}
 use Rattle.proto_findings.specs.Readings.{Reading, meant, text}
 

@@ -11,7 +11,7 @@ use Rattle.proto_parts.specs.Numbers.{number_of}
 use Rattle.proto_parts.specs.Options.{truth_of}
 use Rattle.proto_parts.specs.Parts.{fields_in, statements, values_in}
 use Rattle.proto_case.specs.Cases.{is_lower_snake, is_pascal, is_upper_snake, upper}
-use Rattle.proto_findings.specs.declared.rule.Rule.TheVariants as rule
+use Rattle.proto_rules.specs.declared.rule.Rule.TheVariants as rule
 use Rattle.proto_findings.specs.Placed.{Found, Named, below, found_by, unless, unless_word}
 use Rattle.proto_findings.specs.Readings.{Reading, text}
 

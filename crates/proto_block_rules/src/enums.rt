@@ -8,7 +8,7 @@ ghost use Rattle.proto_tree.specs.File.{enum_item_tree, trees};
 ghost use Rattle.proto_parts.specs.Options.{truth_of};
 ghost use Rattle.proto_parts.specs.Parts.{statements, values_in};
 ghost use Rattle.proto_case.specs.Cases.{is_upper_snake};
-ghost use Rattle.proto_findings.specs.declared.rule.Rule.TheVariants as rule;
+ghost use Rattle.proto_rules.specs.declared.rule.Rule.TheVariants as rule;
 ghost use Rattle.proto_findings.specs.Placed.{found_at, found_by, unless_word};
 ghost use Rattle.proto_findings.specs.Readings.{reading_of, text};
 ghost use Rattle.proto_findings.specs.Views.{found_of};

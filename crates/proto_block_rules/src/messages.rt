@@ -4,7 +4,7 @@ ghost use Rattle.std.specs.Prelude.{◌≡◌, ◌++◌, flat_map, map, OnOk};
 ghost use Rattle.proto_tree.specs.File.{member_tree, trees};
 ghost use Rattle.proto_parts.specs.Views.{field_of};
 ghost use Rattle.proto_case.specs.Cases.{is_lower_snake};
-ghost use Rattle.proto_findings.specs.declared.rule.Rule.TheVariants as rule;
+ghost use Rattle.proto_rules.specs.declared.rule.Rule.TheVariants as rule;
 ghost use Rattle.proto_findings.specs.Placed.{found_at, found_by, unless_word};
 ghost use Rattle.proto_findings.specs.Readings.{reading_of};
 ghost use Rattle.proto_findings.specs.Views.{found_of};

@@ -10,10 +10,10 @@ use Rattle.proto_meaning.specs.Faults.{file_of}
 use Rattle.proto_meaning.specs.Names.{Workspace}
 use Rattle.proto_files.specs.FilesRead.{ReadOf, AreRead}
 use Rattle.proto_imports.specs.Links.{link_imports, names_of_files}
-use Rattle.proto_findings.specs.declared.rule.Rule.TheVariants as rule
+use Rattle.proto_rules.specs.declared.rule.Rule.TheVariants as rule
 use Rattle.proto_findings.specs.Placed.{Found, found_at, found_by, unless}
 use Rattle.proto_findings.specs.Readings.{Reading}
-use Rattle.proto_findings.specs.Rules.{is_chosen}
+use Rattle.proto_rules.specs.Rules.{is_chosen}
 use Rattle.proto_file_rules.specs.Imports.{import_used, is_used, path_of}
 use Rattle.proto_file_rules.specs.ImportTables.{LeadsToMarked, MarksUsed}
 

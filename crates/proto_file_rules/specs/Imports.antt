@@ -11,7 +11,7 @@ use Rattle.proto_meaning.specs.Faults.{file_of}
 use Rattle.proto_meaning.specs.Names.{Workspace, meaning, reaches, same_name}
 use Rattle.proto_imports.specs.Links.{value_or_none}
 use Rattle.proto_parts.specs.Parts.{statements}
-use Rattle.proto_findings.specs.declared.rule.Rule.TheVariants as rule
+use Rattle.proto_rules.specs.declared.rule.Rule.TheVariants as rule
 use Rattle.proto_findings.specs.Placed.{Found, Named, found_by, unless}
 use Rattle.proto_findings.specs.Readings.{Reading, text}
 

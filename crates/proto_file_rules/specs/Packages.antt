@@ -6,10 +6,10 @@ use Rattle.proto_faults.specs.Texts.{Path, Text}
 use Rattle.proto_meaning.specs.Joined.{joined}
 use Rattle.proto_case.specs.Cases.{is_lower_snake}
 use Rattle.proto_case.specs.Versions.{is_version, is_empty}
-use Rattle.proto_findings.specs.declared.rule.Rule.{Rule}
-use Rattle.proto_findings.specs.declared.rule.Rule.TheVariants as rule
+use Rattle.proto_rules.specs.declared.rule.Rule.{Rule}
+use Rattle.proto_rules.specs.declared.rule.Rule.TheVariants as rule
 use Rattle.proto_findings.specs.Placed.{Found, before_last, behind_last}
-use Rattle.proto_findings.specs.Rules.{is_chosen}
+use Rattle.proto_rules.specs.Rules.{is_chosen}
 
 -- what is read of a file: its path, the words of its package (none without one), where the
 -- package's name begins (0 without), and whether it has a syntax statement

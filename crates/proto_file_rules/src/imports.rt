@@ -16,9 +16,9 @@ ghost use Rattle.proto_imports.specs.Links.{link_imports, names_of_files, text_o
 ghost use Rattle.proto_names.specs.LinkOfFiles.{IsLinkOf};
 ghost use Rattle.proto_findings.specs.Readings.{read_of_file, reading_of, text};
 ghost use Rattle.proto_findings.specs.Placed.{found_by};
-ghost use Rattle.proto_findings.specs.Rules.{is_chosen};
+ghost use Rattle.proto_rules.specs.Rules.{is_chosen};
 ghost use Rattle.proto_findings.specs.Views.{found_of};
-ghost use Rattle.proto_findings.specs.declared.rule.Rule.TheVariants as rule;
+ghost use Rattle.proto_rules.specs.declared.rule.Rule.TheVariants as rule;
 ghost use Rattle.proto_file_rules.specs.Imports.{import_finds, import_no_public, import_used, imports_finds, imports_in};
 ghost use Rattle.proto_file_rules.specs.ImportTables.{AreImportsOf, LeadsToMarked, MarksUsed, public_target, public_targets};
 

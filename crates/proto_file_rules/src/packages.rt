@@ -5,7 +5,7 @@ ghost use Rattle.std.specs.List.{list_all};
 ghost use Rattle.std.specs.Str.{bytes_eq};
 ghost use Rattle.proto_case.specs.Cases.{is_lower_snake};
 ghost use Rattle.proto_findings.specs.Views.{found_of};
-ghost use Rattle.proto_findings.specs.declared.rule.Rule.TheVariants as rule;
+ghost use Rattle.proto_rules.specs.declared.rule.Rule.TheVariants as rule;
 ghost use Rattle.proto_file_rules.specs.Packages.{Head, file_name, found_unless, has_directory_like_package, has_directory_of_package, has_lower_snake_file, has_lower_snake_package, has_package, has_package_of_directory, has_version, head_finds, package_or_dash, package_unless, slashed};
 
 use crate::heads::{FileHead, Heads};

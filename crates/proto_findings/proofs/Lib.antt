@@ -1,4 +1,3 @@
 pub mod LastSplit
 mod Listing
 mod Readings
-mod RuleOrder

@@ -13,12 +13,12 @@ use Rattle.std.proofs.lemmas.List.Kept.{Any-dedup, Contains-from_dedup, IsStrict
 use Rattle.std.proofs.lemmas.List.Sorted.{Contains-permutation, IsPermutation-sym}
 use Rattle.std.proofs.lemmas.Map.Keys.{Less-from_sorted}
 use Rattle.proto_findings.specs.declared.finding.Finding.{Finding}
-use Rattle.proto_findings.specs.declared.rule.Rule.{Rule}
+use Rattle.proto_rules.specs.declared.rule.Rule.{Rule}
 use Rattle.proto_findings.specs.Listings.{FindingOf, IsListingOf, finding_cmp}
-use Rattle.proto_findings.specs.Rules.{identifier}
+use Rattle.proto_rules.specs.Rules.{identifier}
 use Rattle.proto_findings.specs.Views.{finding_of}
 use Rattle.proto_findings.specs.contracts.finding.FindingOrd.TheImpl as derived
-use Rattle.proto_findings.proofs.RuleOrder.{derived_is, equal_numbers, same_identifier}
+use Rattle.proto_rules.proofs.RuleOrder.{derived_is, equal_numbers, same_identifier}
 
 -- ---- equal findings
 

@@ -1,6 +1,4 @@
-pub mod Laws
 pub mod Listings
 pub mod Placed
 pub mod Readings
-pub mod Rules
 pub mod Views

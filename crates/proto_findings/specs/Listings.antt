@@ -6,9 +6,9 @@ use Rattle.std.specs.Ordering.{nat_cmp, ordering_then}
 use Rattle.std.specs.Cmp.Lexicographic.{slice_cmp}
 use Rattle.std.specs.declared.cmp.Ordering.{Ordering}
 use Rattle.std.specs.declared.cmp.Ordering.TheVariants.{Less}
-use Rattle.proto_findings.specs.declared.rule.Rule.{Rule}
+use Rattle.proto_rules.specs.declared.rule.Rule.{Rule}
 use Rattle.proto_findings.specs.Placed.{Found}
-use Rattle.proto_findings.specs.Rules.{identifier}
+use Rattle.proto_rules.specs.Rules.{identifier}
 
 -- a finding of a workspace: the path of its file, its offset, its rule, and the name that is
 -- printed

@@ -3,9 +3,9 @@ use Rattle.std.specs.Prelude.{ℕ, Bool, true, false, if◌then◌else◌, List,
 use Rattle.std.specs.Path.{rsplit_once}
 use Rattle.proto_faults.specs.Texts.{Text}
 use Rattle.proto_text.specs.Texts.{offset_at}
-use Rattle.proto_findings.specs.declared.rule.Rule.{Rule}
+use Rattle.proto_rules.specs.declared.rule.Rule.{Rule}
 use Rattle.proto_findings.specs.Readings.{Reading, text}
-use Rattle.proto_findings.specs.Rules.{is_chosen}
+use Rattle.proto_rules.specs.Rules.{is_chosen}
 
 -- a name, and the token that it is told of
 pub record Named : Type 0 where

@@ -4,7 +4,7 @@ ghost use Rattle.std.specs.Prelude.{map};
 ghost use Rattle.proto_findings.specs.Listings.{IsListingOf};
 ghost use Rattle.proto_findings.specs.Views.{finding_of};
 
-use crate::rule::Rule;
+use proto_rules::Rule;
 
 /// What a rule found: the path of the file, the offset in bytes from 0, the rule, and the name that
 /// is printed.

@@ -7,8 +7,8 @@ ghost use Rattle.proto_findings.specs.Readings.{reading_of, text};
 ghost use Rattle.proto_findings.specs.Views.{found_of};
 
 use crate::reading::Reading;
-use crate::rule::Rule;
 use proto_faults::NoMemory;
+use proto_rules::Rule;
 use std::alloc::Global;
 
 /// What a rule found in a file: the offset in bytes from 0, the rule, and the name that is printed.

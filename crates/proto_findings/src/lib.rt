@@ -3,15 +3,11 @@
 
 mod finding;
 mod found;
-pub mod laws;
 mod parts;
 mod reading;
-mod rule;
-mod rule_set;
 
 pub use finding::{Finding, listed};
 pub use found::{Found, add_below_unless, add_unless, below};
 pub use parts::last_part;
+pub use proto_rules::{Rule, RuleSet, laws};
 pub use reading::Reading;
-pub use rule::Rule;
-pub use rule_set::RuleSet;

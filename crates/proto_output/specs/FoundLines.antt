@@ -4,7 +4,7 @@ use Rattle.std.specs.Option.{unwrap_or}
 use Rattle.proto_faults.specs.Texts.{Path, Text}
 use Rattle.proto_files.specs.GivenFiles.{FileOf}
 use Rattle.proto_findings.specs.Listings.{FindingOf}
-use Rattle.proto_findings.specs.Rules.{identifier}
+use Rattle.proto_rules.specs.Rules.{identifier}
 use Rattle.proto_store.specs.Stores.{bytes_at}
 use Rattle.proto_text.specs.Lines.{column_at, line_at}
 

@@ -11,7 +11,7 @@ use Rattle.clap.specs.declared.error.kind.ErrorKind.{ErrorKind}
 use Rattle.clap.specs.declared.error.kind.ErrorKind.TheVariants as kind
 use Rattle.clap.proofs.WalkLemmas.{both}
 use Rattle.proto_faults.specs.Texts.{Text}
-use Rattle.proto_findings.specs.declared.rule_set.RuleSet.{RuleSet}
+use Rattle.proto_rules.specs.declared.rule_set.RuleSet.{RuleSet}
 use Rattle.protoref_words.specs.CommandLines.{Asked, bad_line, help, lint, taken}
 use Rattle.protoref_words.specs.Matched.{asked_of}
 use Rattle.protoref_words.specs.Program.{program}

@@ -7,9 +7,9 @@ use Rattle.std.proofs.lemmas.List.Folds.{list_all-append, list_any-append}
 use Rattle.std.proofs.lemmas.Slice.Eq.{bytes_eq-Decides}
 use Rattle.clap.specs.Walk.{texts}
 use Rattle.proto_faults.specs.Texts.{Text}
-use Rattle.proto_findings.specs.Rules.{identifier, is_chosen}
-use Rattle.proto_findings.specs.declared.rule.Rule.{Rule}
-use Rattle.proto_findings.specs.declared.rule.Rule.TheVariants as rule
+use Rattle.proto_rules.specs.Rules.{identifier, is_chosen}
+use Rattle.proto_rules.specs.declared.rule.Rule.{Rule}
+use Rattle.proto_rules.specs.declared.rule.Rule.TheVariants as rule
 use Rattle.protoref_words.specs.CommandLines.{names_rule, rules}
 use Rattle.protoref_words.specs.Requests.{name_rule}
 

@@ -4,9 +4,9 @@ use Rattle.std.specs.List.{list_all, list_any}
 use Rattle.std.specs.Option.{option_map_or}
 use Rattle.std.specs.Str.{bytes_eq}
 use Rattle.proto_faults.specs.Texts.{Text, Path}
-use Rattle.proto_findings.specs.Rules.{identifier}
-use Rattle.proto_findings.specs.declared.rule.Rule.{Rule}
-use Rattle.proto_findings.specs.declared.rule.Rule.TheVariants as rule
+use Rattle.proto_rules.specs.Rules.{identifier}
+use Rattle.proto_rules.specs.declared.rule.Rule.{Rule}
+use Rattle.proto_rules.specs.declared.rule.Rule.TheVariants as rule
 
 -- a command of the program
 pub data Command : Type 0 where

@@ -6,9 +6,9 @@ use Rattle.clap.specs.declared.error.kind.ErrorKind.{ErrorKind}
 use Rattle.clap.specs.declared.error.kind.ErrorKind.TheVariants as kind
 use Rattle.std.specs.Str.{bytes_eq}
 use Rattle.proto_faults.specs.Texts.{Text}
-use Rattle.proto_findings.specs.Rules.{identifier, is_chosen}
-use Rattle.proto_findings.specs.declared.rule.Rule.{Rule}
-use Rattle.proto_findings.specs.declared.rule_set.RuleSet.{RuleSet}
+use Rattle.proto_rules.specs.Rules.{identifier, is_chosen}
+use Rattle.proto_rules.specs.declared.rule.Rule.{Rule}
+use Rattle.proto_rules.specs.declared.rule_set.RuleSet.{RuleSet}
 use Rattle.protoref_words.specs.CommandLines.{Asked, names_rule, help, compile_of, lint_of, rename_of, delete_field_of, add_import_of, drop_import_of, undo_of, log_of, recover_of, bad_line}
 use Rattle.protoref_words.specs.declared.request.Request.{Request}
 use Rattle.protoref_words.specs.declared.request.Request.TheVariants as request

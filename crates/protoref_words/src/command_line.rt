@@ -5,8 +5,8 @@ ghost use Rattle.std.specs.List.{list_all};
 ghost use Rattle.clap.specs.Values.{kind_of};
 ghost use Rattle.clap.specs.Walk.{all_of, first_of, rows_of, texts};
 ghost use Rattle.clap.specs.Words.{found_of, subcommand_rows_of};
-ghost use Rattle.proto_findings.specs.Rules.{is_chosen};
-ghost use Rattle.proto_findings.specs.declared.rule.Rule.{Rule};
+ghost use Rattle.proto_rules.specs.Rules.{is_chosen};
+ghost use Rattle.proto_rules.specs.declared.rule.Rule.{Rule};
 ghost use Rattle.protoref_words.specs.CommandLines.{asked, asks_help, names_rule, taken, lint, rename, delete_field, add_import, drop_import};
 ghost use Rattle.protoref_words.specs.Marked.{begins_dashed, is_bad_at, marked, marks};
 ghost use Rattle.protoref_words.specs.Matched.{asked_in, asked_of, with_one, with_root, with_two};
@@ -16,7 +16,7 @@ use crate::commands::program;
 use crate::request::{Request, WordsFault};
 use clap::error::ErrorKind;
 use clap::{ArgMatches, Error};
-use proto_findings::{Rule, RuleSet};
+use proto_rules::{Rule, RuleSet};
 use std::alloc::Global;
 
 /// Reads the words, of which the first is the program's name. Behind the command each word is the

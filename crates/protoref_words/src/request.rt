@@ -3,7 +3,7 @@
 ghost use Rattle.std.specs.Prelude.{◌≡◌};
 
 use proto_faults::NoMemory;
-use proto_findings::RuleSet;
+use proto_rules::RuleSet;
 use std::alloc::{AllocError, AllocFailed};
 use thiserror::Error;
 

@@ -1,7 +1,7 @@
 use Rattle.std.proofs.Common.{◌≡◌, ◌++◌, drop, map, flat_map}
 use Rattle.proto_tree.specs.File.{enum_item_tree, trees}
 use Rattle.proto_parts.specs.Parts.{statements}
-use Rattle.proto_findings.specs.declared.rule.Rule.TheVariants as rule
+use Rattle.proto_rules.specs.declared.rule.Rule.TheVariants as rule
 use Rattle.proto_findings.specs.Placed.{found_at}
 use Rattle.proto_findings.specs.Readings.{reading_of}
 use Rattle.proto_findings.specs.Views.{found_of}

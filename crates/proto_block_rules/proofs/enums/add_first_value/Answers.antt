@@ -3,7 +3,7 @@ use Rattle.std.specs.Result.{OnOk}
 use Rattle.std.proofs.lemmas.List.{append-nil}
 use Rattle.proto_tree.specs.declared.tree.EnumItem.{EnumItem}
 use Rattle.proto_findings.specs.declared.found.Found.{Found as FoundAt}
-use Rattle.proto_findings.specs.declared.rule.Rule.TheVariants as rule
+use Rattle.proto_rules.specs.declared.rule.Rule.TheVariants as rule
 use Rattle.proto_findings.specs.Placed.{Found, below, found_at, unless}
 use Rattle.proto_findings.specs.Readings.{reading_of, text}
 use Rattle.proto_findings.specs.Views.{found_of}

@@ -3,7 +3,7 @@ use Rattle.proto_tree.specs.declared.tree.Value.{Value}
 use Rattle.proto_tree.specs.File.{enum_item_tree, trees}
 use Rattle.proto_parts.specs.Parts.{values_in}
 use Rattle.proto_case.specs.Cases.{is_upper_snake}
-use Rattle.proto_findings.specs.declared.rule.Rule.TheVariants as rule
+use Rattle.proto_rules.specs.declared.rule.Rule.TheVariants as rule
 use Rattle.proto_findings.specs.Placed.{Named, found_at, unless_word}
 use Rattle.proto_findings.specs.Readings.{reading_of}
 use Rattle.proto_findings.specs.Views.{found_of}

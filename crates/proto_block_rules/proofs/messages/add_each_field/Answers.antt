@@ -4,7 +4,7 @@ use Rattle.proto_parts.specs.declared.fields.FieldAt.{FieldAt}
 use Rattle.proto_parts.specs.Parts.{FieldOf}
 use Rattle.proto_parts.specs.Views.{field_of}
 use Rattle.proto_case.specs.Cases.{is_lower_snake}
-use Rattle.proto_findings.specs.declared.rule.Rule.TheVariants as rule
+use Rattle.proto_rules.specs.declared.rule.Rule.TheVariants as rule
 use Rattle.proto_findings.specs.Placed.{Found, Named, below, found_at, unless, unless_word}
 use Rattle.proto_findings.specs.Readings.{reading_of, text}
 use Rattle.proto_findings.specs.Views.{found_of}

@@ -3,7 +3,7 @@ use Rattle.proto_files.specs.GivenFiles.{FileOf}
 use Rattle.proto_files.specs.FilesRead.{AreRead}
 use Rattle.proto_findings.specs.Listings.{FindingOf, IsListingOf}
 use Rattle.proto_findings.specs.Views.{finding_of}
-use Rattle.proto_findings.specs.declared.rule_set.RuleSet.{RuleSet}
+use Rattle.proto_rules.specs.declared.rule_set.RuleSet.{RuleSet}
 use Rattle.proto_lint.specs.Findings.{findings}
 use Rattle.proto_lint.proofs.linting.lint.Goals as goal
 

@@ -1,8 +1,8 @@
 //! Sets of rules.
 
 ghost use Rattle.std.specs.Prelude.{◌≡◌, ◌≢◌, true, false};
-ghost use Rattle.proto_findings.specs.Rules.{is_chosen};
-ghost use Rattle.proto_findings.specs.declared.rule.Rule.{Rule};
+ghost use Rattle.proto_rules.specs.Rules.{is_chosen};
+ghost use Rattle.proto_rules.specs.declared.rule.Rule.{Rule};
 
 use crate::rule::{RULE_COUNT, Rule};
 

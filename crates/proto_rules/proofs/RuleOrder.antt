@@ -6,11 +6,11 @@ use Rattle.std.specs.Cmp.Lexicographic.{nat_list_eq_equiv, same_text, slice_cmp}
 use Rattle.std.specs.Ordering.{nat_cmp, is_lt, ordering_reverse}
 use Rattle.std.specs.declared.cmp.Ordering.{Ordering}
 use Rattle.std.specs.declared.cmp.Ordering.TheVariants.{Less, Equal, Greater}
-use Rattle.proto_findings.specs.declared.rule.Rule.{Rule}
-use Rattle.proto_findings.specs.declared.rule.Rule.TheVariants as rule
-use Rattle.proto_findings.specs.contracts.rule.RuleOrd.TheImpl as derived
-use Rattle.proto_findings.specs.contracts.rule.RuleOrd.TheImpl.Laws as laws
-use Rattle.proto_findings.specs.Rules.{identifier, number}
+use Rattle.proto_rules.specs.declared.rule.Rule.{Rule}
+use Rattle.proto_rules.specs.declared.rule.Rule.TheVariants as rule
+use Rattle.proto_rules.specs.contracts.rule.RuleOrd.TheImpl as derived
+use Rattle.proto_rules.specs.contracts.rule.RuleOrd.TheImpl.Laws as laws
+use Rattle.proto_rules.specs.Rules.{identifier, number}
 
 abbrev pub all : List Rule
 all = rule.DirectorySamePackage ∷ rule.EnumFirstValueZero ∷ rule.EnumNoAllowAlias ∷ rule.EnumPascalCase ∷ rule.EnumValuePrefix ∷ rule.EnumValueUpperSnakeCase ∷ rule.EnumZeroValueSuffix ∷ rule.FieldLowerSnakeCase ∷ rule.FileLowerSnakeCase ∷ rule.ImportNoPublic ∷ rule.ImportUsed ∷ rule.MessagePascalCase ∷ rule.OneofLowerSnakeCase ∷ rule.PackageDefined ∷ rule.PackageDirectoryMatch ∷ rule.PackageLowerSnakeCase ∷ rule.PackageSameDirectory ∷ rule.PackageVersionSuffix ∷ rule.RpcNoClientStreaming ∷ rule.RpcNoServerStreaming ∷ rule.RpcPascalCase ∷ rule.RpcRequestResponseUnique ∷ rule.RpcRequestStandardName ∷ rule.RpcResponseStandardName ∷ rule.ServicePascalCase ∷ rule.ServiceSuffix ∷ rule.SyntaxSpecified ∷ []

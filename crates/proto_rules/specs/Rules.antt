@@ -1,8 +1,8 @@
 -- The rules, by their identifiers.
 use Rattle.std.specs.Prelude.{ℕ, Bool, false, List, codes, slice_index_or}
 use Rattle.proto_faults.specs.Texts.{Text}
-use Rattle.proto_findings.specs.declared.rule.Rule.{Rule}
-use Rattle.proto_findings.specs.declared.rule.Rule.TheVariants as rule
+use Rattle.proto_rules.specs.declared.rule.Rule.{Rule}
+use Rattle.proto_rules.specs.declared.rule.Rule.TheVariants as rule
 
 -- the identifier of a rule, by which it is chosen and printed
 abbrev pub identifier : Rule → Text

@@ -65,8 +65,8 @@ pub enum Rule {
 }
 
 impl Rule {
-    ghost use Rattle.proto_findings.specs.Rules.{identifier};
-    ghost use Rattle.proto_findings.specs.declared.rule.Rule.{Rule};
+    ghost use Rattle.proto_rules.specs.Rules.{identifier};
+    ghost use Rattle.proto_rules.specs.declared.rule.Rule.{Rule};
 
     /// All rules, in the order of their identifiers.
     const ALL: [Rule; RULE_COUNT] = [

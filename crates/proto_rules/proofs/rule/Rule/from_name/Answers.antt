@@ -1,6 +1,6 @@
 use Rattle.std.proofs.Common.{sym, ◌∙◌, below_more}
-use Rattle.proto_findings.proofs.RuleOrder.{IsOther, all, is_found, is_other, none_found}
-use Rattle.proto_findings.proofs.rule.Rule.from_name.Goals as goal
+use Rattle.proto_rules.proofs.RuleOrder.{IsOther, all, is_found, is_other, none_found}
+use Rattle.proto_rules.proofs.rule.Rule.from_name.Goals as goal
 
 pub returns-then-eq : goal.returns-then-eq
 returns-then-eq c = is_found _ c.name.result.now c.args.name.now c.name.ensures (sym c.if-eq.true ∙ c.eq.ensures)

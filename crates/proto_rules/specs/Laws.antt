@@ -2,8 +2,8 @@
 use Rattle.std.specs.Prelude.{◌≡◌}
 use Rattle.std.specs.Cmp.Lexicographic.{slice_cmp}
 use Rattle.std.specs.Ordering.{nat_cmp}
-use Rattle.proto_findings.specs.declared.rule.Rule.{Rule}
-use Rattle.proto_findings.specs.Rules.{identifier, number}
+use Rattle.proto_rules.specs.declared.rule.Rule.{Rule}
+use Rattle.proto_rules.specs.Rules.{identifier, number}
 
 -- The order of rules is that of the bytes of their identifiers.
 abbrev pub IdentifiersRise : Type 0
