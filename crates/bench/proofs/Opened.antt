@@ -3,7 +3,7 @@ use Rattle.std.proofs.Common.{◌≡◌, List, sym, subst}
 use Rattle.proto_files.specs.Faults.{HasNoFault}
 use Rattle.proto_files.specs.GivenFiles.{FileOf}
 use Rattle.proto_imports.specs.Links.{LinkFaults}
-use Rattle.proto_schema.specs.Whole.{FileFaults, of_check, of_link}
+use Rattle.proto_desc.specs.Whole.{FileFaults, of_check, of_link}
 use Rattle.proto_statement_deleted.specs.Fields.{NumbersAreSmall}
 use Rattle.proto_statement_edits.specs.Edits.{HaveSmallNumbers}
 

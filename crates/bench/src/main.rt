@@ -29,16 +29,16 @@ fn main(rt: HostRuntime) -> io::Result<()> {
 // The first word is the name of the program itself.
 fn answer<R: Files + Clock + Print + AllocGlobal>(rt: &R, words: &[String]) -> io::Result<()> {
     let [_program, step, words @ ..] = words else {
-        return println!(rt; "no step");
+        return rt.println("no step");
     };
     match step.as_str() {
         "lex" => lex_all(rt, words),
         "parse" => parse_all(rt, words),
-        "link" => count(rt, files_at(rt, words)?, false),
-        "lint" => count(rt, files_at(rt, words)?, true),
-        "compile" => compile(rt, files_at(rt, words)?),
+        "link" => count(rt, words, false),
+        "lint" => count(rt, words, true),
+        "compile" => compile(rt, words),
         "edit" => time_edit(rt, words),
-        _ => println!(rt; "no such step"),
+        _ => rt.println("no such step"),
     }
 }
 

@@ -1,16 +1,12 @@
 //! The steps over files, and what is printed of them.
 
-ghost use Rattle.proto_names.specs.LinkOfFiles.{IsLinkOf};
-
-use crate::Given;
-use crate::counts::Counts;
 use crate::report::{Report, report_on};
-use proto_desc::{Descriptors, to_json};
+use crate::{Given, files_at};
+use proto_desc::{Schema, to_json};
 use proto_faults::{NoMemory, SchemaFault};
 use proto_files::{Files, Paths};
 use proto_lint::{RuleSet, lint};
 use proto_names::Link;
-use proto_schema::Schema;
 use proto_text::{Source, lex};
 use std::alloc::Global;
 use std::{fs, io, rt};
@@ -20,9 +16,9 @@ fn token_count(alloc: Global, bytes: Vec<u8>) -> Option<usize> {
     match Source::new(bytes) {
         Ok(source) => match lex(alloc, &source) {
             Ok(tokens) => Some(tokens.len()),
-            Err(_) => None,
+            Err(_fault) => None,
         },
-        Err(_) => None,
+        Err(_fault) => None,
     }
 }
 
@@ -35,7 +31,7 @@ pub(crate) fn lex_all<R: rt::Files + Print + AllocGlobal>(
     for path in paths {
         match token_count(rt.alloc(), fs::read(rt, path.as_str())?) {
             Some(count) => all = all.saturating_add(count),
-            None => return println!(rt; "no tokens"),
+            None => return rt.println("no tokens"),
         }
     }
     println!(rt; "{all} tokens")
@@ -56,96 +52,78 @@ pub(crate) fn parse_all<R: rt::Files + Print + AllocGlobal>(
 fn print_report<R: Print>(rt: &R, path: &str, report: &Report) -> io::Result<()> {
     match report {
         Report::Counts(counts) => {
-            let Counts {
-                messages,
-                enums,
-                services,
-                imports,
-                options,
-            } = *counts;
             println!(rt;
-                "{path}: {messages} messages, {enums} enums, {services} services, {imports} imports, {options} options"
+                "{path}: {} messages, {} enums, {} services, {} imports, {} options",
+                counts.messages, counts.enums, counts.services, counts.imports, counts.options
             )
         }
         Report::Fault(fault) => {
-            let (number, name, offset) = (fault.number, fault.name, fault.offset);
-            println!(rt; "{path}: {number} {name} {offset}")
+            println!(rt; "{path}: {} {} {}", fault.number, fault.name, fault.offset)
         }
         Report::NoText => println!(rt; "{path}: too large or no text"),
     }
 }
 
-fn read(alloc: Global, given: Given) -> Result<Files, SchemaFault> {
-    let paths = Paths::new(alloc, given)?;
-    Files::read(alloc, paths)
-}
-
-fn count_findings(alloc: Global, files: &Files, link: &Link) -> Option<usize>
-    requires { IsLinkOf files.now link.now }
-{
-    match lint(alloc, files, link, &RuleSet::all()) {
-        Ok(found) => Some(found.len()),
-        Err(_) => None,
-    }
-}
-
-// How many files link, or how many findings they have, if they link.
-fn count_in(alloc: Global, files: &Files, is_linted: bool) -> Option<usize> {
-    match Link::new(alloc, files) {
-        Ok(link) => {
-            let count = if is_linted {
-                count_findings(alloc, files, &link)
-            } else {
-                Some(files.len())
-            };
-            link.release();
-            count
+// How many files link, or how many findings they have.
+fn count_linked(alloc: Global, files: &Files, is_linted: bool) -> Result<usize, SchemaFault> {
+    let link = Link::new(alloc, files)?;
+    let count = if is_linted {
+        match lint(alloc, files, &link, &RuleSet::all()) {
+            Ok(found) => Ok(found.len()),
+            Err(NoMemory) => Err(SchemaFault::NoMemory),
         }
-        Err(_fault) => None,
-    }
+    } else {
+        Ok(files.len())
+    };
+    link.release();
+    count
+}
+
+fn count_in(alloc: Global, given: Given, is_linted: bool) -> Result<usize, SchemaFault> {
+    let files = Files::read(alloc, Paths::new(alloc, given)?)?;
+    let count = count_linked(alloc, &files, is_linted);
+    files.release();
+    count
 }
 
 /// Prints how many files link, or how many findings they have.
-pub(crate) fn count<R: Print + AllocGlobal>(
+pub(crate) fn count<R: rt::Files + Print + AllocGlobal>(
     rt: &R,
-    given: Given,
+    paths: &[String],
     is_linted: bool,
 ) -> io::Result<()> {
     let what = if is_linted { "findings" } else { "files link" };
-    let count = match read(rt.alloc(), given) {
-        Ok(files) => {
-            let count = count_in(rt.alloc(), &files, is_linted);
-            files.release();
-            count
-        }
-        Err(_fault) => None,
-    };
-    match count {
-        Some(count) => println!(rt; "{count} {what}"),
-        None => println!(rt; "no link"),
+    match count_in(rt.alloc(), files_at(rt, paths)?, is_linted) {
+        Ok(count) => println!(rt; "{count} {what}"),
+        Err(_fault) => rt.println("no link"),
     }
 }
 
-/// Prints the descriptors as JSON, or the fault as `path:offset: number name`.
-pub(crate) fn compile<R: Print + AllocGlobal>(rt: &R, given: Given) -> io::Result<()> {
-    match Schema::open(rt.alloc(), given) {
-        Ok(schema) => {
-            let printed = print_json(rt, schema.descriptors());
-            schema.release();
-            printed
-        }
-        Err(SchemaFault::Schema(fault)) => {
+fn json_of(alloc: Global, given: Given) -> Result<String, SchemaFault> {
+    let schema = Schema::open(alloc, given)?;
+    let text = to_json(alloc, schema.descriptors());
+    schema.release();
+    Ok(text?)
+}
+
+fn print_fault<R: Print>(rt: &R, fault: &SchemaFault) -> io::Result<()> {
+    match fault {
+        SchemaFault::Schema(fault) => {
             let (path, offset) = (fault.path.as_str(), fault.offset);
             let (number, name) = (fault.number(), fault.name());
             println!(rt; "{path}:{offset}: {number} {name}")
         }
-        Err(SchemaFault::NoMemory) => println!(rt; "no memory"),
+        SchemaFault::NoMemory => rt.println("no memory"),
     }
 }
 
-fn print_json<R: Print + AllocGlobal>(rt: &R, descriptors: &Descriptors) -> io::Result<()> {
-    match to_json(rt.alloc(), descriptors) {
-        Ok(text) => println!(rt; "{text}"),
-        Err(NoMemory) => println!(rt; "no memory"),
+/// Prints the descriptors as JSON, or the fault as `path:offset: number name`.
+pub(crate) fn compile<R: rt::Files + Print + AllocGlobal>(
+    rt: &R,
+    paths: &[String],
+) -> io::Result<()> {
+    match json_of(rt.alloc(), files_at(rt, paths)?) {
+        Ok(text) => rt.println(text.as_str()),
+        Err(fault) => print_fault(rt, &fault),
     }
 }

@@ -1,6 +1,6 @@
 //! Tests of the files of a workspace, through public calls alone.
 
-use crate::expect::expect;
+use crate::expect::{expect, owned, repeated};
 use proto_faults::{FaultKind, SchemaFault};
 use proto_files::{
     Files, Paths, Words, all_paths, are_read, fault_at_token, file_named, is_workspace_path,
@@ -9,40 +9,13 @@ use proto_files::{
 use proto_text::{Span, Token, TokenKind};
 use std::process::Abort;
 
-// The letter `a` so many times, with this behind it.
-fn long_path<R: AllocGlobal + Abort>(rt: &R, count: usize, end: &str) -> String {
-    let mut path = "a".repeat(rt.alloc(), count).expect(rt, "memory");
-    path.push_str(end).expect(rt, "memory");
-    path
-}
-
-fn is_path<R: AllocGlobal + Abort>(rt: &R, count: usize, end: &str) -> bool {
-    is_workspace_path(long_path(rt, count, end).as_str())
-}
-
-/// How many letters stand before the end of a path, the end, and whether it is a path of a workspace.
-const PATHS: &[(usize, &str, bool)] = &[
-    (249, ".proto", true),
-    (249, ".protoa.proto", false),
-    (0, "a/b-c_D.9/e.proto", true),
-    (0, ".proto", true),
-    (0, "..a/.proto", true),
-    (0, "", false),
-    (0, "a.prot", false),
-    (0, "a/./b.proto", false),
-    (0, "../b.proto", false),
-    (0, "a//b.proto", false),
-    (0, "/b.proto", false),
-    (0, "a b.proto", false),
-    (0, "\u{e4}.proto", false),
-];
-
 #[test]
-fn workspace_paths(rt: HostRuntime) {
-    assert!(rt; long_path(&rt, 249, ".proto").len() == 255);
-    for (count, end, wanted) in PATHS {
-        expect(&rt, is_path(&rt, *count, end) == *wanted, end);
-    }
+fn longest_path(rt: HostRuntime) {
+    let longest = repeated(&rt, "a", 249, ".proto", 1);
+    let is_path = longest.len() == 255 && is_workspace_path(longest.as_str());
+    expect(&rt, is_path, "255 bytes");
+    let longer = repeated(&rt, "a", 249, ".protoa.proto", 1);
+    expect(&rt, !is_workspace_path(longer.as_str()), "more bytes");
 }
 
 /// A fault: its number, its name, its path and its offset.
@@ -72,187 +45,33 @@ fn put_file<R: AllocGlobal + Abort>(
     text: &[u8],
     count: usize,
 ) {
-    let path = String::from_str(rt.alloc(), path).expect(rt, "memory");
     let text = text.repeat(rt.alloc(), count).expect(rt, "memory");
-    files.push((path, text)).expect(rt, "memory");
+    files.push((owned(rt, path), text)).expect(rt, "memory");
 }
 
-// Files with the paths, separated by spaces, each with a space as its one byte.
-fn given<R: AllocGlobal + Abort>(rt: &R, paths: &str) -> Given {
+// Files from one text: the path of each, a `:` and its text, with `|` between them.
+fn given<R: AllocGlobal + Abort>(rt: &R, texts: &str) -> Given {
     let mut files = Vec::new(rt.alloc());
-    for path in paths.split(' ') {
-        put_file(rt, &mut files, path, b" ", 1);
+    for file in texts.split('|') {
+        if let Some((path, text)) = file.split_once(':') {
+            put_file(rt, &mut files, path, text.as_bytes(), 1);
+        }
     }
     files
 }
 
-// Whether this is said of files with the paths, of which there may be so many.
-fn are_paths<R: AllocGlobal + Abort>(
-    rt: &R,
-    limit: Option<usize>,
-    paths: &str,
-    said: &Option<Said>,
-) -> bool {
-    let given = given(rt, paths);
-    let made = match limit {
-        Some(limit) => Paths::up_to(rt.alloc(), limit.min(4096), given),
-        None => Paths::new(rt.alloc(), given),
+// Reads files, of which there may be so many if it is said.
+fn read<R: AllocGlobal>(rt: &R, limit: Option<usize>, given: Given) -> Result<Files, SchemaFault> {
+    let paths = match limit {
+        Some(limit) => Paths::up_to(rt.alloc(), limit.min(4096), given)?,
+        None => Paths::new(rt.alloc(), given)?,
     };
-    match (made.err(), said) {
-        (None, None) => true,
-        (Some(fault), Some(said)) => is_fault(&fault, said),
-        _ => false,
-    }
-}
-
-/// How many files there may be, if it is said, their paths, and the fault.
-const WORKSPACES: &[(Option<usize>, &str, Option<Said>)] = &[
-    (Some(4096), "b.proto a/c.proto a.proto", None),
-    (
-        Some(4096),
-        "b.proto a.proto b.proto",
-        Some(Said(34, "DoublePath", "b.proto", 0)),
-    ),
-    (
-        Some(4096),
-        "b.txt a.proto b.txt",
-        Some(Said(33, "BadPath", "b.txt", 0)),
-    ),
-    (
-        Some(1),
-        "b.proto a.proto",
-        Some(Said(35, "TooManyFiles", "b.proto", 0)),
-    ),
-    (Some(2), "b.proto a.proto", None),
-    (
-        Some(1),
-        "b.proto a.proto c.txt",
-        Some(Said(35, "TooManyFiles", "b.proto", 0)),
-    ),
-    (
-        Some(1),
-        "b.proto a.proto a.proto",
-        Some(Said(34, "DoublePath", "a.proto", 0)),
-    ),
-    (
-        Some(0),
-        "b.proto a.proto",
-        Some(Said(35, "TooManyFiles", "a.proto", 0)),
-    ),
-    (None, "c.proto a.proto", None),
-    (None, "c.proto .", Some(Said(33, "BadPath", ".", 0))),
-];
-
-#[test]
-fn faults_of_paths(rt: HostRuntime) {
-    assert!(rt; FaultKind::BadPath.phase() == 0);
-    for (limit, paths, said) in WORKSPACES {
-        expect(&rt, are_paths(&rt, *limit, paths, said), paths);
-    }
-}
-
-/// The path of a file, a text, and how often it stands in the file.
-type Text = (&'static str, &'static [u8], usize);
-
-// Files from their paths and texts.
-fn written<R: AllocGlobal + Abort>(rt: &R, texts: &[Text]) -> Given {
-    let mut files = Vec::new(rt.alloc());
-    for (path, text, count) in texts {
-        put_file(rt, &mut files, path, text, *count);
-    }
-    files
-}
-
-fn read<R: AllocGlobal + Abort>(rt: &R, texts: &[Text]) -> Result<Files, SchemaFault> {
-    let paths = Paths::new(rt.alloc(), written(rt, texts)).expect(rt, "paths");
     Files::read(rt.alloc(), paths)
 }
 
-/// Texts, and what reading them answers.
-const FAULTS: &[(&[Text], Said)] = &[
-    (
-        &[("b.proto", b"1x", 1), ("a.proto", b"message", 1)],
-        Said(7, "BadNumber", "b.proto", 0),
-    ),
-    (
-        &[("b.proto", b"/*", 1), ("a.proto", b"a $", 1)],
-        Said(3, "BadChar", "a.proto", 2),
-    ),
-    (
-        &[("a.proto", b"", 1), ("b.proto", b" /*", 1)],
-        Said(4, "OpenComment", "b.proto", 1),
-    ),
-    (
-        &[("a.proto", b"import 'b", 1)],
-        Said(5, "OpenString", "a.proto", 7),
-    ),
-    (
-        &[("a.proto", b"'\\q'", 1)],
-        Said(6, "BadEscape", "a.proto", 0),
-    ),
-    (
-        &[("a.proto", b"", 1), ("b.proto", b" message", 1)],
-        Said(8, "Syntax", "b.proto", 1),
-    ),
-    (
-        &[
-            ("a.proto", b"message M {}", 1),
-            ("b.proto", b"message M { a b }", 1),
-        ],
-        Said(8, "Syntax", "b.proto", 12),
-    ),
-    // Messages in messages, 33 deep.
-    (
-        &[("b.proto", b"message", 1), ("a.proto", b"message M{", 33)],
-        Said(9, "TooDeep", "a.proto", 329),
-    ),
-    (
-        &[("b.proto", b"", 1), ("a.proto", b"\xff", 1)],
-        Said(2, "NotUtf8", "a.proto", 0),
-    ),
-    (
-        &[("b.proto", b"", 1), ("a.proto", b" ", 1048577)],
-        Said(1, "TooLarge", "a.proto", 0),
-    ),
-];
-
-fn are_refused<R: AllocGlobal + Abort>(rt: &R, texts: &[Text], said: &Said) -> bool {
-    match read(rt, texts) {
-        Ok(files) => {
-            files.release();
-            false
-        }
-        Err(fault) => is_fault(&fault, said),
-    }
-}
-
-#[test]
-fn faults_of_texts_and_grammar(rt: HostRuntime) {
-    for (texts, said) in FAULTS {
-        expect(&rt, are_refused(&rt, texts, said), said.1);
-    }
-}
-
-const SCHEMA: &[u8] = b"syntax = \"proto3\"; message A { string b_c = 1; }";
-
-const ONE: &[Text] = &[("a.proto", SCHEMA, 1)];
-
-const TWO: &[Text] = &[("b.proto", SCHEMA, 1), ("a.proto", b"message M {}", 1)];
-
-const THREE: &[Text] = &[
-    ("b.proto", b"", 1),
-    ("a/b.proto", b"", 1),
-    ("a.proto", b"", 1),
-];
-
-const EMPTY_FIRST: &[Text] = &[("b.proto", b"message M {}", 1), ("a.proto", b"", 1)];
-
-const PAST_ASCII: &[Text] = &[("a.proto", b"// \xc3\xa4\nimport '\xc3\xa4';", 1)];
-
-const ESCAPES: &[Text] = &[("a.proto", b"import \"\\x41\\102\\n'\";", 1)];
-
-/// What files that were read answer.
+/// What files answer when they are read, or what is asked of them then.
 enum Answer {
+    Fault(Said),
     Count(usize),
     /// All paths.
     Paths(&'static [&'static str]),
@@ -264,48 +83,11 @@ enum Answer {
     /// and has no text.
     Token(u32, u32, u32, &'static str, Option<&'static str>),
     /// A file, a token, and the fault at it of a name that is there twice.
-    Duplicate(u32, u32, &'static Said),
+    Duplicate(u32, u32, Said),
 }
 
-const ANSWERS: &[(&[Text], Answer)] = &[
-    (&[], Answer::Count(0)),
-    (EMPTY_FIRST, Answer::Count(2)),
-    (EMPTY_FIRST, Answer::File(0, "a.proto", 0, 0)),
-    (EMPTY_FIRST, Answer::File(1, "b.proto", 12, 4)),
-    (THREE, Answer::Place("a/b.proto", Some(1))),
-    (THREE, Answer::Place("b", None)),
-    (THREE, Answer::Paths(&["a.proto", "a/b.proto", "b.proto"])),
-    (
-        TWO,
-        Answer::Duplicate(1, 5, &Said(13, "DuplicateName", "b.proto", 27)),
-    ),
-];
-
-const TOKENS: &[(&[Text], Answer)] = &[
-    (ONE, Answer::Token(0, 0, 0, "syntax", None)),
-    (ONE, Answer::Token(0, 1, 7, "=", None)),
-    (ONE, Answer::Token(0, 2, 9, "\"proto3\"", Some("proto3"))),
-    (ONE, Answer::Token(0, 3, 17, ";", None)),
-    (ONE, Answer::Token(0, 4, 19, "message", None)),
-    (ONE, Answer::Token(0, 5, 27, "A", None)),
-    (ONE, Answer::Token(0, 8, 38, "b_c", None)),
-    (ONE, Answer::Token(0, 10, 44, "1", None)),
-    (ONE, Answer::Token(0, 12, 47, "}", None)),
-    (ONE, Answer::Token(0, 13, 0, "", None)),
-    (TWO, Answer::Token(0, 1, 8, "M", None)),
-    (TWO, Answer::Token(1, 2, 9, "\"proto3\"", Some("proto3"))),
-    (TWO, Answer::Token(1, 5, 27, "A", None)),
-    (TWO, Answer::Token(1, 12, 47, "}", None)),
-    (TWO, Answer::Token(1, 13, 0, "", None)),
-    (
-        PAST_ASCII,
-        Answer::Token(0, 1, 13, "'\u{e4}'", Some("\u{e4}")),
-    ),
-    (
-        ESCAPES,
-        Answer::Token(0, 1, 7, "\"\\x41\\102\\n'\"", Some("AB\n'")),
-    ),
-];
+/// How many files there may be, if it is said, the files as one text, and the answer.
+type Row = (Option<usize>, &'static str, Answer);
 
 // Whether a file has this path, so many bytes and so many tokens.
 fn is_file(files: &Files, file: usize, path: &str, length: usize, tokens: usize) -> bool {
@@ -390,64 +172,258 @@ fn is_token<R: AllocGlobal + Abort>(
     said && value == string.as_deref() && has_value(rt, files, file, token, value)
 }
 
-fn is_duplicate<R: AllocGlobal + Abort>(
-    rt: &R,
-    files: &Files,
-    file: u32,
-    token: u32,
-    said: &Said,
-) -> bool {
-    if file as usize >= files.len() {
-        return false;
-    }
-    let fault = fault_at_token(rt.alloc(), files, file, token, FaultKind::DuplicateName);
-    is_fault(&fault, said)
-}
-
-fn are_all_paths<R: AllocGlobal + Abort>(rt: &R, files: &Files, paths: &[&str]) -> bool {
-    all_paths(rt.alloc(), files).expect(rt, "memory").as_slice() == paths
-}
-
+// Whether files answer this.
 fn is_given<R: AllocGlobal + Abort>(rt: &R, files: &Files, answer: &Answer) -> bool {
     match answer {
+        Answer::Fault(_) => false,
         Answer::Count(count) => files.len() == *count && files.is_empty() == (*count == 0),
-        Answer::Paths(paths) => are_all_paths(rt, files, paths),
+        Answer::Paths(paths) => {
+            all_paths(rt.alloc(), files).expect(rt, "memory").as_slice() == *paths
+        }
         Answer::Place(path, place) => is_place(files, path, *place),
         Answer::File(file, path, length, tokens) => is_file(files, *file, path, *length, *tokens),
         Answer::Token(file, token, offset, text, value) => {
             has_text(files, *file, *token, *offset, text)
                 && is_token(rt, files, *file, *token, *value)
         }
-        Answer::Duplicate(file, token, said) => is_duplicate(rt, files, *file, *token, said),
+        Answer::Duplicate(file, token, said) => {
+            if *file as usize >= files.len() {
+                return false;
+            }
+            let kind = FaultKind::DuplicateName;
+            is_fault(
+                &fault_at_token(rt.alloc(), files, *file, *token, kind),
+                said,
+            )
+        }
     }
 }
 
 // The one owner of files.
-fn are_given<R: AllocGlobal + Abort>(rt: &R, texts: &[Text], answer: &Answer) -> bool {
-    let files = read(rt, texts).expect(rt, "files");
-    let is_so = is_given(rt, &files, answer);
-    files.release();
-    is_so
-}
-
-fn expect_answers<R: AllocGlobal + Abort>(rt: &R, rows: &[(&[Text], Answer)]) {
-    for (row, (texts, answer)) in rows.iter().enumerate() {
-        assert!(rt; are_given(rt, texts, answer), "row {row} from 0");
+fn is_answered<R: AllocGlobal + Abort>(
+    rt: &R,
+    limit: Option<usize>,
+    given: Given,
+    answer: &Answer,
+) -> bool {
+    match read(rt, limit, given) {
+        Ok(files) => {
+            let is_so = is_given(rt, &files, answer);
+            files.release();
+            is_so
+        }
+        Err(fault) => match answer {
+            Answer::Fault(said) => is_fault(&fault, said),
+            _ => false,
+        },
     }
 }
 
+// Ends the test with the first row of this table that is not so.
+fn expect_answers<R: AllocGlobal + Abort>(rt: &R, table: &str, rows: &[Row]) {
+    for (place, (limit, texts, answer)) in rows.iter().enumerate() {
+        let is_row = is_answered(rt, *limit, given(rt, texts), answer);
+        assert!(rt; is_row, "{table}, row {place} from 0");
+    }
+}
+
+/// Faults of paths, and files without one.
+const PATH_FAULTS: &[Row] = &[
+    (
+        Some(4096),
+        "b.proto: |a/c.proto: |a.proto: ",
+        Answer::Count(3),
+    ),
+    (
+        Some(4096),
+        "b.proto: |a.proto: |b.proto: ",
+        Answer::Fault(Said(34, "DoublePath", "b.proto", 0)),
+    ),
+    (
+        Some(4096),
+        "b.txt: |a.proto: |b.txt: ",
+        Answer::Fault(Said(33, "BadPath", "b.txt", 0)),
+    ),
+    (
+        Some(1),
+        "b.proto: |a.proto: ",
+        Answer::Fault(Said(35, "TooManyFiles", "b.proto", 0)),
+    ),
+    (Some(2), "b.proto: |a.proto: ", Answer::Count(2)),
+    (
+        Some(1),
+        "b.proto: |a.proto: |c.txt: ",
+        Answer::Fault(Said(35, "TooManyFiles", "b.proto", 0)),
+    ),
+    (
+        Some(1),
+        "b.proto: |a.proto: |a.proto: ",
+        Answer::Fault(Said(34, "DoublePath", "a.proto", 0)),
+    ),
+    (
+        Some(0),
+        "b.proto: |a.proto: ",
+        Answer::Fault(Said(35, "TooManyFiles", "a.proto", 0)),
+    ),
+    (None, "c.proto: |a.proto: ", Answer::Count(2)),
+    (
+        None,
+        "c.proto: |.: ",
+        Answer::Fault(Said(33, "BadPath", ".", 0)),
+    ),
+];
+
+/// Faults of texts and of grammar.
+const TEXT_FAULTS: &[Row] = &[
+    (
+        None,
+        "b.proto:1x|a.proto:message",
+        Answer::Fault(Said(7, "BadNumber", "b.proto", 0)),
+    ),
+    (
+        None,
+        "b.proto:/*|a.proto:a $",
+        Answer::Fault(Said(3, "BadChar", "a.proto", 2)),
+    ),
+    (
+        None,
+        "a.proto:|b.proto: /*",
+        Answer::Fault(Said(4, "OpenComment", "b.proto", 1)),
+    ),
+    (
+        None,
+        "a.proto:import 'b",
+        Answer::Fault(Said(5, "OpenString", "a.proto", 7)),
+    ),
+    (
+        None,
+        "a.proto:'\\q'",
+        Answer::Fault(Said(6, "BadEscape", "a.proto", 0)),
+    ),
+    (
+        None,
+        "a.proto:|b.proto: message",
+        Answer::Fault(Said(8, "Syntax", "b.proto", 1)),
+    ),
+    (
+        None,
+        "a.proto:message M {}|b.proto:message M { a b }",
+        Answer::Fault(Said(8, "Syntax", "b.proto", 12)),
+    ),
+];
+
+/// Files as one text, the path of one more file, how often a text stands in that, and the answer.
+const LONG: &[(&str, &str, &[u8], usize, Answer)] = &[
+    // Messages in messages, 33 deep.
+    (
+        "b.proto:message",
+        "a.proto",
+        b"message M{",
+        33,
+        Answer::Fault(Said(9, "TooDeep", "a.proto", 329)),
+    ),
+    (
+        "b.proto:",
+        "a.proto",
+        b"\xff",
+        1,
+        Answer::Fault(Said(2, "NotUtf8", "a.proto", 0)),
+    ),
+    (
+        "b.proto:",
+        "a.proto",
+        b" ",
+        1048577,
+        Answer::Fault(Said(1, "TooLarge", "a.proto", 0)),
+    ),
+];
+
+#[test]
+fn faults_of_files(rt: HostRuntime) {
+    assert!(rt; FaultKind::BadPath.phase() == 0);
+    expect_answers(&rt, "PATH_FAULTS", PATH_FAULTS);
+    expect_answers(&rt, "TEXT_FAULTS", TEXT_FAULTS);
+    for (place, (texts, path, text, count, answer)) in LONG.iter().enumerate() {
+        let mut files = given(&rt, texts);
+        put_file(&rt, &mut files, path, text, *count);
+        assert!(rt;
+            is_answered(&rt, None, files, answer),
+            "LONG, row {place} from 0"
+        );
+    }
+}
+
+const ONE: &str = "a.proto:syntax = \"proto3\"; message A { string b_c = 1; }";
+
+const TWO: &str = "b.proto:syntax = \"proto3\"; message A { string b_c = 1; }|a.proto:message M {}";
+
+const THREE: &str = "b.proto:|a/b.proto:|a.proto:";
+
+const EMPTY_FIRST: &str = "b.proto:message M {}|a.proto:";
+
+const PAST_ASCII: &str = "a.proto:// \u{e4}\nimport '\u{e4}';";
+
+const ESCAPES: &str = "a.proto:import \"\\x41\\102\\n'\";";
+
+const ANSWERS: &[Row] = &[
+    (None, "", Answer::Count(0)),
+    (None, EMPTY_FIRST, Answer::Count(2)),
+    (None, EMPTY_FIRST, Answer::File(0, "a.proto", 0, 0)),
+    (None, EMPTY_FIRST, Answer::File(1, "b.proto", 12, 4)),
+    (None, THREE, Answer::Place("a/b.proto", Some(1))),
+    (None, THREE, Answer::Place("b", None)),
+    (
+        None,
+        THREE,
+        Answer::Paths(&["a.proto", "a/b.proto", "b.proto"]),
+    ),
+    (
+        None,
+        TWO,
+        Answer::Duplicate(1, 5, Said(13, "DuplicateName", "b.proto", 27)),
+    ),
+];
+
+const TOKENS: &[Row] = &[
+    (None, ONE, Answer::Token(0, 0, 0, "syntax", None)),
+    (None, ONE, Answer::Token(0, 1, 7, "=", None)),
+    (
+        None,
+        ONE,
+        Answer::Token(0, 2, 9, "\"proto3\"", Some("proto3")),
+    ),
+    (None, ONE, Answer::Token(0, 3, 17, ";", None)),
+    (None, ONE, Answer::Token(0, 4, 19, "message", None)),
+    (None, ONE, Answer::Token(0, 5, 27, "A", None)),
+    (None, ONE, Answer::Token(0, 8, 38, "b_c", None)),
+    (None, ONE, Answer::Token(0, 10, 44, "1", None)),
+    (None, ONE, Answer::Token(0, 12, 47, "}", None)),
+    (None, ONE, Answer::Token(0, 13, 0, "", None)),
+    (None, TWO, Answer::Token(0, 1, 8, "M", None)),
+    (
+        None,
+        TWO,
+        Answer::Token(1, 2, 9, "\"proto3\"", Some("proto3")),
+    ),
+    (None, TWO, Answer::Token(1, 5, 27, "A", None)),
+    (None, TWO, Answer::Token(1, 12, 47, "}", None)),
+    (None, TWO, Answer::Token(1, 13, 0, "", None)),
+    (
+        None,
+        PAST_ASCII,
+        Answer::Token(0, 1, 13, "'\u{e4}'", Some("\u{e4}")),
+    ),
+    (
+        None,
+        ESCAPES,
+        Answer::Token(0, 1, 7, "\"\\x41\\102\\n'\"", Some("AB\n'")),
+    ),
+];
+
 #[test]
 fn answers_of_files(rt: HostRuntime) {
-    expect_answers(&rt, ANSWERS);
-}
-
-#[test]
-fn texts_and_values_of_tokens(rt: HostRuntime) {
-    expect_answers(&rt, TOKENS);
-}
-
-fn twice<T: Copy>(value: T) -> (T, T) {
-    (value, value)
+    expect_answers(&rt, "ANSWERS", ANSWERS);
+    expect_answers(&rt, "TOKENS", TOKENS);
 }
 
 #[test]
@@ -456,6 +432,6 @@ fn tokens_are_copied(rt: HostRuntime) {
         kind: TokenKind::Word,
         span: Span { start: 0, end: 1 },
     };
-    let (first, second) = twice(token);
-    assert!(rt; first == token && second == token);
+    let copied = Some(&token).copied();
+    assert!(rt; copied == Some(token));
 }

@@ -1,438 +1,313 @@
 //! Descriptors, each with its JSON text, and the names that stand in these.
 
-use proto_faults::NoMemory;
-use proto_json::{
+use crate::expect::{expect, owned};
+use proto_descriptors::{
     Descriptors, EnumDescriptor, EnumOptions, EnumReservedRange, EnumValueDescriptor,
     EnumValueOptions, FieldDescriptor, FieldOptions, FieldType, FileDescriptor, FileOptions,
     IdempotencyLevel, Label, MessageDescriptor, MessageOptions, MethodDescriptor, MethodOptions,
-    NumberRange, OptimizeMode, ServiceDescriptor, ServiceOptions, Syntax, text_of_files,
+    NumberRange, OptimizeMode, ServiceDescriptor, ServiceOptions, Syntax,
 };
-use std::alloc::{AllocError, Global};
-use std::test::Fail;
+use proto_json::text_of_files;
+use std::process::Abort;
 
-/// What is put into descriptors, always into the last one of its kind: a field into the last message of the last file.
-enum Step {
-    File(&'static str, Syntax),
-    Package(&'static str),
-    JavaPackage(&'static str),
-    OptimizeFor(OptimizeMode),
-    PublicImport(&'static str),
-    Enum(&'static str),
-    Value(&'static str, i32),
-    EnumReserved(i32, i32),
-    Service(&'static str),
-    /// A method that streams its answers: its name and its types.
-    Method(&'static str, &'static str, &'static str),
-    Message(&'static str),
-    Extensions(u32, u32),
-    Reserved(u32, u32),
-    /// A field: its name, JSON name, number and type.
-    Field(&'static str, &'static str, u32, FieldType),
-    /// Repeats the last field, whose type has this name.
-    Repeated(&'static str),
-    Default(&'static str),
-    Deprecated,
-    /// The message of a map field.
-    Entry(&'static str),
-    EntryField(&'static str, u32, FieldType),
+/// What descriptors are made of: one file, and what stands in it.
+enum Sample {
+    /// Not even a file.
+    Nothing,
+    /// A file of this name.
+    Empty(&'static str),
+    /// A message with a field.
+    Field,
+    /// A message with a map field.
+    MapField,
+    /// A message with numbers that are left to extensions, and others that no field may have.
+    Ranges,
+    /// An enum with a value, and numbers that no other may have.
+    EnumRanges,
+    /// A message with a field that has a default and an option.
+    Default,
+    /// A public import.
+    PublicImport,
+    /// A service whose method streams its answers, and options.
+    Service,
 }
 
-/// How descriptors are made, and their text.
-const TEXTS: &[(&[Step], &str)] = &[
-    (&[], "{}"),
+/// Descriptors, each with their text.
+const TEXTS: &[(Sample, &str)] = &[
+    (Sample::Nothing, "{}"),
     (
-        &[Step::File("a.proto", Syntax::Proto2)],
+        Sample::Empty("a.proto"),
         "{\"file\":[{\"name\":\"a.proto\"}]}",
     ),
     (
-        &[
-            Step::File("a.proto", Syntax::Proto3),
-            Step::Message("A"),
-            Step::Field("b_c", "bC", 1, FieldType::String),
-        ],
+        Sample::Field,
         "{\"file\":[{\"messageType\":[{\"field\":[{\"jsonName\":\"bC\",\"label\":\"LABEL_OPTIONAL\",\"name\":\"b_c\",\"number\":1,\"type\":\"TYPE_STRING\"}],\"name\":\"A\"}],\"name\":\"a.proto\",\"syntax\":\"proto3\"}]}",
     ),
-    // A map field.
     (
-        &[
-            Step::File("a.proto", Syntax::Proto3),
-            Step::Message("M"),
-            Step::Field("FooEntry", "FooEntry", 1, FieldType::Message),
-            Step::Repeated(".M.FooEntryEntry"),
-            Step::Entry("FooEntryEntry"),
-            Step::EntryField("key", 1, FieldType::String),
-            Step::EntryField("value", 2, FieldType::Int32),
-        ],
+        Sample::MapField,
         "{\"file\":[{\"messageType\":[{\"field\":[{\"jsonName\":\"FooEntry\",\"label\":\"LABEL_REPEATED\",\"name\":\"FooEntry\",\"number\":1,\"type\":\"TYPE_MESSAGE\",\"typeName\":\".M.FooEntryEntry\"}],\"name\":\"M\",\"nestedType\":[{\"field\":[{\"jsonName\":\"key\",\"label\":\"LABEL_OPTIONAL\",\"name\":\"key\",\"number\":1,\"type\":\"TYPE_STRING\"},{\"jsonName\":\"value\",\"label\":\"LABEL_OPTIONAL\",\"name\":\"value\",\"number\":2,\"type\":\"TYPE_INT32\"}],\"name\":\"FooEntryEntry\",\"options\":{\"mapEntry\":true}}]}],\"name\":\"a.proto\",\"syntax\":\"proto3\"}]}",
     ),
     // The ranges of messages end before their end, those of enums with it.
     (
-        &[
-            Step::File("a.proto", Syntax::Proto2),
-            Step::Message("M"),
-            Step::Extensions(1, 2),
-            Step::Reserved(2, 536870912),
-        ],
+        Sample::Ranges,
         "{\"file\":[{\"messageType\":[{\"extensionRange\":[{\"end\":2,\"start\":1}],\"name\":\"M\",\"reservedRange\":[{\"end\":536870912,\"start\":2}]}],\"name\":\"a.proto\"}]}",
     ),
     (
-        &[
-            Step::File("a.proto", Syntax::Proto2),
-            Step::Enum("E"),
-            Step::Value("V", 0),
-            Step::EnumReserved(-1, -1),
-            Step::EnumReserved(2, 2147483647),
-        ],
+        Sample::EnumRanges,
         "{\"file\":[{\"enumType\":[{\"name\":\"E\",\"reservedRange\":[{\"end\":-1,\"start\":-1},{\"end\":2147483647,\"start\":2}],\"value\":[{\"name\":\"V\",\"number\":0}]}],\"name\":\"a.proto\"}]}",
     ),
     (
-        &[
-            Step::File("a.proto", Syntax::Proto2),
-            Step::Message("M"),
-            Step::Field("a", "a", 1, FieldType::Int32),
-            Step::Default("0"),
-            Step::Deprecated,
-        ],
+        Sample::Default,
         "{\"file\":[{\"messageType\":[{\"field\":[{\"defaultValue\":\"0\",\"jsonName\":\"a\",\"label\":\"LABEL_OPTIONAL\",\"name\":\"a\",\"number\":1,\"options\":{\"deprecated\":true},\"type\":\"TYPE_INT32\"}],\"name\":\"M\"}],\"name\":\"a.proto\"}]}",
     ),
     (
-        &[
-            Step::File("b.proto", Syntax::Proto3),
-            Step::PublicImport("c.proto"),
-        ],
+        Sample::PublicImport,
         "{\"file\":[{\"dependency\":[\"c.proto\"],\"name\":\"b.proto\",\"publicDependency\":[0],\"syntax\":\"proto3\"}]}",
     ),
-    // A service and options.
     (
-        &[
-            Step::File("a.proto", Syntax::Proto3),
-            Step::Package("p"),
-            Step::JavaPackage("j"),
-            Step::OptimizeFor(OptimizeMode::CodeSize),
-            Step::Service("S"),
-            Step::Method("R", ".p.M", ".p.N"),
-        ],
+        Sample::Service,
         "{\"file\":[{\"name\":\"a.proto\",\"options\":{\"javaPackage\":\"j\",\"optimizeFor\":\"CODE_SIZE\"},\"package\":\"p\",\"service\":[{\"method\":[{\"inputType\":\".p.M\",\"name\":\"R\",\"options\":{\"deprecated\":false,\"idempotencyLevel\":\"NO_SIDE_EFFECTS\"},\"outputType\":\".p.N\",\"serverStreaming\":true}],\"name\":\"S\"}],\"syntax\":\"proto3\"}]}",
     ),
     // Quoting.
     (
-        &[Step::File("\"\\/\0\u{8}\u{c}\n\r\t\u{1f}\u{7f}é", Syntax::Proto2)],
+        Sample::Empty("\"\\/\0\u{8}\u{c}\n\r\t\u{1f}\u{7f}é"),
         "{\"file\":[{\"name\":\"\\\"\\\\/\\u0000\\b\\f\\n\\r\\t\\u001f\u{7f}é\"}]}",
     ),
 ];
 
-// Puts one more into a list; what there is no memory for is dropped here, whatever it is.
-fn push<T: Drop>(list: &mut Vec<T>, one: T) -> Result<(), AllocError> {
-    list.push(one)?;
-    Ok(())
+// Puts one more into a list.
+fn push<T, R: Abort>(rt: &R, list: &mut Vec<T>, one: T) {
+    list.push(one).expect(rt, "memory");
 }
 
-fn put_file(
-    alloc: Global,
-    files: &mut Vec<FileDescriptor>,
-    name: &str,
-    syntax: Syntax,
-) -> Result<(), AllocError> {
-    let name = String::from_str(alloc, name)?;
-    push(
-        files,
-        FileDescriptor {
-            name,
-            package: None,
-            dependency: Vec::new(alloc),
-            public_dependency: Vec::new(alloc),
-            message_type: Vec::new(alloc),
-            enum_type: Vec::new(alloc),
-            service: Vec::new(alloc),
-            options: FileOptions {
-                java_package: None,
-                java_outer_classname: None,
-                java_multiple_files: None,
-                optimize_for: None,
-                go_package: None,
-                deprecated: None,
-                cc_enable_arenas: None,
-                objc_class_prefix: None,
-                csharp_namespace: None,
-                php_namespace: None,
-            },
-            syntax,
+fn set<R: AllocGlobal + Abort>(rt: &R, place: &mut Option<String>, text: &str) {
+    *place = Some(owned(rt, text));
+}
+
+fn file_of<R: AllocGlobal + Abort>(rt: &R, name: &str, syntax: Syntax) -> FileDescriptor {
+    FileDescriptor {
+        name: owned(rt, name),
+        package: None,
+        dependency: Vec::new(rt.alloc()),
+        public_dependency: Vec::new(rt.alloc()),
+        message_type: Vec::new(rt.alloc()),
+        enum_type: Vec::new(rt.alloc()),
+        service: Vec::new(rt.alloc()),
+        options: FileOptions {
+            java_package: None,
+            java_outer_classname: None,
+            java_multiple_files: None,
+            optimize_for: None,
+            go_package: None,
+            deprecated: None,
+            cc_enable_arenas: None,
+            objc_class_prefix: None,
+            csharp_namespace: None,
+            php_namespace: None,
         },
-    )
+        syntax,
+    }
 }
 
-fn put_message(
-    alloc: Global,
-    messages: &mut Vec<MessageDescriptor>,
-    name: &str,
-    map_entry: bool,
-) -> Result<(), AllocError> {
-    let name = String::from_str(alloc, name)?;
-    push(
-        messages,
-        MessageDescriptor {
-            name,
-            field: Vec::new(alloc),
-            nested_type: Vec::new(alloc),
-            enum_type: Vec::new(alloc),
-            extension_range: Vec::new(alloc),
-            oneof_decl: Vec::new(alloc),
-            reserved_range: Vec::new(alloc),
-            reserved_name: Vec::new(alloc),
-            options: MessageOptions {
-                deprecated: None,
-                map_entry,
-            },
+fn message_of<R: AllocGlobal + Abort>(rt: &R, name: &str, map_entry: bool) -> MessageDescriptor {
+    MessageDescriptor {
+        name: owned(rt, name),
+        field: Vec::new(rt.alloc()),
+        nested_type: Vec::new(rt.alloc()),
+        enum_type: Vec::new(rt.alloc()),
+        extension_range: Vec::new(rt.alloc()),
+        oneof_decl: Vec::new(rt.alloc()),
+        reserved_range: Vec::new(rt.alloc()),
+        reserved_name: Vec::new(rt.alloc()),
+        options: MessageOptions {
+            deprecated: None,
+            map_entry,
         },
-    )
+    }
 }
 
-fn put_field(
-    alloc: Global,
-    message: &mut MessageDescriptor,
+fn field_of<R: AllocGlobal + Abort>(
+    rt: &R,
     name: &str,
     json_name: &str,
     number: u32,
     field_type: FieldType,
-) -> Result<(), AllocError> {
-    let name = String::from_str(alloc, name)?;
-    let json_name = String::from_str(alloc, json_name)?;
-    push(
-        &mut message.field,
-        FieldDescriptor {
-            name,
-            number,
-            label: Label::Optional,
-            field_type,
-            type_name: None,
-            default_value: None,
-            oneof_index: None,
-            json_name: Some(json_name),
-            proto3_optional: false,
-            options: FieldOptions {
-                packed: None,
-                deprecated: None,
-            },
-        },
-    )
-}
-
-fn put_enum(alloc: Global, file: &mut FileDescriptor, name: &str) -> Result<(), AllocError> {
-    let name = String::from_str(alloc, name)?;
-    push(
-        &mut file.enum_type,
-        EnumDescriptor {
-            name,
-            value: Vec::new(alloc),
-            reserved_range: Vec::new(alloc),
-            reserved_name: Vec::new(alloc),
-            options: EnumOptions {
-                allow_alias: None,
-                deprecated: None,
-            },
-        },
-    )
-}
-
-fn put_value(
-    alloc: Global,
-    declared: &mut EnumDescriptor,
-    name: &str,
-    number: i32,
-) -> Result<(), AllocError> {
-    let name = String::from_str(alloc, name)?;
-    push(
-        &mut declared.value,
-        EnumValueDescriptor {
-            name,
-            number,
-            options: EnumValueOptions { deprecated: None },
-        },
-    )
-}
-
-// A method that streams its answers.
-fn put_method(
-    alloc: Global,
-    service: &mut ServiceDescriptor,
-    name: &str,
-    input_type: &str,
-    output_type: &str,
-) -> Result<(), AllocError> {
-    let name = String::from_str(alloc, name)?;
-    let input_type = String::from_str(alloc, input_type)?;
-    let output_type = String::from_str(alloc, output_type)?;
-    push(
-        &mut service.method,
-        MethodDescriptor {
-            name,
-            input_type,
-            output_type,
-            options: MethodOptions {
-                deprecated: Some(false),
-                idempotency_level: Some(IdempotencyLevel::NoSideEffects),
-            },
-            client_streaming: false,
-            server_streaming: true,
-        },
-    )
-}
-
-fn put_service(alloc: Global, file: &mut FileDescriptor, name: &str) -> Result<(), AllocError> {
-    let name = String::from_str(alloc, name)?;
-    push(
-        &mut file.service,
-        ServiceDescriptor {
-            name,
-            method: Vec::new(alloc),
-            options: ServiceOptions { deprecated: None },
-        },
-    )
-}
-
-fn put_import(alloc: Global, file: &mut FileDescriptor, path: &str) -> Result<(), AllocError> {
-    let path = String::from_str(alloc, path)?;
-    let place = file.dependency.len();
-    file.dependency.push(path)?;
-    push(&mut file.public_dependency, place)
-}
-
-fn set(alloc: Global, place: &mut Option<String>, text: &str) -> Result<(), AllocError> {
-    *place = Some(String::from_str(alloc, text)?);
-    Ok(())
-}
-
-fn put_in_field(alloc: Global, field: &mut FieldDescriptor, step: &Step) -> Result<(), AllocError> {
-    match step {
-        Step::Repeated(type_name) => {
-            field.label = Label::Repeated;
-            set(alloc, &mut field.type_name, type_name)
-        }
-        Step::Default(value) => set(alloc, &mut field.default_value, value),
-        _ => {
-            field.options.deprecated = Some(true);
-            Ok(())
-        }
-    }
-}
-
-fn put_in_message(
-    alloc: Global,
-    message: &mut MessageDescriptor,
-    step: &Step,
-) -> Result<(), AllocError> {
-    match step {
-        Step::Extensions(start, end) => push(
-            &mut message.extension_range,
-            NumberRange {
-                start: *start,
-                end: *end,
-            },
-        ),
-        Step::Reserved(start, end) => push(
-            &mut message.reserved_range,
-            NumberRange {
-                start: *start,
-                end: *end,
-            },
-        ),
-        Step::Field(name, json_name, number, field_type) => {
-            put_field(alloc, message, name, json_name, *number, *field_type)
-        }
-        Step::Entry(name) => put_message(alloc, &mut message.nested_type, name, true),
-        Step::EntryField(name, number, field_type) => match message.nested_type.last_mut() {
-            Some(entry) => put_field(alloc, entry, name, name, *number, *field_type),
-            None => Ok(()),
-        },
-        _ => match message.field.last_mut() {
-            Some(field) => put_in_field(alloc, field, step),
-            None => Ok(()),
+) -> FieldDescriptor {
+    FieldDescriptor {
+        name: owned(rt, name),
+        number,
+        label: Label::Optional,
+        field_type,
+        type_name: None,
+        default_value: None,
+        oneof_index: None,
+        json_name: Some(owned(rt, json_name)),
+        proto3_optional: false,
+        options: FieldOptions {
+            packed: None,
+            deprecated: None,
         },
     }
 }
 
-fn put_in_enum(
-    alloc: Global,
-    declared: &mut EnumDescriptor,
-    step: &Step,
-) -> Result<(), AllocError> {
-    match step {
-        Step::Value(name, number) => put_value(alloc, declared, name, *number),
-        Step::EnumReserved(start, end) => push(
-            &mut declared.reserved_range,
-            EnumReservedRange {
-                start: *start,
-                end: *end,
-            },
-        ),
-        _ => Ok(()),
-    }
+fn with_field<R: AllocGlobal + Abort>(rt: &R) -> MessageDescriptor {
+    let mut message = message_of(rt, "A", false);
+    let field = field_of(rt, "b_c", "bC", 1, FieldType::String);
+    push(rt, &mut message.field, field);
+    message
 }
 
-fn put_in_file(alloc: Global, file: &mut FileDescriptor, step: &Step) -> Result<(), AllocError> {
-    match step {
-        Step::Package(name) => set(alloc, &mut file.package, name),
-        Step::JavaPackage(name) => set(alloc, &mut file.options.java_package, name),
-        Step::OptimizeFor(mode) => {
-            file.options.optimize_for = Some(*mode);
-            Ok(())
-        }
-        Step::PublicImport(path) => put_import(alloc, file, path),
-        Step::Enum(name) => put_enum(alloc, file, name),
-        Step::Value(_, _) | Step::EnumReserved(_, _) => match file.enum_type.last_mut() {
-            Some(declared) => put_in_enum(alloc, declared, step),
-            None => Ok(()),
-        },
-        Step::Service(name) => put_service(alloc, file, name),
-        Step::Method(name, input_type, output_type) => match file.service.last_mut() {
-            Some(service) => put_method(alloc, service, name, input_type, output_type),
-            None => Ok(()),
-        },
-        Step::Message(name) => put_message(alloc, &mut file.message_type, name, false),
-        _ => match file.message_type.last_mut() {
-            Some(message) => put_in_message(alloc, message, step),
-            None => Ok(()),
-        },
-    }
+fn with_map_field<R: AllocGlobal + Abort>(rt: &R) -> MessageDescriptor {
+    let mut field = field_of(rt, "FooEntry", "FooEntry", 1, FieldType::Message);
+    field.label = Label::Repeated;
+    set(rt, &mut field.type_name, ".M.FooEntryEntry");
+    let key = field_of(rt, "key", "key", 1, FieldType::String);
+    let value = field_of(rt, "value", "value", 2, FieldType::Int32);
+    let mut entry = message_of(rt, "FooEntryEntry", true);
+    push(rt, &mut entry.field, key);
+    push(rt, &mut entry.field, value);
+    let mut message = message_of(rt, "M", false);
+    push(rt, &mut message.field, field);
+    push(rt, &mut message.nested_type, entry);
+    message
 }
 
-fn put(alloc: Global, files: &mut Vec<FileDescriptor>, step: &Step) -> Result<(), AllocError> {
-    match step {
-        Step::File(name, syntax) => put_file(alloc, files, name, *syntax),
-        _ => match files.last_mut() {
-            Some(file) => put_in_file(alloc, file, step),
-            None => Ok(()),
-        },
-    }
-}
-
-// Whether the descriptors have this text after these steps.
-fn are_text(
-    alloc: Global,
-    made: &mut Descriptors,
-    steps: &[Step],
-    json: &str,
-) -> Result<bool, NoMemory> {
-    for step in steps {
-        put(alloc, &mut made.file, step)?;
-    }
-    Ok(text_of_files(alloc, "file", &made.file)?.as_str() == json)
-}
-
-// The one owner of descriptors, which has nothing to give up for.
-fn is_text(alloc: Global, steps: &[Step], json: &str) -> Result<bool, NoMemory> {
-    let mut made = Descriptors {
-        file: Vec::new(alloc),
+fn with_ranges<R: AllocGlobal + Abort>(rt: &R) -> MessageDescriptor {
+    let mut message = message_of(rt, "M", false);
+    let extensions = NumberRange { start: 1, end: 2 };
+    push(rt, &mut message.extension_range, extensions);
+    let reserved = NumberRange {
+        start: 2,
+        end: 536870912,
     };
-    are_text(alloc, &mut made, steps, json)
+    push(rt, &mut message.reserved_range, reserved);
+    message
+}
+
+fn with_default<R: AllocGlobal + Abort>(rt: &R) -> MessageDescriptor {
+    let mut field = field_of(rt, "a", "a", 1, FieldType::Int32);
+    set(rt, &mut field.default_value, "0");
+    field.options.deprecated = Some(true);
+    let mut message = message_of(rt, "M", false);
+    push(rt, &mut message.field, field);
+    message
+}
+
+fn enum_of<R: AllocGlobal + Abort>(rt: &R) -> EnumDescriptor {
+    let mut declared = EnumDescriptor {
+        name: owned(rt, "E"),
+        value: Vec::new(rt.alloc()),
+        reserved_range: Vec::new(rt.alloc()),
+        reserved_name: Vec::new(rt.alloc()),
+        options: EnumOptions {
+            allow_alias: None,
+            deprecated: None,
+        },
+    };
+    let value = EnumValueDescriptor {
+        name: owned(rt, "V"),
+        number: 0,
+        options: EnumValueOptions { deprecated: None },
+    };
+    push(rt, &mut declared.value, value);
+    let below = EnumReservedRange { start: -1, end: -1 };
+    push(rt, &mut declared.reserved_range, below);
+    let above = EnumReservedRange {
+        start: 2,
+        end: 2147483647,
+    };
+    push(rt, &mut declared.reserved_range, above);
+    declared
+}
+
+fn service_of<R: AllocGlobal + Abort>(rt: &R) -> ServiceDescriptor {
+    let mut service = ServiceDescriptor {
+        name: owned(rt, "S"),
+        method: Vec::new(rt.alloc()),
+        options: ServiceOptions { deprecated: None },
+    };
+    let method = MethodDescriptor {
+        name: owned(rt, "R"),
+        input_type: owned(rt, ".p.M"),
+        output_type: owned(rt, ".p.N"),
+        options: MethodOptions {
+            deprecated: Some(false),
+            idempotency_level: Some(IdempotencyLevel::NoSideEffects),
+        },
+        client_streaming: false,
+        server_streaming: true,
+    };
+    push(rt, &mut service.method, method);
+    service
+}
+
+// A file with a message.
+fn with_message<R: AllocGlobal + Abort>(
+    rt: &R,
+    syntax: Syntax,
+    message: MessageDescriptor,
+) -> FileDescriptor {
+    let mut file = file_of(rt, "a.proto", syntax);
+    push(rt, &mut file.message_type, message);
+    file
+}
+
+fn with_enum<R: AllocGlobal + Abort>(rt: &R) -> FileDescriptor {
+    let mut file = file_of(rt, "a.proto", Syntax::Proto2);
+    push(rt, &mut file.enum_type, enum_of(rt));
+    file
+}
+
+fn with_import<R: AllocGlobal + Abort>(rt: &R) -> FileDescriptor {
+    let mut file = file_of(rt, "b.proto", Syntax::Proto3);
+    push(rt, &mut file.dependency, owned(rt, "c.proto"));
+    push(rt, &mut file.public_dependency, 0);
+    file
+}
+
+fn with_service<R: AllocGlobal + Abort>(rt: &R) -> FileDescriptor {
+    let mut file = file_of(rt, "a.proto", Syntax::Proto3);
+    set(rt, &mut file.package, "p");
+    set(rt, &mut file.options.java_package, "j");
+    file.options.optimize_for = Some(OptimizeMode::CodeSize);
+    push(rt, &mut file.service, service_of(rt));
+    file
+}
+
+fn put<R: AllocGlobal + Abort>(rt: &R, files: &mut Vec<FileDescriptor>, sample: &Sample) {
+    let file = match sample {
+        Sample::Nothing => return,
+        Sample::Empty(name) => file_of(rt, name, Syntax::Proto2),
+        Sample::Field => with_message(rt, Syntax::Proto3, with_field(rt)),
+        Sample::MapField => with_message(rt, Syntax::Proto3, with_map_field(rt)),
+        Sample::Ranges => with_message(rt, Syntax::Proto2, with_ranges(rt)),
+        Sample::EnumRanges => with_enum(rt),
+        Sample::Default => with_message(rt, Syntax::Proto2, with_default(rt)),
+        Sample::PublicImport => with_import(rt),
+        Sample::Service => with_service(rt),
+    };
+    push(rt, files, file);
+}
+
+fn are_text<R: AllocGlobal + Abort>(rt: &R, files: &[FileDescriptor], json: &str) -> bool {
+    let text = text_of_files(rt.alloc(), "file", files).expect(rt, "memory");
+    text.as_str() == json
+}
+
+// The one owner of descriptors.
+fn is_text<R: AllocGlobal + Abort>(rt: &R, sample: &Sample, json: &str) -> bool {
+    let mut made = Descriptors {
+        file: Vec::new(rt.alloc()),
+    };
+    put(rt, &mut made.file, sample);
+    are_text(rt, &made.file, json)
 }
 
 #[test]
-fn descriptors_as_json(rt: HostRuntime) -> Result<(), Fail> {
-    for (steps, json) in TEXTS {
-        assert!(rt; is_text(rt.alloc(), steps, json)?, "{json}");
+fn descriptors_as_json(rt: HostRuntime) {
+    for (sample, json) in TEXTS {
+        expect(&rt, is_text(&rt, sample, json), json);
     }
-    Ok(())
 }
 
 /// A value whose name stands in the text.
@@ -491,6 +366,6 @@ fn name_of(named: &Named) -> &'static str {
 #[test]
 fn names_of_values(rt: HostRuntime) {
     for (named, name) in NAMES {
-        assert!(rt; name_of(named) == *name, "{name}");
+        expect(&rt, name_of(named) == *name, name);
     }
 }

@@ -1,14 +1,29 @@
-//! Tests of names, texts, trees, files and the JSON text of descriptors, through the public calls of their crates alone.
+//! Tests of what needs no link, through the public calls of its crates alone: names, texts, trees,
+//! files, the JSON text of descriptors, stores, and the journals that they hold.
 #![tactic(auto)]
 
 #[cfg(test)]
-mod case;
+mod allocations;
+#[cfg(test)]
+mod calls;
 #[cfg(test)]
 mod expect;
 #[cfg(test)]
 mod files;
 #[cfg(test)]
+mod folders;
+#[cfg(test)]
 mod json;
+#[cfg(test)]
+mod listings;
+#[cfg(test)]
+mod memory;
+#[cfg(test)]
+mod names;
+#[cfg(test)]
+mod records;
+#[cfg(test)]
+mod steps;
 #[cfg(test)]
 mod text;
 #[cfg(test)]

@@ -1,15 +1,11 @@
 //! Worked examples.
 
-use crate::expect::expect;
+use crate::expect::{expect, owned, source_of};
 use proto_text::{
-    Source, Splice, SpliceFault, Splices, TextFault, TokenKind, apply_splices, invert, is_word,
-    lex, stands_for, string_value,
+    Source, Splice, SpliceFault, Splices, TextFault, TokenKind, apply_splices, invert, lex,
+    stands_for, string_value,
 };
 use std::process::Abort;
-
-fn put_token<R: Abort>(rt: &R, out: &mut String, kind: TokenKind, word: &str) {
-    write!(out, "{kind:?}<{word}>").expect(rt, "memory");
-}
 
 // Puts each token's kind and text.
 fn put_tokens<R: AllocGlobal + Abort>(
@@ -19,29 +15,21 @@ fn put_tokens<R: AllocGlobal + Abort>(
 ) -> Result<(), TextFault> {
     let source = Source::new(bytes)?;
     for token in &lex(rt.alloc(), &source)? {
-        put_token(rt, out, token.kind, source.text(token.span));
+        let (kind, word) = (token.kind, source.text(token.span));
+        write!(out, "{kind:?}<{word}>").expect(rt, "memory");
     }
     Ok(())
-}
-
-fn fault_text<R: AllocGlobal + Abort>(rt: &R, fault: &TextFault) -> String {
-    let (number, name, offset) = (fault.number(), fault.name(), fault.offset());
-    format!(in rt.alloc(); "{number} {name} {offset}").expect(rt, "memory")
-}
-
-// The tokens of a text, or its fault.
-fn shown<R: AllocGlobal + Abort>(rt: &R, bytes: Vec<u8>) -> String {
-    let mut out = String::new(rt.alloc());
-    match put_tokens(rt, &mut out, bytes) {
-        Ok(()) => out,
-        Err(fault) => fault_text(rt, &fault),
-    }
 }
 
 // Whether the text, so many times, has these tokens or this fault.
 fn is_shown<R: AllocGlobal + Abort>(rt: &R, text: &[u8], count: usize, said: &str) -> bool {
     let bytes = text.repeat(rt.alloc(), count).expect(rt, "memory");
-    shown(rt, bytes).as_str() == said
+    let mut shown = String::new(rt.alloc());
+    if let Err(fault) = put_tokens(rt, &mut shown, bytes) {
+        let (number, name, offset) = (fault.number(), fault.name(), fault.offset());
+        write!(shown, "{number} {name} {offset}").expect(rt, "memory");
+    }
+    shown.as_str() == said
 }
 
 /// Texts, each with its tokens or its fault.
@@ -104,13 +92,6 @@ const TEXTS: &[(&str, &str)] = &[
     ("a\u{0}", "3 BadChar 1"),
 ];
 
-#[test]
-fn tokens(rt: HostRuntime) {
-    for (text, said) in TEXTS {
-        expect(&rt, is_shown(&rt, text.as_bytes(), 1, said), text);
-    }
-}
-
 /// Texts, how often each stands in a file, and what is said of that.
 const LIMITS: &[(&[u8], usize, &str)] = &[
     (b" ", 1048576, ""),
@@ -119,15 +100,13 @@ const LIMITS: &[(&[u8], usize, &str)] = &[
 ];
 
 #[test]
-fn limits(rt: HostRuntime) {
+fn tokens(rt: HostRuntime) {
+    for (text, said) in TEXTS {
+        expect(&rt, is_shown(&rt, text.as_bytes(), 1, said), text);
+    }
     for (text, count, said) in LIMITS {
         expect(&rt, is_shown(&rt, text, *count, said), said);
     }
-}
-
-fn source_of<R: AllocGlobal + Abort>(rt: &R, text: &str) -> Source {
-    let bytes = Vec::from_slice(rt.alloc(), text.as_bytes()).expect(rt, "memory");
-    Source::new(bytes).expect(rt, "a source")
 }
 
 const PLACED: &str = "ab\ncé\r\n\nd";
@@ -164,14 +143,7 @@ fn lines_and_columns(rt: HostRuntime) {
     }
 }
 
-// Puts the value of a string token, unless it does not stand for that.
-fn put_value<R: Abort>(rt: &R, out: &mut String, word: &str, value: &str) {
-    if stands_for(word, value.as_bytes()) {
-        out.push_str(value).expect(rt, "memory");
-    }
-}
-
-// Puts the values of the string tokens, one after the other.
+// Puts the values of the string tokens, one after the other, but none that its token does not stand for.
 fn put_values<R: AllocGlobal + Abort>(
     rt: &R,
     out: &mut String,
@@ -181,25 +153,20 @@ fn put_values<R: AllocGlobal + Abort>(
         if let TokenKind::Text = token.kind {
             let word = source.text(token.span);
             let value = string_value(rt.alloc(), word).expect(rt, "memory");
-            put_value(rt, out, word, value.as_str());
+            if stands_for(word, value.as_bytes()) {
+                out.push_str(value.as_str()).expect(rt, "memory");
+            }
         }
     }
     Ok(())
 }
 
-fn values<R: AllocGlobal + Abort>(rt: &R, text: &str) -> String {
-    let mut out = String::new(rt.alloc());
-    put_values(rt, &mut out, &source_of(rt, text)).expect(rt, "tokens");
-    out
-}
+/// String tokens.
+const STRINGS: &str =
+    "'plain' '' \"proto\\x33\" '\\1234\\x414' '\\101\\x4\\n\\'' '\\0\\08' '\\303\\251é' '\\xC3\\xA9' '\\a\\b\\f\\r\\t\\v\\?\\\\\\\"'";
 
-#[test]
-fn string_values(rt: HostRuntime) {
-    let text =
-        "'plain' '' \"proto\\x33\" '\\1234\\x414' '\\101\\x4\\n\\'' '\\0\\08' '\\303\\251é' '\\xC3\\xA9' '\\a\\b\\f\\r\\t\\v\\?\\\\\\\"'";
-    let want = "plainproto3S4A4A\u{4}\n'\u{0}\u{0}8ééé\u{7}\u{8}\u{c}\r\t\u{b}?\\\"";
-    assert!(rt; values(&rt, text).as_str() == want);
-}
+/// Their values, one after the other.
+const VALUES: &str = "plainproto3S4A4A\u{4}\n'\u{0}\u{0}8ééé\u{7}\u{8}\u{c}\r\t\u{b}?\\\"";
 
 /// String tokens and what is none, each with another value.
 const OTHER_VALUES: &[(&str, &str)] = &[
@@ -210,26 +177,14 @@ const OTHER_VALUES: &[(&str, &str)] = &[
     ("'", ""),
 ];
 
-/// Whether these are words.
-const WORDS: &[(&str, bool)] = &[
-    ("a", true),
-    ("_", true),
-    ("Z9_z", true),
-    ("", false),
-    ("9a", false),
-    ("a-b", false),
-    ("é", false),
-    ("a ", false),
-];
-
 #[test]
-fn words_and_other_values(rt: HostRuntime) {
+fn string_values(rt: HostRuntime) {
     for (text, value) in OTHER_VALUES {
         expect(&rt, !stands_for(text, value.as_bytes()), text);
     }
-    for (word, is_one) in WORDS {
-        expect(&rt, is_word(word) == *is_one, word);
-    }
+    let mut values = String::new(rt.alloc());
+    put_values(&rt, &mut values, &source_of(&rt, STRINGS)).expect(&rt, "tokens");
+    expect(&rt, values.as_str() == VALUES, values.as_str());
 }
 
 /// Splices: the offset, the old and the new text of each.
@@ -277,42 +232,26 @@ const TRIALS: &[Trial] = &[
     ),
 ];
 
-fn splice_of<R: AllocGlobal + Abort>(rt: &R, at: u32, old: &str, new: &str) -> Splice {
-    Splice {
-        at,
-        old: String::from_str(rt.alloc(), old).expect(rt, "memory"),
-        new: String::from_str(rt.alloc(), new).expect(rt, "memory"),
-    }
-}
-
 fn splices_of<R: AllocGlobal + Abort>(rt: &R, rows: Rows) -> Vec<Splice> {
     let mut splices = Vec::new(rt.alloc());
     for (at, old, new) in rows {
-        splices
-            .push(splice_of(rt, *at, old, new))
-            .expect(rt, "memory");
+        let splice = Splice {
+            at: *at,
+            old: owned(rt, old),
+            new: owned(rt, new),
+        };
+        splices.push(splice).expect(rt, "memory");
     }
     splices
 }
 
-fn is_splice(splice: &Splice, at: u32, old: &str, new: &str) -> bool {
-    splice.at == at && splice.old.as_str() == old && splice.new.as_str() == new
-}
-
 fn are_splices(splices: &[Splice], rows: Rows) -> bool {
     for (splice, (at, old, new)) in splices.iter().zip(rows) {
-        if !is_splice(splice, *at, old, new) {
+        if splice.at != *at || splice.old.as_str() != *old || splice.new.as_str() != *new {
             return false;
         }
     }
     splices.len() == rows.len()
-}
-
-fn is_text(text: &[u8], answer: &Answer) -> bool {
-    match answer {
-        Answer::Text(wanted) => text == wanted.as_bytes(),
-        Answer::Fault(_, _) => false,
-    }
 }
 
 fn is_fault(fault: &SpliceFault, answer: &Answer) -> bool {
@@ -322,24 +261,17 @@ fn is_fault(fault: &SpliceFault, answer: &Answer) -> bool {
     }
 }
 
-// Whether the text with the splices, or the fault, is the answer.
-fn are_put<R: AllocGlobal + Abort>(
-    rt: &R,
-    splices: &Splices,
-    text: &[u8],
-    answer: &Answer,
-) -> bool {
-    match apply_splices(rt.alloc(), text, splices) {
-        Ok(new) => is_text(new.as_slice(), answer),
+// Whether the text of the trial with the splices, or the fault, is the answer.
+fn are_put<R: AllocGlobal + Abort>(rt: &R, splices: &Splices, trial: &Trial) -> bool {
+    let (_, _, text, count, answer) = trial;
+    let text = text.repeat(rt.alloc(), *count).expect(rt, "memory");
+    match apply_splices(rt.alloc(), text.as_slice(), splices) {
+        Ok(new) => match answer {
+            Answer::Text(wanted) => new.as_slice() == wanted.as_bytes(),
+            Answer::Fault(_, _) => false,
+        },
         Err(fault) => is_fault(&fault, answer),
     }
-}
-
-fn is_tried<R: AllocGlobal + Abort>(rt: &R, splices: &Splices, trial: &Trial) -> bool {
-    let (rows, back, text, count, answer) = trial;
-    let text = text.repeat(rt.alloc(), *count).expect(rt, "memory");
-    are_splices(splices.as_slice(), back.unwrap_or(*rows))
-        && are_put(rt, splices, text.as_slice(), answer)
 }
 
 fn is_answered<R: AllocGlobal + Abort>(rt: &R, trial: &Trial) -> bool {
@@ -351,7 +283,7 @@ fn is_answered<R: AllocGlobal + Abort>(rt: &R, trial: &Trial) -> bool {
             } else {
                 splices
             };
-            is_tried(rt, &splices, trial)
+            are_splices(splices.as_slice(), back.unwrap_or(*rows)) && are_put(rt, &splices, trial)
         }
         Err(fault) => is_fault(&fault, answer),
     }

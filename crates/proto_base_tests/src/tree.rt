@@ -1,16 +1,12 @@
 //! Texts with and without a tree, and where those without go wrong.
 
-use crate::expect::expect;
-use proto_text::{Source, lex};
-use proto_tree::{
-    FieldType, File, Item, Member, MethodType, ParseFault, ServiceItem, is_listed, may_name_value,
-    parse,
-};
+use crate::expect::{expect, repeated, source_of};
+use proto_text::lex;
+use proto_tree::{FieldType, File, Item, Member, ParseFault, ServiceItem, parse};
 use std::process::Abort;
 
 fn read<R: AllocGlobal + Abort>(rt: &R, text: &str) -> Result<File, ParseFault> {
-    let bytes = Vec::from_slice(rt.alloc(), text.as_bytes()).expect(rt, "memory");
-    let source = Source::new(bytes).expect(rt, "a source");
+    let source = source_of(rt, text);
     let tokens = lex(rt.alloc(), &source).expect(rt, "tokens");
     parse(rt.alloc(), &source, &tokens)
 }
@@ -27,40 +23,32 @@ enum Said {
     Fault(u32, &'static str, u32),
 }
 
-fn has_label(file: &File) -> bool {
-    let Some(Item::Message(message)) = file.items.first() else {
-        return false;
-    };
-    let Some(Member::Field(field)) = message.members.first() else {
-        return false;
-    };
-    let FieldType::Reference(reference) = &field.kind else {
-        return false;
-    };
-    field.label == Some(3) && reference.dot == Some(4) && reference.words.first == 5
-}
-
-fn is_side(side: &MethodType, stream: Option<u32>, dot: Option<u32>, first: u32) -> bool {
-    side.stream == stream && side.reference.dot == dot && side.reference.words.first == first
-}
-
-fn has_stream(file: &File) -> bool {
-    let Some(Item::Service(service)) = file.items.first() else {
-        return false;
-    };
-    let Some(ServiceItem::Method(method)) = service.members.first() else {
-        return false;
-    };
-    is_side(&method.signature.input, Some(6), Some(7), 8)
-        && is_side(&method.signature.output, None, None, 12)
-}
-
+// Whether this is said of a text with this tree.
 fn is_said(file: &File, said: &Said) -> bool {
-    match said {
-        Said::Tree => true,
-        Said::Label => has_label(file),
-        Said::Stream => has_stream(file),
-        Said::Fault(_, _, _) => false,
+    match (said, file.items.first()) {
+        (Said::Tree, _) => true,
+        (Said::Label, Some(Item::Message(message))) => {
+            let Some(Member::Field(field)) = message.members.first() else {
+                return false;
+            };
+            let FieldType::Reference(reference) = &field.kind else {
+                return false;
+            };
+            field.label == Some(3) && reference.dot == Some(4) && reference.words.first == 5
+        }
+        (Said::Stream, Some(Item::Service(service))) => {
+            let Some(ServiceItem::Method(method)) = service.members.first() else {
+                return false;
+            };
+            let (input, output) = (&method.signature.input, &method.signature.output);
+            input.stream == Some(6)
+                && input.reference.dot == Some(7)
+                && input.reference.words.first == 8
+                && output.stream.is_none()
+                && output.reference.dot.is_none()
+                && output.reference.words.first == 12
+        }
+        _ => false,
     }
 }
 
@@ -145,14 +133,7 @@ const TEXTS: &[(&str, Said)] = &[
     ),
 ];
 
-#[test]
-fn texts_with_and_without_a_tree(rt: HostRuntime) {
-    for (text, said) in TEXTS {
-        expect(&rt, is_answer(&rt, text, said), text);
-    }
-}
-
-/// A piece of a text, how often it stands there, the same of a piece behind it, and the fault.
+/// Braces that are too many: a piece of a text, how often it stands there, the same of a piece behind it, and the fault.
 const DEEP: &[(&str, usize, &str, usize, Said)] = &[
     ("message M{", 33, "}", 33, Said::Fault(9, "TooDeep", 329)),
     ("{", 33, "", 0, Said::Fault(9, "TooDeep", 32)),
@@ -160,47 +141,13 @@ const DEEP: &[(&str, usize, &str, usize, Said)] = &[
     ("}", 1, "{", 33, Said::Fault(9, "TooDeep", 33)),
 ];
 
-// So many of one piece.
-fn repeated<R: AllocGlobal + Abort>(rt: &R, piece: &str, count: usize) -> String {
-    piece.repeat(rt.alloc(), count).expect(rt, "memory")
-}
-
 #[test]
-fn braces_that_are_too_many(rt: HostRuntime) {
-    for (first, count, second, more, said) in DEEP {
-        let mut text = repeated(&rt, first, *count);
-        let behind = repeated(&rt, second, *more);
-        text.push_str(behind.as_str()).expect(&rt, "memory");
-        expect(&rt, is_answer(&rt, text.as_str(), said), text.as_str());
+fn texts_with_and_without_a_tree(rt: HostRuntime) {
+    for (text, said) in TEXTS {
+        expect(&rt, is_answer(&rt, text, said), text);
     }
-}
-
-/// Words, with a space between them, and whether they are listed.
-const WORDS: &[(bool, &str)] = &[
-    (
-        true,
-        "syntax import weak public package option message enum service rpc returns stream oneof map reserved extensions extend group optional required repeated to max",
-    ),
-    (
-        true,
-        "double float int32 int64 uint32 uint64 sint32 sint64 fixed32 fixed64 sfixed32 sfixed64 bool string bytes",
-    ),
-    (
-        false,
-        "messages M V Message extension oneOf int int16 fixed proto3 true min _to",
-    ),
-];
-
-// Whether a word is listed or not, and may name a value unless `option` and `reserved` are what it is.
-fn is_word_of(is_one: bool, word: &str) -> bool {
-    is_listed(word) == is_one && may_name_value(word) != matches!(word, "option" | "reserved")
-}
-
-#[test]
-fn listed_words(rt: HostRuntime) {
-    for (is_one, words) in WORDS {
-        for word in words.split(' ') {
-            expect(&rt, is_word_of(*is_one, word), word);
-        }
+    for (first, count, second, more, said) in DEEP {
+        let text = repeated(&rt, first, *count, second, *more);
+        expect(&rt, is_answer(&rt, text.as_str(), said), text.as_str());
     }
 }

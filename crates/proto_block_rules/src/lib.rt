@@ -11,6 +11,6 @@ mod services;
 mod shared;
 mod walk;
 
-pub use method_types::all_messages;
+pub use method_types::messages_of;
 pub use shared::Messages;
 pub use walk::{Walk, add_blocks};

@@ -8,7 +8,7 @@ ghost use Rattle.proto_findings.specs.Readings.{reading_of};
 ghost use Rattle.proto_block_rules.specs.BlockFinds.{all_messages};
 ghost use Rattle.proto_block_rules.specs.Walks.{outer_messages};
 
-use crate::shared::add_messages;
+use crate::shared::{Messages, add_messages};
 use proto_faults::NoMemory;
 use proto_files::Files;
 use proto_findings::Reading;
@@ -46,7 +46,7 @@ fn add_file_messages<'a>(
 
 /// The full names of the inputs and outputs of all methods, in order; empty where a reference means
 /// none. Only want of memory is refused.
-pub fn all_messages<'a>(
+fn all_messages<'a>(
     alloc: Global,
     files: &'a Files,
     link: &'a Link,
@@ -61,4 +61,18 @@ pub fn all_messages<'a>(
         add_file_messages(&mut all, &reading, files.tree(file))?;
     }
     Ok(all)
+}
+
+/// The messages of all methods of a workspace. Only want of memory is refused.
+pub fn messages_of<'a>(
+    alloc: Global,
+    files: &'a Files,
+    link: &'a Link,
+) -> Result<Messages<'a>, NoMemory>
+    requires { IsLinkOf files.now link.now }
+    ensures { IfOk result (λ m. (reads : List ReadOf)
+        → AreRead files.now reads → m ≡ all_messages files.now reads) }
+{
+    let all = all_messages(alloc, files, link)?;
+    Messages::new(alloc, all)
 }

@@ -18,10 +18,10 @@ use Rattle.proto_desc.specs.CheckSteps.{IsFaultOf, IsFileError}
 use Rattle.proto_faults.specs.declared.fault.SchemaFault.{SchemaFault}
 use Rattle.proto_faults.specs.declared.fault.SchemaFault.TheVariants.{Schema, NoMemory}
 use Rattle.proto_described.specs.Described.{file_described}
-use Rattle.proto_json.specs.Descriptors.{FileDesc}
+use Rattle.proto_descriptors.specs.Descriptors.{FileDesc}
 use Rattle.proto_scenes.specs.SceneOf.{scene_of}
-use Rattle.proto_json.specs.Views.{file_desc}
-use Rattle.proto_json.specs.declared.file.FileDescriptor.{FileDescriptor}
+use Rattle.proto_descriptors.specs.Views.{file_desc}
+use Rattle.proto_descriptors.specs.declared.file.FileDescriptor.{FileDescriptor}
 
 -- the descriptor of the file with this number, by its tree
 abbrev pub described_at : List FileOf → List ReadOf → ℕ → Tree → FileDesc

@@ -1,2 +1,3 @@
 pub mod CheckedFiles
 pub mod LeastCheckFault
+mod Opened

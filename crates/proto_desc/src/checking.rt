@@ -11,14 +11,14 @@ ghost use Rattle.proto_desc.specs.Checked.{AreDescribed, CheckFaults, IsCheckErr
 ghost use Rattle.proto_scenes.specs.Scenes.{AreScenes, IsSceneOf};
 ghost use Rattle.proto_desc.specs.CheckSteps.{HasNoFlaw, IsFaultOf, IsFileError};
 ghost use Rattle.proto_scenes.specs.Enums.{IsEnumTable};
-ghost use Rattle.proto_json.specs.Views.{file_desc, files_desc};
+ghost use Rattle.proto_descriptors.specs.Views.{file_desc, files_desc};
 
 use crate::described::file_descriptor;
 use indexmap::IndexMap;
 use proto_checks::{Flaw, file_flaws, least};
+use proto_descriptors::{Descriptors, FileDescriptor};
 use proto_faults::{Fault, NoMemory, SchemaFault};
 use proto_files::{Files, are_read, offset_of};
-use proto_json::{Descriptors, FileDescriptor};
 use proto_parts::Scene;
 use proto_scenes::Link;
 use proto_scenes::enum_table::{EnumRow, enum_table};

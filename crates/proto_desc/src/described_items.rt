@@ -3,11 +3,11 @@
 ghost use Rattle.std.specs.Prelude.{◌≡◌, ◌++◌, map, option_map, option_to_list, string_bytes, IfOk, OnOk};
 ghost use Rattle.proto_tree.specs.File.{item_tree, trees};
 ghost use Rattle.proto_described.specs.Described.{enums_described, messages_described, package_prefix, services_described};
-ghost use Rattle.proto_json.specs.Views.{enum_desc, messages_desc, service_desc};
+ghost use Rattle.proto_descriptors.specs.Views.{enum_desc, messages_desc, service_desc};
 
 use proto_described::{absolute, message_descriptor, push_enum, service_descriptor};
+use proto_descriptors::{EnumDescriptor, MessageDescriptor, ServiceDescriptor};
 use proto_faults::NoMemory;
-use proto_json::{EnumDescriptor, MessageDescriptor, ServiceDescriptor};
 use proto_parts::Scene;
 use proto_tree::Item;
 use std::alloc::Global;

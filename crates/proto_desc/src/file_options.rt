@@ -6,12 +6,12 @@ ghost use Rattle.proto_parts.specs.Options.{text_option};
 ghost use Rattle.proto_parts.specs.Parts.{options_in};
 ghost use Rattle.proto_parts.specs.Scenes.{text, value};
 ghost use Rattle.proto_parts.specs.Views.{option_of};
-ghost use Rattle.proto_json.specs.declared.file.Syntax.TheVariants as syntax;
+ghost use Rattle.proto_descriptors.specs.declared.file.Syntax.TheVariants as syntax;
 ghost use Rattle.proto_described.specs.Described.{file_options, mode_named};
-ghost use Rattle.proto_json.specs.Views.{file_options_desc};
+ghost use Rattle.proto_descriptors.specs.Views.{file_options_desc};
 
+use proto_descriptors::{FileOptions, OptimizeMode, Syntax};
 use proto_faults::NoMemory;
-use proto_json::{FileOptions, OptimizeMode, Syntax};
 use proto_parts::{OptionAt, Scene, file_options, text_option, truth_option, word_option};
 use proto_tree::File;
 use std::alloc::Global;

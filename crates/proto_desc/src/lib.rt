@@ -1,4 +1,5 @@
-//! The checks of linked files, and the descriptors of those that pass them, with their JSON text.
+//! The checks of linked files, the descriptors of those that pass them, with their JSON text, and
+//! schemas that compile: files from their bytes to their descriptors.
 #![tactic(auto)]
 
 mod checking;
@@ -8,15 +9,16 @@ mod file_options;
 mod head;
 mod json_form;
 pub mod laws;
+mod schema;
 
 pub use checking::check;
 pub use described::file_descriptor;
 pub use json_form::to_json;
-pub use proto_faults::{NoMemory, SchemaFault as CheckFault};
-pub use proto_json::{
+pub use proto_descriptors::{
     Descriptors, EnumDescriptor, EnumOptions, EnumReservedRange, EnumValueDescriptor,
     EnumValueOptions, FieldDescriptor, FieldOptions, FieldType, FileDescriptor, FileOptions,
     IdempotencyLevel, Label, MessageDescriptor, MessageOptions, MethodDescriptor, MethodOptions,
     NumberRange, OneofDescriptor, OptimizeMode, ServiceDescriptor, ServiceOptions, Syntax,
-    keys_rise,
 };
+pub use proto_faults::{NoMemory, SchemaFault as CheckFault, SchemaFault as OpenFault};
+pub use schema::Schema;

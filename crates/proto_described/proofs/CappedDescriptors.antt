@@ -17,10 +17,10 @@ use Rattle.proto_parts.specs.Parts.{FieldOf, statements, fields_in, values_in, r
 use Rattle.proto_parts.specs.Scenes.{Scene, text, number_at, signed_at}
 use Rattle.proto_numbers.specs.NumberFlaws.{is_within, most_field, most_value, least_value, range_of, enum_range_of, end_of}
 use Rattle.proto_numbers.proofs.CappedNumbers.{Alike, AlikeCaps, is_near, within_alike, near_within, same_near, past_or_none, capped, alike_at, alike_signed, alike_end}
-use Rattle.proto_json.specs.declared.enumeration.EnumReservedRange.{EnumReservedRange}
-use Rattle.proto_json.specs.declared.message.NumberRange.{NumberRange}
+use Rattle.proto_descriptors.specs.declared.enumeration.EnumReservedRange.{EnumReservedRange}
+use Rattle.proto_descriptors.specs.declared.message.NumberRange.{NumberRange}
 use Rattle.proto_described.specs.Capped.{CapsKeepTheDescriptor}
-use Rattle.proto_json.specs.Descriptors.{EnumDesc, MessageDesc, NoMessages, Message}
+use Rattle.proto_descriptors.specs.Descriptors.{EnumDesc, MessageDesc, NoMessages, Message}
 use Rattle.proto_described.specs.Described.{field_number, value_number, default_number, number_range, value_range, default_text, below, field_described, value_described, enum_described, enums_described, entry_described, message_described, messages_described, package_named, package_prefix, file_described}
 
 -- ---- numbers

@@ -9,12 +9,12 @@ use Rattle.proto_tree.specs.Tree.{Tree, End, Leaf, Block, joined}
 use Rattle.proto_parts.specs.Scenes.{Scene, text}
 use Rattle.proto_described.specs.Described.{below, enum_described, enums_described, oneof_names, entry_described, message_described, messages_described, method_described, methods_described, service_described, services_described}
 use Rattle.proto_parts.specs.Parts.{options_in}
-use Rattle.proto_json.specs.Views.{MessageTree, message_desc, message_step, message_tree, messages_desc}
-use Rattle.proto_json.specs.declared.message.MessageDescriptor.{MessageDescriptor}
-use Rattle.proto_json.specs.declared.message.MessageDescriptor.TheOpen.{MessageDescriptor-F}
-use Rattle.proto_json.specs.declared.message.MessageDescriptor.TheFolds.{fold-roll-MessageDescriptor}
-use Rattle.proto_json.specs.declared.message.MessageDescriptor.TheViews.{roll-MessageDescriptor}
-use Rattle.proto_json.specs.Descriptors.{EnumDesc, MessageDesc, Messages, NoMessages, Message, MethodDesc, ServiceDesc}
+use Rattle.proto_descriptors.specs.Views.{MessageTree, message_desc, message_step, message_tree, messages_desc}
+use Rattle.proto_descriptors.specs.declared.message.MessageDescriptor.{MessageDescriptor}
+use Rattle.proto_descriptors.specs.declared.message.MessageDescriptor.TheOpen.{MessageDescriptor-F}
+use Rattle.proto_descriptors.specs.declared.message.MessageDescriptor.TheFolds.{fold-roll-MessageDescriptor}
+use Rattle.proto_descriptors.specs.declared.message.MessageDescriptor.TheViews.{roll-MessageDescriptor}
+use Rattle.proto_descriptors.specs.Descriptors.{EnumDesc, MessageDesc, Messages, NoMessages, Message, MethodDesc, ServiceDesc}
 
 pub enums_joined : (scene : Scene) (t u : Tree) → enums_described scene (joined t u) ≡ enums_described scene t ++ enums_described scene u
 enums_joined scene End u = refl

@@ -26,22 +26,22 @@ use Rattle.proto_parts.specs.Labels.{has_label}
 use Rattle.proto_parts.specs.JsonNames.{json_name_of}
 use Rattle.proto_numbers.specs.NumberFlaws.{is_within, most_field, most_value, least_value, range_of, enum_range_of}
 use Rattle.proto_parts.specs.declared.ranges.RangeAt.{RangeAt}
-use Rattle.proto_json.specs.declared.enumeration.EnumOptions.{EnumOptions}
-use Rattle.proto_json.specs.declared.enumeration.EnumReservedRange.{EnumReservedRange}
-use Rattle.proto_json.specs.declared.field.FieldOptions.{FieldOptions}
-use Rattle.proto_json.specs.declared.field.FieldType.{FieldType}
-use Rattle.proto_json.specs.declared.field.FieldType.TheVariants as field_type
-use Rattle.proto_json.specs.declared.field.Label.{Label}
-use Rattle.proto_json.specs.declared.field.Label.TheVariants as label
-use Rattle.proto_json.specs.declared.file.OptimizeMode.{OptimizeMode}
-use Rattle.proto_json.specs.declared.file.OptimizeMode.TheVariants as optimize_mode
-use Rattle.proto_json.specs.declared.file.Syntax.TheVariants as syntax
-use Rattle.proto_json.specs.declared.message.MessageOptions.{MessageOptions}
-use Rattle.proto_json.specs.declared.message.NumberRange.{NumberRange}
-use Rattle.proto_json.specs.declared.service.IdempotencyLevel.{IdempotencyLevel}
-use Rattle.proto_json.specs.declared.service.IdempotencyLevel.TheVariants as idempotency_level
-use Rattle.proto_json.specs.declared.service.MethodOptions.{MethodOptions}
-use Rattle.proto_json.specs.Descriptors.{FieldDesc, EnumValueDesc, EnumDesc, MessageDesc, Messages, NoMessages, Message, MethodDesc, ServiceDesc, FileOptionsDesc, FileDesc}
+use Rattle.proto_descriptors.specs.declared.enumeration.EnumOptions.{EnumOptions}
+use Rattle.proto_descriptors.specs.declared.enumeration.EnumReservedRange.{EnumReservedRange}
+use Rattle.proto_descriptors.specs.declared.field.FieldOptions.{FieldOptions}
+use Rattle.proto_descriptors.specs.declared.field.FieldType.{FieldType}
+use Rattle.proto_descriptors.specs.declared.field.FieldType.TheVariants as field_type
+use Rattle.proto_descriptors.specs.declared.field.Label.{Label}
+use Rattle.proto_descriptors.specs.declared.field.Label.TheVariants as label
+use Rattle.proto_descriptors.specs.declared.file.OptimizeMode.{OptimizeMode}
+use Rattle.proto_descriptors.specs.declared.file.OptimizeMode.TheVariants as optimize_mode
+use Rattle.proto_descriptors.specs.declared.file.Syntax.TheVariants as syntax
+use Rattle.proto_descriptors.specs.declared.message.MessageOptions.{MessageOptions}
+use Rattle.proto_descriptors.specs.declared.message.NumberRange.{NumberRange}
+use Rattle.proto_descriptors.specs.declared.service.IdempotencyLevel.{IdempotencyLevel}
+use Rattle.proto_descriptors.specs.declared.service.IdempotencyLevel.TheVariants as idempotency_level
+use Rattle.proto_descriptors.specs.declared.service.MethodOptions.{MethodOptions}
+use Rattle.proto_descriptors.specs.Descriptors.{FieldDesc, EnumValueDesc, EnumDesc, MessageDesc, Messages, NoMessages, Message, MethodDesc, ServiceDesc, FileOptionsDesc, FileDesc}
 
 -- ---- numbers (a file has a descriptor only where all of them are in their limits: of another
 -- number nothing is said)

@@ -3,15 +3,15 @@
 ghost use Rattle.std.specs.Prelude.{◌≡◌, map, option_map, IfOk};
 ghost use Rattle.std.specs.String.{string_bytes};
 ghost use Rattle.proto_described.specs.Described.{entry_field, entry_described};
-ghost use Rattle.proto_json.specs.Descriptors.{NoMessages};
-ghost use Rattle.proto_json.specs.Views.{field_desc, message_tree};
+ghost use Rattle.proto_descriptors.specs.Descriptors.{NoMessages};
+ghost use Rattle.proto_descriptors.specs.Views.{field_desc, message_tree};
 
 use crate::described_type::{scalar_type, type_name, type_of};
 use proto_case::entry_name;
-use proto_faults::NoMemory;
-use proto_json::{
+use proto_descriptors::{
     FieldDescriptor, FieldOptions, FieldType, Label, MessageDescriptor, MessageOptions,
 };
+use proto_faults::NoMemory;
 use proto_parts::Scene;
 use proto_tree::MapField;
 use std::alloc::Global;

@@ -7,14 +7,14 @@ ghost use Rattle.proto_parts.specs.Scenes.{value};
 ghost use Rattle.proto_parts.specs.Views.{option_of};
 ghost use Rattle.proto_numbers.specs.NumberFlaws.{enum_range_of};
 ghost use Rattle.proto_described.specs.Described.{value_described, value_range, enum_options, enum_described};
-ghost use Rattle.proto_json.specs.Views.{enum_value_desc, enum_desc};
+ghost use Rattle.proto_descriptors.specs.Views.{enum_value_desc, enum_desc};
 
 use crate::described_names::strings;
 use crate::described_numbers::{value_number, value_range};
-use proto_faults::NoMemory;
-use proto_json::{
+use proto_descriptors::{
     EnumDescriptor, EnumOptions, EnumReservedRange, EnumValueDescriptor, EnumValueOptions,
 };
+use proto_faults::NoMemory;
 use proto_numbers::value_ranges;
 use proto_parts::{
     OptionAt, Scene, enum_ranges, enum_reserved_names, options_between, truth_option, values,

@@ -6,18 +6,18 @@ ghost use Rattle.proto_parts.specs.Parts.{extension_ranges, fields_in, options_i
 ghost use Rattle.proto_parts.specs.Scenes.{value};
 ghost use Rattle.proto_numbers.specs.NumberFlaws.{range_of};
 ghost use Rattle.proto_described.specs.Described.{enums_described, field_described, message_described, message_options, messages_described, number_range, oneof_names};
-ghost use Rattle.proto_json.specs.Views.{enum_desc, field_desc, message_tree, messages_desc, oneof_desc};
+ghost use Rattle.proto_descriptors.specs.Views.{enum_desc, field_desc, message_tree, messages_desc, oneof_desc};
 
 use crate::described_entry::entry_descriptor;
 use crate::described_enum::push_enum;
 use crate::described_field::field_descriptor;
 use crate::described_names::{below, strings};
 use crate::described_numbers::number_range;
-use proto_faults::NoMemory;
-use proto_json::{
+use proto_descriptors::{
     EnumDescriptor, FieldDescriptor, MessageDescriptor, MessageOptions, NumberRange,
     OneofDescriptor,
 };
+use proto_faults::NoMemory;
 use proto_numbers::field_ranges;
 use proto_parts::{
     Scene, extension_ranges, fields_of, message_options, reserved_names, reserved_ranges,

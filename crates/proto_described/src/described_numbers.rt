@@ -4,7 +4,7 @@
 ghost use Rattle.std.specs.Prelude.{◌≡◌, ◌≤◌};
 ghost use Rattle.proto_described.specs.Described.{field_number, value_number, default_number, number_range, value_range};
 
-use proto_json::{EnumReservedRange, NumberRange};
+use proto_descriptors::{EnumReservedRange, NumberRange};
 use proto_numbers::RangeAt;
 
 const MOST_FIELD: i128 = 536_870_911;

@@ -4,13 +4,13 @@ ghost use Rattle.std.specs.Prelude.{◌≡◌, [], ◌∷◌, ◌++◌, map, IfO
 ghost use Rattle.proto_tree.specs.File.{method_tree, service_item_tree, trees};
 ghost use Rattle.proto_parts.specs.Views.{option_of};
 ghost use Rattle.proto_described.specs.Described.{level_named, method_described, method_options, methods_described, service_described};
-ghost use Rattle.proto_json.specs.Views.{method_desc, service_desc};
+ghost use Rattle.proto_descriptors.specs.Views.{method_desc, service_desc};
 
 use crate::described_names::type_text;
-use proto_faults::NoMemory;
-use proto_json::{
+use proto_descriptors::{
     IdempotencyLevel, MethodDescriptor, MethodOptions, ServiceDescriptor, ServiceOptions,
 };
+use proto_faults::NoMemory;
 use proto_parts::{OptionAt, Scene, method_options, service_options, truth_option, word_option};
 use proto_tree::{Method, MethodEnd, Service, ServiceItem, Signature};
 use std::alloc::Global;

@@ -6,8 +6,8 @@ ghost use Rattle.proto_parts.specs.Scenes.{meant_by};
 ghost use Rattle.proto_described.specs.Described.{scalar_type, type_of, absolute, type_name_of};
 
 use crate::described_names::absolute;
+use proto_descriptors::FieldType;
 use proto_faults::NoMemory;
-use proto_json::FieldType;
 use proto_parts::Scene;
 use proto_tree::{FieldType as WrittenType, Reference};
 use std::alloc::Global;

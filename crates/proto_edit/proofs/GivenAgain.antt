@@ -13,7 +13,7 @@ use Rattle.proto_files.specs.WorkspacePaths.{IsWorkspacePath, IsBefore}
 use Rattle.proto_files.proofs.Members.{Contains-from_member}
 use Rattle.proto_files.proofs.OneOrder.{one_order}
 use Rattle.proto_files.proofs.PathOrder.{Rises, count_once}
-use Rattle.proto_schema.specs.Whole.{IsSortedOf, FileFaults, WorkspaceFaults, of_path, of_files, of_read}
+use Rattle.proto_desc.specs.Whole.{IsSortedOf, FileFaults, WorkspaceFaults, of_path, of_files, of_read}
 use Rattle.proto_rename_described.proofs.CleanFiles.{clean_files_are_read}
 use Rattle.proto_edit.specs.Compiled.{AreCompiled}
 use Rattle.proto_edit.specs.Laws.{CompiledAreRead, WorkspacesAreClean}

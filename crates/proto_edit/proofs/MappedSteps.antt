@@ -8,7 +8,7 @@ use Rattle.proto_files.specs.GivenFiles.{FileOf, file_at}
 use Rattle.proto_files.specs.ReadFaults.{IsText}
 use Rattle.proto_files.specs.WorkspacePaths.{IsBefore}
 use Rattle.proto_files.proofs.PathOrder.{never_before_itself}
-use Rattle.proto_schema.specs.Whole.{FileFaults, of_read, of_link, of_check}
+use Rattle.proto_desc.specs.Whole.{FileFaults, of_read, of_link, of_check}
 use Rattle.proto_entries.specs.Entries.{IsEntry}
 use Rattle.proto_entries.specs.Putting.{IsPut}
 use Rattle.proto_entries.proofs.Walks.{puts_keep_paths}

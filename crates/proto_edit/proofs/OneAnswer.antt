@@ -4,8 +4,8 @@ use Rattle.std.proofs.lemmas.Bool.{cases_lt}
 use Rattle.proto_files.specs.FilesRead.{ReadOf, AreRead}
 use Rattle.proto_files.specs.GivenFiles.{FileOf}
 use Rattle.proto_files.proofs.ReadOnce.{read_once}
-use Rattle.proto_json.specs.Descriptors.{FileDesc}
-use Rattle.proto_schema.specs.Whole.{of_link}
+use Rattle.proto_descriptors.specs.Descriptors.{FileDesc}
+use Rattle.proto_desc.specs.Whole.{of_link}
 use Rattle.proto_entries.specs.Entries.{ChangeOf}
 use Rattle.proto_entries.specs.Putting.{IsPut}
 use Rattle.proto_entries.proofs.Puts.{puts_are_once}

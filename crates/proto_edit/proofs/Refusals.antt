@@ -6,7 +6,7 @@ use Rattle.proto_imports.specs.Links.{LinkFaults}
 use Rattle.proto_entries.specs.Entries.{ChangeOf}
 use Rattle.proto_entries.specs.declared.refusal.Refusal.{Refusal}
 use Rattle.proto_entries.specs.declared.refusal.Refusal.TheVariants as refusal
-use Rattle.proto_schema.specs.Whole.{of_link}
+use Rattle.proto_desc.specs.Whole.{of_link}
 use Rattle.proto_rename.specs.Renames.{IsLeastRenameCase, IsRenamed, IsRenameRefusal}
 use Rattle.proto_statement_edits.specs.Edits.{IsAdded, IsAdditionCase, IsAdditionRefusal, IsDeleted, IsDeletionCase, IsDeletionRefusal, IsDropCase, IsDropRefusal, IsDropped, IsLeastOf}
 use Rattle.proto_edit.specs.Compiled.{AreCompiled}

@@ -5,7 +5,7 @@ use Rattle.std.proofs.lemmas.Bool.{cases_lt}
 use Rattle.proto_faults.specs.declared.fault.FaultKind.TheVariants as kind
 use Rattle.proto_files.specs.Faults.{FaultAt, IsLeastFault}
 use Rattle.proto_files.specs.GivenFiles.{FileOf}
-use Rattle.proto_schema.specs.Whole.{IsSortedOf, of_read, WorkspaceFaults}
+use Rattle.proto_desc.specs.Whole.{IsSortedOf, of_read, WorkspaceFaults}
 use Rattle.proto_edit.specs.Answers.{IsReopened}
 use Rattle.proto_edit.specs.Compiled.{AreCompiled, at}
 use Rattle.proto_entries.specs.Entries.{ChangeOf, AreRising}

@@ -7,10 +7,10 @@ use Rattle.proto_files.specs.FilesRead.{AreRead, ReadOf}
 use Rattle.proto_files.specs.GivenFiles.{AreWorkspaceFiles, FileOf, file_at}
 use Rattle.proto_files.specs.ReadFaults.{ReadFaults}
 use Rattle.proto_imports.specs.Links.{LinkFaults}
-use Rattle.proto_json.specs.Descriptors.{FileDesc}
-use Rattle.proto_schema.specs.Whole.{FileFaults, of_check, of_link, of_read}
+use Rattle.proto_descriptors.specs.Descriptors.{FileDesc}
+use Rattle.proto_desc.specs.Whole.{FileFaults, of_check, of_link, of_read}
 use Rattle.proto_entries.specs.Entries.{ChangeOf, IsEntry}
-use Rattle.proto_schema.specs.Checked.{AreDescribed, CheckFaults}
+use Rattle.proto_desc.specs.Checked.{AreDescribed, CheckFaults}
 use Rattle.proto_rename_laws.proofs.NoLinkFault.{read_files_are_clean}
 use Rattle.proto_rename_described.proofs.CleanFiles.{file_is_text}
 use Rattle.proto_tree.specs.declared.tree.Import.{Import}

@@ -4,7 +4,7 @@ use Rattle.proto_faults.specs.Texts.{Path}
 use Rattle.proto_faults.specs.declared.fault.FaultKind.{FaultKind}
 use Rattle.proto_files.specs.Faults.{FaultAt, HasNoFault}
 use Rattle.proto_files.specs.GivenFiles.{FileOf, AreWorkspaceFiles}
-use Rattle.proto_schema.specs.Whole.{FileFaults}
+use Rattle.proto_desc.specs.Whole.{FileFaults}
 
 -- files of a workspace, in the order of their paths, without a fault of the whole language
 pub record AreCompiled (files : List FileOf) : Type 0 where

@@ -4,9 +4,9 @@ use Rattle.proto_faults.specs.Texts.{Path}
 use Rattle.proto_files.specs.Faults.{HasNoFault}
 use Rattle.proto_files.specs.FilesRead.{ReadOf, AreRead}
 use Rattle.proto_files.specs.GivenFiles.{FileOf}
-use Rattle.proto_schema.specs.Whole.{WorkspaceFaults}
-use Rattle.proto_schema.specs.Checked.{AreDescribed}
-use Rattle.proto_json.specs.Descriptors.{FileDesc}
+use Rattle.proto_desc.specs.Whole.{WorkspaceFaults}
+use Rattle.proto_desc.specs.Checked.{AreDescribed}
+use Rattle.proto_descriptors.specs.Descriptors.{FileDesc}
 use Rattle.proto_entries.specs.declared.refusal.Refusal.{Refusal}
 use Rattle.proto_entries.specs.Entries.{ChangeOf, IsEntry}
 use Rattle.proto_entries.specs.Putting.{IsPut}

@@ -7,7 +7,7 @@ pub mod laws;
 mod workspace;
 
 pub use edit::Edit;
+pub use proto_desc::{Descriptors, OpenFault, to_json};
 pub use proto_entries::{Change, Entry, Refusal};
 pub use proto_files::{Fault, FaultKind, Files, NoMemory};
-pub use proto_schema::{Descriptors, OpenFault, to_json};
 pub use workspace::Workspace;

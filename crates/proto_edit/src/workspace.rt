@@ -1,20 +1,20 @@
 //! A workspace that compiles.
 
 ghost use Rattle.std.specs.Prelude.{◌≡◌, List, IfOk, IfErr};
-ghost use Rattle.proto_schema.specs.Checked.{AreDescribed};
-ghost use Rattle.proto_json.specs.Views.{files_desc};
+ghost use Rattle.proto_desc.specs.Checked.{AreDescribed};
+ghost use Rattle.proto_descriptors.specs.Views.{files_desc};
 ghost use Rattle.proto_files.specs.Faults.{HasNoFault};
 ghost use Rattle.proto_files.specs.GivenFiles.{files_of};
 ghost use Rattle.proto_files.specs.FilesRead.{ReadOf, AreRead};
-ghost use Rattle.proto_schema.specs.Answers.{IsOpenError};
-ghost use Rattle.proto_schema.specs.Whole.{WorkspaceFaults, IsSortedOf};
+ghost use Rattle.proto_desc.specs.Opening.{IsOpenError};
+ghost use Rattle.proto_desc.specs.Whole.{WorkspaceFaults, IsSortedOf};
 ghost use Rattle.proto_names.specs.LinkOfFiles.{IsLinkOf};
 ghost use Rattle.proto_edit.specs.Compiled.{AreCompiled};
 
+use proto_desc::{Descriptors, Schema};
 use proto_faults::SchemaFault;
 use proto_files::Files;
 use proto_names::Link;
-use proto_schema::{Descriptors, Schema};
 use std::alloc::Global;
 use std::marker::Model;
 

@@ -3,8 +3,8 @@ use Rattle.std.specs.Prelude.{◌≡◌, ◌≢◌, ℕ, List, [], ◌∷◌, �
 use Rattle.std.specs.Borrow.{Bor}
 use Rattle.proto_faults.specs.Texts.{Text, Path}
 use Rattle.proto_files.specs.GivenFiles.{FileOf}
-use Rattle.proto_schema.specs.Whole.{IsSortedOf}
-use Rattle.proto_json.specs.Descriptors.{FileDesc}
+use Rattle.proto_desc.specs.Whole.{IsSortedOf}
+use Rattle.proto_descriptors.specs.Descriptors.{FileDesc}
 use Rattle.proto_json.specs.DescriptorText.{json_text}
 use Rattle.proto_desc.specs.Checked.{AreDescribed}
 use Rattle.proto_entries.specs.declared.refusal.Refusal.{Refusal}

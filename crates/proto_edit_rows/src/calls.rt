@@ -7,8 +7,8 @@ ghost use Rattle.proto_edit.specs.Answers.{asked};
 ghost use Rattle.proto_edit.specs.Compiled.{AreCompiled};
 ghost use Rattle.proto_edit_rows.specs.Rows.{is_file, is_row_answer, row_edit, row_file};
 ghost use Rattle.proto_files.specs.GivenFiles.{file_at, file_of};
-ghost use Rattle.proto_schema.specs.Answers.{IsOpenError};
-ghost use Rattle.proto_schema.specs.Whole.{IsSortedOf};
+ghost use Rattle.proto_desc.specs.Opening.{IsOpenError};
+ghost use Rattle.proto_desc.specs.Whole.{IsSortedOf};
 
 use crate::step::{Said, Step};
 use proto_edit::{Edit, Refusal, Workspace};

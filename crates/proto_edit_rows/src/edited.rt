@@ -6,7 +6,7 @@ ghost use Rattle.proto_edit.specs.Compiled.{AreCompiled};
 ghost use Rattle.proto_edit.specs.Workspaces.{IsMappedStep, IsRefusal, Run, accepted};
 ghost use Rattle.proto_edit_rows.specs.RowsHold.{AreLed, IsLed, RowHolds, ShowsPart, StepsHold, UndoneSo, UndosHold, UndosLead, row_files, row_of, step_of, undo_of};
 ghost use Rattle.proto_edit_rows.specs.Told.{told_of};
-ghost use Rattle.proto_schema.specs.Whole.{IsSortedOf};
+ghost use Rattle.proto_desc.specs.Whole.{IsSortedOf};
 
 use crate::calls::{are_texts, edit_of, is_said, open};
 use crate::row::{Row, Undo};

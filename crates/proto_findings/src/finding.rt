@@ -1,10 +1,13 @@
 //! What rules find.
 
-ghost use Rattle.std.specs.Prelude.{map};
-ghost use Rattle.proto_findings.specs.Listings.{IsListingOf};
-ghost use Rattle.proto_findings.specs.Views.{finding_of};
+ghost use Rattle.std.specs.Prelude.{◌≡◌, ◌++◌, map, OnOk};
+ghost use Rattle.proto_findings.specs.Listings.{IsListingOf, found_in};
+ghost use Rattle.proto_findings.specs.Views.{finding_of, found_of};
 
+use crate::found::Found;
+use proto_faults::NoMemory;
 use proto_rules::Rule;
+use std::alloc::Global;
 
 /// What a rule found: the path of the file, the offset in bytes from 0, the rule, and the name that
 /// is printed.
@@ -23,4 +26,26 @@ pub fn listed(mut found: Vec<Finding>) -> Vec<Finding>
     found.sort_unstable();
     found.dedup();
     found
+}
+
+/// Adds what was found in the file at a path. Only want of memory is refused.
+pub fn add_findings(
+    alloc: Global,
+    all: &mut Vec<Finding>,
+    path: &str,
+    found: Vec<Found>,
+) -> Result<(), NoMemory>
+    ensures { OnOk result (map finding_of all.new.items
+        ≡ map finding_of all.old.items ++ map (found_in path.now) (map found_of found.items)) }
+{
+    for Found { offset, rule, name } in found {
+        let path = String::from_str(alloc, path)?;
+        all.push(Finding {
+            path,
+            offset,
+            rule,
+            name,
+        })?;
+    }
+    Ok(())
 }

@@ -1,7 +1,7 @@
-//! Parts of names.
+//! Parts of names and paths.
 
 ghost use Rattle.std.specs.Prelude.{◌≡◌};
-ghost use Rattle.proto_findings.specs.Placed.{behind_last};
+ghost use Rattle.proto_findings.specs.Placed.{before_last, behind_last};
 
 /// The last part of a full name: what stands behind its last dot, or all of it.
 pub fn last_part(name: &str) -> &str
@@ -10,5 +10,25 @@ pub fn last_part(name: &str) -> &str
     match name.rsplit_once('.') {
         Some((_, last)) => last,
         None => name,
+    }
+}
+
+/// What stands before the last slash of a path, or nothing.
+pub fn directory_of(path: &str) -> &str
+    ensures { result.now ≡ before_last 47 path.now }
+{
+    match path.rsplit_once('/') {
+        Some((directory, _)) => directory,
+        None => "",
+    }
+}
+
+/// The last part of a path.
+pub fn file_name_of(path: &str) -> &str
+    ensures { result.now ≡ behind_last 47 path.now }
+{
+    match path.rsplit_once('/') {
+        Some((_, name)) => name,
+        None => path,
     }
 }

@@ -8,7 +8,7 @@ use Rattle.proto_files.specs.WorkspacePaths.{IsBefore}
 use Rattle.proto_files.proofs.PathOrder.{never_before_itself}
 use Rattle.proto_entries.proofs.Puts.{same_file}
 use Rattle.proto_store.specs.Stores.{bytes_at, with_bytes}
-use Rattle.proto_recovery.specs.Torn.{IsBetween}
+use Rattle.proto_records.specs.Torn.{IsBetween}
 
 abbrev pub up_to : ℕ → List FileOf → List FileOf → List FileOf
 up_to zero after before = before

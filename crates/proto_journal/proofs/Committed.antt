@@ -14,10 +14,10 @@ use Rattle.proto_records.specs.RecordText.{record_text}
 use Rattle.proto_records.specs.Journals.{IsJournal, done, journal_limit, opened, journal_text}
 use Rattle.proto_store.specs.Stores.{Held, HoldsJournal}
 use Rattle.proto_journal.specs.Commits.{IsCommitted, IsCommitCut, CommitOutcome, Stays}
-use Rattle.proto_recovery.specs.ReadJournals.{IsReady, IsReadyWith}
-use Rattle.proto_recovery.specs.Known.{CountsFault, Over, OverBoth}
+use Rattle.proto_records.specs.ReadJournals.{IsReady, IsReadyWith}
+use Rattle.proto_records.specs.Known.{CountsFault, Over, OverBoth}
 use Rattle.proto_journal.specs.Loads.{IsUnready}
-use Rattle.proto_recovery.specs.Torn.{IsBetween, IsTornBetween, Keeps}
+use Rattle.proto_records.specs.Torn.{IsBetween, IsTornBetween, Keeps}
 use Rattle.proto_journal.specs.Written.{AddsTo, IsUnprepared, IsUnwritten, Passes, held}
 use Rattle.proto_journal.proofs.Recorded.{text_more}
 

@@ -10,12 +10,12 @@ use Rattle.proto_records.specs.declared.record.Record.{Record}
 use Rattle.proto_records.specs.Journals.{IsJournal, done, opened}
 use Rattle.proto_records.specs.Laws.{JournalsShrink}
 use Rattle.proto_store.specs.Stores.{AreInPathOrder, Held}
-use Rattle.proto_recovery.specs.Known.{IsSettled}
-use Rattle.proto_recovery.specs.Laws.{RecoveriesAreOne, TornComesBack}
-use Rattle.proto_recovery.specs.ReadJournals.{IsReady}
-use Rattle.proto_recovery.specs.Recovery.{RecoverOutcome}
-use Rattle.proto_recovery.specs.Torn.{Keeps}
-use Rattle.proto_recovery.proofs.TornStores.{leads_forth}
+use Rattle.proto_records.specs.Known.{IsSettled}
+use Rattle.proto_records.specs.RecoveryLaws.{RecoveriesAreOne, TornComesBack}
+use Rattle.proto_records.specs.ReadJournals.{IsReady}
+use Rattle.proto_records.specs.Recovery.{RecoverOutcome}
+use Rattle.proto_records.specs.Torn.{Keeps}
+use Rattle.proto_records.proofs.TornStores.{leads_forth}
 use Rattle.proto_journal.specs.Commits.{IsCommitted}
 use Rattle.proto_journal.specs.Laws.{CutCommitsComeBack, CutUndosComeBack}
 use Rattle.proto_journal.specs.Undoing.{IsUndone}

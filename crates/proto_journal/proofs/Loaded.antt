@@ -10,12 +10,12 @@ use Rattle.proto_faults.specs.declared.fault.Fault.{Fault}
 use Rattle.proto_files.specs.Faults.{IsLeastFault, fault_at}
 use Rattle.proto_files.specs.GivenFiles.{AreWorkspaceFiles, FileOf, paths_of}
 use Rattle.proto_files.specs.WorkspacePaths.{IsBefore, IsWorkspacePath}
-use Rattle.proto_schema.specs.Whole.{IsSortedOf, WorkspaceFaults}
+use Rattle.proto_desc.specs.Whole.{IsSortedOf, WorkspaceFaults}
 use Rattle.proto_edit.specs.Compiled.{AreCompiled}
 use Rattle.proto_edit.proofs.GivenAgain.{sorted_again}
 use Rattle.proto_store.specs.Stores.{AreInPathOrder, Held, HoldsFiles, ListsPaths}
 use Rattle.proto_journal.specs.declared.loading.LoadFault.TheVariants as load
-use Rattle.proto_recovery.specs.Known.{Over}
+use Rattle.proto_records.specs.Known.{Over}
 use Rattle.proto_journal.specs.Loads.{LoadOutcome}
 
 pub in_order : (h : Option Held) (paths : List (List ℕ)) → ListsPaths h paths → Over h (λ there. AreInPathOrder there.files)

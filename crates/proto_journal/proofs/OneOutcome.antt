@@ -21,10 +21,10 @@ use Rattle.proto_records.specs.Journals.{IsJournal, IsRecord, is_last_open, done
 use Rattle.proto_records.specs.Laws.{IsReadInOneWay}
 use Rattle.proto_store.specs.Stores.{Held}
 use Rattle.proto_journal.specs.Commits.{CommitOutcome, IsCommitted, IsFull, Stays}
-use Rattle.proto_recovery.specs.ReadJournals.{HasOpenEntry, IsReady, IsUnreadable}
+use Rattle.proto_records.specs.ReadJournals.{HasOpenEntry, IsReady, IsUnreadable}
 use Rattle.proto_journal.specs.Laws.{CommitsAreOne, IsSameAnswer, IsSameRefusal, UndosAreOne}
-use Rattle.proto_recovery.specs.Known.{IsSettled}
-use Rattle.proto_recovery.specs.Torn.{Keeps}
+use Rattle.proto_records.specs.Known.{IsSettled}
+use Rattle.proto_records.specs.Torn.{Keeps}
 use Rattle.proto_journal.specs.Undoing.{EndsIn, IsStale, IsUndone, UndoOutcome}
 use Rattle.proto_journal.proofs.Recorded.{last_of}
 

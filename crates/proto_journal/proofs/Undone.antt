@@ -13,8 +13,8 @@ use Rattle.proto_records.specs.declared.record.Record.{Record}
 use Rattle.proto_records.specs.FaultTable.{fault_of}
 use Rattle.proto_records.specs.Journals.{IsJournal, done, opened}
 use Rattle.proto_store.specs.Stores.{Held, HoldsJournal}
-use Rattle.proto_recovery.specs.Known.{CountsFault, Over, OverBoth}
-use Rattle.proto_recovery.specs.Torn.{IsBetween, IsTornBetween, Keeps}
+use Rattle.proto_records.specs.Known.{CountsFault, Over, OverBoth}
+use Rattle.proto_records.specs.Torn.{IsBetween, IsTornBetween, Keeps}
 use Rattle.proto_journal.specs.Undoing.{EndsIn, IsUndone, IsUndoCut, UndoOutcome}
 use Rattle.proto_journal.specs.Written.{LastOutcome, Passes, Reopens, Shortens, held}
 use Rattle.proto_journal.proofs.Committed.{stays}

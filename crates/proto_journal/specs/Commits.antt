@@ -9,9 +9,9 @@ use Rattle.proto_records.specs.declared.fault.JournalFault.TheVariants as fault
 use Rattle.proto_records.specs.declared.record.Record.{Record}
 use Rattle.proto_records.specs.Journals.{done, journal_limit, journal_text}
 use Rattle.proto_store.specs.Stores.{Held}
-use Rattle.proto_recovery.specs.ReadJournals.{HasOpenEntry, IsReady, IsReadyWith, IsUnreadable}
-use Rattle.proto_recovery.specs.Known.{Over, OverBoth}
-use Rattle.proto_recovery.specs.Torn.{IsTornBetween, Keeps}
+use Rattle.proto_records.specs.ReadJournals.{HasOpenEntry, IsReady, IsReadyWith, IsUnreadable}
+use Rattle.proto_records.specs.Known.{Over, OverBoth}
+use Rattle.proto_records.specs.Torn.{IsTornBetween, Keeps}
 
 -- the store and the workspace are as before
 pub record Stays (from to : List FileOf) (old new : Option Held) : Type 0 where

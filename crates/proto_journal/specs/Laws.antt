@@ -11,10 +11,10 @@ use Rattle.proto_records.specs.declared.fault.JournalFault.{JournalFault}
 use Rattle.proto_records.specs.declared.fault.JournalFault.TheVariants as fault
 use Rattle.proto_records.specs.declared.record.Record.{Record}
 use Rattle.proto_store.specs.Stores.{AreInPathOrder, Held, HoldsFiles}
-use Rattle.proto_recovery.specs.Known.{IsSettled}
-use Rattle.proto_recovery.specs.ReadJournals.{IsReady}
-use Rattle.proto_recovery.specs.Recovery.{RecoverOutcome}
-use Rattle.proto_recovery.specs.Torn.{IsTorn, IsTornBetween}
+use Rattle.proto_records.specs.Known.{IsSettled}
+use Rattle.proto_records.specs.ReadJournals.{IsReady}
+use Rattle.proto_records.specs.Recovery.{RecoverOutcome}
+use Rattle.proto_records.specs.Torn.{IsTorn, IsTornBetween}
 use Rattle.proto_journal.specs.Commits.{CommitOutcome, IsCommitted}
 use Rattle.proto_journal.specs.Undoing.{IsUndone, UndoOutcome}
 

@@ -4,15 +4,15 @@ use Rattle.proto_faults.specs.FaultTable.{number_of, name_of}
 use Rattle.proto_faults.specs.Texts.{Text}
 use Rattle.proto_files.specs.Faults.{IsLeastFault, fault_at}
 use Rattle.proto_files.specs.GivenFiles.{FileOf}
-use Rattle.proto_schema.specs.Whole.{WorkspaceFaults}
+use Rattle.proto_desc.specs.Whole.{WorkspaceFaults}
 use Rattle.proto_edit.specs.Compiled.{AreCompiled}
 use Rattle.proto_records.specs.declared.fault.JournalFault.{JournalFault}
 use Rattle.proto_records.specs.declared.fault.JournalFault.TheVariants as journal
 use Rattle.proto_store.specs.Stores.{Held, HoldsFiles}
 use Rattle.proto_journal.specs.declared.loading.LoadFault.{LoadFault}
 use Rattle.proto_journal.specs.declared.loading.LoadFault.TheVariants as load
-use Rattle.proto_recovery.specs.ReadJournals.{HasOpenEntry, IsReady, IsUnreadable}
-use Rattle.proto_recovery.specs.Known.{Over}
+use Rattle.proto_records.specs.ReadJournals.{HasOpenEntry, IsReady, IsUnreadable}
+use Rattle.proto_records.specs.Known.{Over}
 
 -- a workspace of the store's files, which compile; or their least fault
 abbrev pub LoadOutcome : Option Held → Result (List FileOf) LoadFault → Type 0

@@ -10,9 +10,9 @@ use Rattle.proto_records.specs.declared.record.Record.{Record}
 use Rattle.proto_records.specs.Journals.{IsJournal, done}
 use Rattle.proto_store.specs.Stores.{Held}
 use Rattle.proto_journal.specs.Commits.{Stays}
-use Rattle.proto_recovery.specs.ReadJournals.{HasOpenEntry, IsUnreadable}
-use Rattle.proto_recovery.specs.Known.{Over, OverBoth}
-use Rattle.proto_recovery.specs.Torn.{IsTornBetween, Keeps}
+use Rattle.proto_records.specs.ReadJournals.{HasOpenEntry, IsUnreadable}
+use Rattle.proto_records.specs.Known.{Over, OverBoth}
+use Rattle.proto_records.specs.Torn.{IsTornBetween, Keeps}
 
 -- the journal is that of these records and of the entry behind them, done
 abbrev pub EndsIn : List Record → List ChangeOf → Held → Type 0

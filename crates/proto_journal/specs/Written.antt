@@ -11,8 +11,8 @@ use Rattle.proto_records.specs.declared.record.Record.{Record}
 use Rattle.proto_records.specs.RecordText.{record_text}
 use Rattle.proto_records.specs.Journals.{IsJournal, is_last_open, done, journal_limit, opened}
 use Rattle.proto_store.specs.Stores.{Held, with_file}
-use Rattle.proto_recovery.specs.Known.{OverBoth}
-use Rattle.proto_recovery.specs.Torn.{IsBetween}
+use Rattle.proto_records.specs.Known.{OverBoth}
+use Rattle.proto_records.specs.Torn.{IsBetween}
 
 -- ---- written
 

@@ -4,7 +4,7 @@ ghost use Rattle.std.specs.Prelude.{◌-◌, ◌^◌, ◌<◌, IfErr, IfOk};
 ghost use Rattle.proto_edit.specs.Answers.{asked};
 ghost use Rattle.proto_edit.specs.Workspaces.{IsMappedStep};
 ghost use Rattle.proto_journal.specs.Commits.{CommitOutcome};
-ghost use Rattle.proto_recovery.specs.Known.{CountsStore};
+ghost use Rattle.proto_records.specs.Known.{CountsStore};
 ghost use Rattle.proto_journal.specs.Written.{AddsTo, IsUnprepared, IsUnwritten};
 ghost use Rattle.proto_records.specs.Journals.{done, opened};
 ghost use Rattle.proto_store.specs.Stores.{HoldsFiles};

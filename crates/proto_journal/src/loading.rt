@@ -2,7 +2,7 @@
 
 ghost use Rattle.std.specs.Prelude.{◌≡◌, ◌-◌, ◌^◌, ◌<◌, IfOk, IfErr};
 ghost use Rattle.proto_files.specs.GivenFiles.{files_of};
-ghost use Rattle.proto_recovery.specs.Known.{Over};
+ghost use Rattle.proto_records.specs.Known.{Over};
 ghost use Rattle.proto_journal.specs.Loads.{CountsLoad, IsNoSchemaFault, LoadOutcome, fault_name, fault_number};
 ghost use Rattle.proto_store.specs.Stores.{AreInPathOrder, HoldsFiles};
 

@@ -1,7 +1,7 @@
 //! What a journal says before it is written.
 
 ghost use Rattle.std.specs.Prelude.{◌≡◌, ◌-◌, ◌^◌, ◌<◌, IfOk};
-ghost use Rattle.proto_recovery.specs.Known.{CountsStore};
+ghost use Rattle.proto_records.specs.Known.{CountsStore};
 ghost use Rattle.proto_journal.specs.Loads.{ReadyOutcome};
 ghost use Rattle.proto_store.specs.Stores.{HoldsJournal};
 

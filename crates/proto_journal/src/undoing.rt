@@ -1,7 +1,7 @@
 //! Undoing the last entry, in the store and in the workspace.
 
 ghost use Rattle.std.specs.Prelude.{◌-◌, ◌^◌, ◌<◌, IfOk};
-ghost use Rattle.proto_recovery.specs.Known.{CountsStore};
+ghost use Rattle.proto_records.specs.Known.{CountsStore};
 ghost use Rattle.proto_journal.specs.Undoing.{UndoOutcome};
 ghost use Rattle.proto_journal.specs.Written.{LastOutcome, Reopens, Shortens};
 ghost use Rattle.proto_store.specs.Stores.{HoldsFiles};

@@ -1,4 +1,3 @@
-pub mod Mapped
 pub mod Nesting
 pub mod Objects
 pub mod Quoting

@@ -2,9 +2,9 @@
 use Rattle.std.proofs.Common.{◌≡◌, ℕ, List, [], ◌∷◌, ◌++◌, refl, sym, ap, ◌∙◌, map}
 use Rattle.proto_json.specs.DescriptorText.{message_texts}
 use Rattle.proto_json.specs.MessageText.{tree_text, level_text}
-use Rattle.proto_json.specs.Views.{MessageTree, messages_of, message_step, message_tree, messages_desc}
-use Rattle.proto_json.specs.declared.message.MessageDescriptor.{MessageDescriptor, out-MessageDescriptor}
-use Rattle.proto_json.specs.declared.message.MessageDescriptor.TheFolds.{fold_out-MessageDescriptor}
+use Rattle.proto_descriptors.specs.Views.{MessageTree, messages_of, message_step, message_tree, messages_desc}
+use Rattle.proto_descriptors.specs.declared.message.MessageDescriptor.{MessageDescriptor, out-MessageDescriptor}
+use Rattle.proto_descriptors.specs.declared.message.MessageDescriptor.TheFolds.{fold_out-MessageDescriptor}
 
 pub message_texts-of : (ts : List MessageTree) → message_texts (messages_of ts) ≡ map tree_text ts
 message_texts-of [] = refl

@@ -2,16 +2,16 @@
 use Rattle.std.specs.Prelude.{◌≡◌, List, true}
 use Rattle.proto_faults.specs.Texts.{Text}
 use Rattle.proto_json.specs.DescriptorText.{field_slots, field_options_slots, enum_slots, enum_value_slots, enum_range_slots, enum_options_slots, enum_value_options_slots, message_slots, range_slots, message_options_slots, service_slots, method_slots, service_options_slots, method_options_slots, file_slots, file_options_slots}
-use Rattle.proto_json.specs.Descriptors.{FieldDesc, EnumValueDesc, EnumDesc, MessageDesc, MethodDesc, ServiceDesc, FileOptionsDesc, FileDesc}
+use Rattle.proto_descriptors.specs.Descriptors.{FieldDesc, EnumValueDesc, EnumDesc, MessageDesc, MethodDesc, ServiceDesc, FileOptionsDesc, FileDesc}
 use Rattle.proto_json.specs.JsonText.{Slot, are_rising, keys_of}
-use Rattle.proto_json.specs.declared.enumeration.EnumOptions.{EnumOptions}
-use Rattle.proto_json.specs.declared.enumeration.EnumReservedRange.{EnumReservedRange}
-use Rattle.proto_json.specs.declared.enumeration.EnumValueOptions.{EnumValueOptions}
-use Rattle.proto_json.specs.declared.field.FieldOptions.{FieldOptions}
-use Rattle.proto_json.specs.declared.message.MessageOptions.{MessageOptions}
-use Rattle.proto_json.specs.declared.message.NumberRange.{NumberRange}
-use Rattle.proto_json.specs.declared.service.MethodOptions.{MethodOptions}
-use Rattle.proto_json.specs.declared.service.ServiceOptions.{ServiceOptions}
+use Rattle.proto_descriptors.specs.declared.enumeration.EnumOptions.{EnumOptions}
+use Rattle.proto_descriptors.specs.declared.enumeration.EnumReservedRange.{EnumReservedRange}
+use Rattle.proto_descriptors.specs.declared.enumeration.EnumValueOptions.{EnumValueOptions}
+use Rattle.proto_descriptors.specs.declared.field.FieldOptions.{FieldOptions}
+use Rattle.proto_descriptors.specs.declared.message.MessageOptions.{MessageOptions}
+use Rattle.proto_descriptors.specs.declared.message.NumberRange.{NumberRange}
+use Rattle.proto_descriptors.specs.declared.service.MethodOptions.{MethodOptions}
+use Rattle.proto_descriptors.specs.declared.service.ServiceOptions.{ServiceOptions}
 
 -- the keys are in the order of their bytes, each once
 abbrev pub IsInKeyOrder : List Slot → Type 0

@@ -1,9 +1,9 @@
 -- The text of a message in Rust's form, by its own level and those nested in it.
 use Rattle.std.specs.Prelude.{List}
 use Rattle.proto_faults.specs.Texts.{Text}
-use Rattle.proto_json.specs.declared.message.MessageDescriptor.{MessageDescriptor, out-MessageDescriptor}
+use Rattle.proto_descriptors.specs.declared.message.MessageDescriptor.{MessageDescriptor, out-MessageDescriptor}
 use Rattle.proto_json.specs.DescriptorText.{message_text, message_texts}
-use Rattle.proto_json.specs.Views.{MessageTree, message_desc}
+use Rattle.proto_descriptors.specs.Views.{MessageTree, message_desc}
 
 -- the object of a message, with the texts of those nested in it
 abbrev pub tree_text : MessageTree → Text

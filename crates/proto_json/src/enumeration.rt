@@ -1,66 +1,18 @@
-//! Enums and their values.
+//! The text of enums and their values.
 
 ghost use Rattle.std.specs.Prelude.{◌≡◌, IfOk};
 ghost use Rattle.proto_json.specs.DescriptorText.{enum_text, enum_value_text, enum_range_text, enum_options_slots, enum_value_options_slots};
 ghost use Rattle.proto_json.specs.JsonText.{object_if_any};
-ghost use Rattle.proto_json.specs.Views.{enum_desc, enum_value_desc};
+ghost use Rattle.proto_descriptors.specs.Views.{enum_desc, enum_value_desc};
 
 use crate::json_value::Json;
 use crate::members::Members;
 use crate::values::ToJson;
+use proto_descriptors::{
+    EnumDescriptor, EnumOptions, EnumReservedRange, EnumValueDescriptor, EnumValueOptions,
+};
 use proto_faults::NoMemory;
 use std::alloc::Global;
-
-/// An enum. All lists are in source order.
-#[derive(Drop)]
-pub struct EnumDescriptor {
-    /// The name that its declaration gives it.
-    pub name: String,
-    /// The values.
-    pub value: Vec<EnumValueDescriptor>,
-    /// The numbers that no value may have.
-    pub reserved_range: Vec<EnumReservedRange>,
-    /// The names that no value may have.
-    pub reserved_name: Vec<String>,
-    /// The options in its block.
-    pub options: EnumOptions,
-}
-
-/// A value of an enum.
-#[derive(Drop)]
-pub struct EnumValueDescriptor {
-    /// Its name.
-    pub name: String,
-    /// Its number.
-    pub number: i32,
-    /// The options in brackets behind it.
-    pub options: EnumValueOptions,
-}
-
-/// Numbers from `start` to `end`, both among them.
-#[derive(Clone, Copy)]
-pub struct EnumReservedRange {
-    /// The first number.
-    pub start: i32,
-    /// The last number.
-    pub end: i32,
-}
-
-/// The options that stand in an enum.
-#[derive(Clone, Copy)]
-pub struct EnumOptions {
-    /// Whether two values may have one number.
-    pub allow_alias: Option<bool>,
-    /// Whether the enum is no longer to be used.
-    pub deprecated: Option<bool>,
-}
-
-/// The options that stand at a value of an enum.
-#[derive(Clone, Copy)]
-pub struct EnumValueOptions {
-    /// Whether the value is no longer to be used.
-    pub deprecated: Option<bool>,
-}
 
 impl ToJson for EnumDescriptor {
     ghost text = { λ e. enum_text (enum_desc e) };
@@ -68,7 +20,7 @@ impl ToJson for EnumDescriptor {
     fn to_json(&self, alloc: Global) -> Result<Json, NoMemory> {
         let mut members = Members::new(alloc);
         members.put_value("name", &self.name);
-        members.put("options", self.options.to_json(alloc));
+        members.put("options", enum_options(alloc, &self.options));
         members.put_list("reservedName", &self.reserved_name);
         members.put_list("reservedRange", &self.reserved_range);
         members.put_list("value", &self.value);
@@ -83,7 +35,7 @@ impl ToJson for EnumValueDescriptor {
         let mut members = Members::new(alloc);
         members.put_value("name", &self.name);
         members.put_value("number", &self.number);
-        members.put("options", self.options.to_json(alloc));
+        members.put("options", enum_value_options(alloc, &self.options));
         members.into_object()
     }
 }
@@ -99,23 +51,21 @@ impl ToJson for EnumReservedRange {
     }
 }
 
-impl EnumOptions {
-    fn to_json(&self, alloc: Global) -> Result<Option<Json>, NoMemory>
-        ensures { IfOk result (λ o. o ≡ object_if_any (enum_options_slots self.now)) }
-    {
-        let mut members = Members::new(alloc);
-        members.put_optional("allowAlias", &self.allow_alias);
-        members.put_optional("deprecated", &self.deprecated);
-        members.into_object_if_any()
-    }
+/// The options in an enum, left out where none is written.
+fn enum_options(alloc: Global, options: &EnumOptions) -> Result<Option<Json>, NoMemory>
+    ensures { IfOk result (λ o. o ≡ object_if_any (enum_options_slots options.now)) }
+{
+    let mut members = Members::new(alloc);
+    members.put_optional("allowAlias", &options.allow_alias);
+    members.put_optional("deprecated", &options.deprecated);
+    members.into_object_if_any()
 }
 
-impl EnumValueOptions {
-    fn to_json(&self, alloc: Global) -> Result<Option<Json>, NoMemory>
-        ensures { IfOk result (λ o. o ≡ object_if_any (enum_value_options_slots self.now)) }
-    {
-        let mut members = Members::new(alloc);
-        members.put_optional("deprecated", &self.deprecated);
-        members.into_object_if_any()
-    }
+/// The option at a value of an enum, left out where it is not written.
+fn enum_value_options(alloc: Global, options: &EnumValueOptions) -> Result<Option<Json>, NoMemory>
+    ensures { IfOk result (λ o. o ≡ object_if_any (enum_value_options_slots options.now)) }
+{
+    let mut members = Members::new(alloc);
+    members.put_optional("deprecated", &options.deprecated);
+    members.into_object_if_any()
 }

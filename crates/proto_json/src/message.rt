@@ -1,67 +1,18 @@
-//! Messages, with those nested in them.
+//! The text of messages, with those nested in them.
 
 ghost use Rattle.std.specs.Prelude.{◌≡◌, IfOk};
 ghost use Rattle.proto_json.specs.DescriptorText.{message_texts, range_text, oneof_text, message_options_slots};
 ghost use Rattle.proto_json.specs.JsonText.{object_if_any};
-ghost use Rattle.proto_json.specs.Views.{oneof_desc, message_tree, messages_desc};
+ghost use Rattle.proto_descriptors.specs.Views.{oneof_desc, message_tree, messages_desc};
 ghost use Rattle.proto_json.specs.MessageText.{tree_text, level_text};
 
-use crate::enumeration::EnumDescriptor;
-use crate::field::FieldDescriptor;
 use crate::items::Items;
 use crate::json_value::Json;
 use crate::members::Members;
 use crate::values::ToJson;
+use proto_descriptors::{MessageDescriptor, MessageOptions, NumberRange, OneofDescriptor};
 use proto_faults::NoMemory;
 use std::alloc::Global;
-
-/// A message, its lists in source order; a map field's entry is in `nested_type` at its place.
-#[derive(Drop)]
-pub struct MessageDescriptor {
-    /// The name that its declaration gives it.
-    pub name: String,
-    /// The fields, those of its oneofs among them.
-    pub field: Vec<FieldDescriptor>,
-    /// The messages right in it, and the entries of its map fields.
-    pub nested_type: Vec<MessageDescriptor>,
-    /// The enums right in it.
-    pub enum_type: Vec<EnumDescriptor>,
-    /// The numbers that are left to extensions.
-    pub extension_range: Vec<NumberRange>,
-    /// The oneofs.
-    pub oneof_decl: Vec<OneofDescriptor>,
-    /// The numbers that no field may have.
-    pub reserved_range: Vec<NumberRange>,
-    /// The names that no field may have.
-    pub reserved_name: Vec<String>,
-    /// The options right in its block.
-    pub options: MessageOptions,
-}
-
-/// Field numbers from `start` up to `end`, which is not one of them.
-#[derive(Clone, Copy)]
-pub struct NumberRange {
-    /// The first number.
-    pub start: u32,
-    /// The number behind the last.
-    pub end: u32,
-}
-
-/// A oneof.
-#[derive(Drop)]
-pub struct OneofDescriptor {
-    /// Its name.
-    pub name: String,
-}
-
-/// The options that stand in a message.
-#[derive(Clone, Copy)]
-pub struct MessageOptions {
-    /// Whether the message is no longer to be used.
-    pub deprecated: Option<bool>,
-    /// Whether the message was made for a map field.
-    pub map_entry: bool,
-}
 
 /// The messages, each with those nested in it, as the items of a list.
 #[cycle(messages)]
@@ -101,7 +52,7 @@ fn message_around(
     members.put_value("name", &message.name);
     members.put("nestedType", Ok(nested.into_array_if_any()));
     members.put_list("oneofDecl", &message.oneof_decl);
-    members.put("options", message.options.to_json(alloc));
+    members.put("options", message_options(alloc, &message.options));
     members.put_list("reservedName", &message.reserved_name);
     members.put_list("reservedRange", &message.reserved_range);
     members.into_object()
@@ -128,13 +79,12 @@ impl ToJson for OneofDescriptor {
     }
 }
 
-impl MessageOptions {
-    fn to_json(&self, alloc: Global) -> Result<Option<Json>, NoMemory>
-        ensures { IfOk result (λ o. o ≡ object_if_any (message_options_slots self.now)) }
-    {
-        let mut members = Members::new(alloc);
-        members.put_optional("deprecated", &self.deprecated);
-        members.put("mapEntry", Ok(Json::mark(self.map_entry)));
-        members.into_object_if_any()
-    }
+/// The options in a message, left out where there is nothing to say.
+fn message_options(alloc: Global, options: &MessageOptions) -> Result<Option<Json>, NoMemory>
+    ensures { IfOk result (λ o. o ≡ object_if_any (message_options_slots options.now)) }
+{
+    let mut members = Members::new(alloc);
+    members.put_optional("deprecated", &options.deprecated);
+    members.put("mapEntry", Ok(Json::mark(options.map_entry)));
+    members.into_object_if_any()
 }

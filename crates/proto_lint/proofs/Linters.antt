@@ -10,10 +10,10 @@ use Rattle.proto_findings.specs.Readings.{package_words, read_of_file, Reading}
 use Rattle.proto_findings.specs.Placed.{Found}
 use Rattle.proto_block_rules.specs.Blocks.{file_blocks}
 use Rattle.proto_block_rules.specs.BlockFinds.{all_messages, blocks_finds}
-use Rattle.proto_file_rules.specs.Heads.{head_of_file, heads}
-use Rattle.proto_file_rules.specs.Imports.{imports_finds}
-use Rattle.proto_file_rules.specs.Packages.{Head, head_finds, package_name}
-use Rattle.proto_file_rules.proofs.FileHeads.{heads_at, heads_count}
+use Rattle.proto_lint.specs.Heads.{head_of_file, heads}
+use Rattle.proto_lint.specs.Imports.{imports_finds}
+use Rattle.proto_lint.specs.Packages.{Head, head_finds, package_name}
+use Rattle.proto_lint.proofs.FileHeads.{heads_at, heads_count}
 use Rattle.proto_lint.specs.Findings.{file_finds}
 
 -- each file has a head

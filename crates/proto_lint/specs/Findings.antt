@@ -8,9 +8,9 @@ use Rattle.proto_findings.specs.Placed.{Found}
 use Rattle.proto_findings.specs.Listings.{found_in}
 use Rattle.proto_block_rules.specs.Blocks.{file_blocks}
 use Rattle.proto_block_rules.specs.BlockFinds.{all_messages, blocks_finds}
-use Rattle.proto_file_rules.specs.Imports.{imports_finds}
-use Rattle.proto_file_rules.specs.Packages.{head_finds}
-use Rattle.proto_file_rules.specs.Heads.{head_of_file, heads}
+use Rattle.proto_lint.specs.Imports.{imports_finds}
+use Rattle.proto_lint.specs.Packages.{head_finds}
+use Rattle.proto_lint.specs.Heads.{head_of_file, heads}
 pub use Rattle.proto_findings.specs.Listings.{FindingOf, IsListingOf}
 
 -- what the rules find in a file, by its number: at its head, its imports and its blocks

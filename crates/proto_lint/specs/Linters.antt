@@ -3,8 +3,8 @@ use Rattle.std.specs.Prelude.{◌≡◌, List}
 use Rattle.proto_files.specs.FilesRead.{ReadOf, AreRead}
 use Rattle.proto_names.specs.LinkOfFiles.{IsLinkOf}
 use Rattle.proto_block_rules.specs.BlockFinds.{all_messages}
-use Rattle.proto_file_rules.specs.Heads.{heads}
-use Rattle.proto_file_rules.specs.ImportTables.{AreImportsOf}
+use Rattle.proto_lint.specs.Heads.{heads}
+use Rattle.proto_lint.specs.ImportTables.{AreImportsOf}
 use Rattle.proto_lint.specs.declared.linting.Linter.{Linter}
 
 -- a linter has a workspace that is linked, and looks up in it what is so: the heads of its files,

@@ -1,7 +1,12 @@
-//! Lint rules over linked schemas, and what they find.
+//! Lint rules over linked schemas, and what they find: the rules of packages, paths, syntax and
+//! imports, and the findings of all rules.
 #![tactic(auto)]
 
+mod heads;
+mod imports;
 mod linting;
+mod packages;
+mod uses;
 
 pub use linting::lint;
 pub use proto_faults::NoMemory;

@@ -1,19 +1,20 @@
 //! Linting.
 
-ghost use Rattle.std.specs.Prelude.{◌≡◌, ◌<◌, ◌++◌, List, length, map, IfOk, OnOk};
+ghost use Rattle.std.specs.Prelude.{◌≡◌, ◌<◌, List, length, map, IfOk};
 ghost use Rattle.proto_files.specs.FilesRead.{ReadOf, AreRead};
 ghost use Rattle.proto_names.specs.LinkOfFiles.{IsLinkOf};
-ghost use Rattle.proto_block_rules.specs.BlockFinds.{all_messages};
-ghost use Rattle.proto_findings.specs.Listings.{IsListingOf, found_in};
+ghost use Rattle.proto_findings.specs.Listings.{IsListingOf};
 ghost use Rattle.proto_findings.specs.Views.{finding_of, found_of};
 ghost use Rattle.proto_lint.specs.Findings.{file_finds, findings};
 ghost use Rattle.proto_lint.specs.Linters.{IsLinter};
 
-use proto_block_rules::{Messages, Walk, add_blocks, all_messages};
+use crate::heads::Heads;
+use crate::imports::{Imports, add_imports};
+use crate::packages::add_head;
+use proto_block_rules::{Messages, Walk, add_blocks, messages_of};
 use proto_faults::NoMemory;
-use proto_file_rules::{Heads, Imports, add_head, add_imports};
 use proto_files::Files;
-use proto_findings::{Finding, Found, Reading, RuleSet, listed};
+use proto_findings::{Finding, Found, Reading, RuleSet, add_findings, listed};
 use proto_names::{Link, are_read};
 use std::alloc::Global;
 
@@ -26,42 +27,6 @@ struct Linter<'a> {
     heads: Heads<'a>,
     imports: Imports,
     messages: Messages<'a>,
-}
-
-/// Adds what was found in the file at a path.
-fn add_findings(
-    alloc: Global,
-    all: &mut Vec<Finding>,
-    path: &str,
-    found: Vec<Found>,
-) -> Result<(), NoMemory>
-    ensures { OnOk result (map finding_of all.new.items
-        ≡ map finding_of all.old.items ++ map (found_in path.now) (map found_of found.items)) }
-{
-    for Found { offset, rule, name } in found {
-        let path = String::from_str(alloc, path)?;
-        all.push(Finding {
-            path,
-            offset,
-            rule,
-            name,
-        })?;
-    }
-    Ok(())
-}
-
-/// The messages of all methods of a workspace.
-fn messages_of<'a>(
-    alloc: Global,
-    files: &'a Files,
-    link: &'a Link,
-) -> Result<Messages<'a>, NoMemory>
-    requires { IsLinkOf files.now link.now }
-    ensures { IfOk result (λ m. (reads : List ReadOf)
-        → AreRead files.now reads → m ≡ all_messages files.now reads) }
-{
-    let all = all_messages(alloc, files, link)?;
-    Messages::new(alloc, all)
 }
 
 impl<'a> Linter<'a> {

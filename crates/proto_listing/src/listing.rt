@@ -58,7 +58,7 @@ pub struct Listing<'a> {
 
 impl<'a> Listing<'a> {
     /// No entries and no references yet.
-    pub fn new(alloc: Global) -> Listing<'a>
+    pub(crate) fn new(alloc: Global) -> Listing<'a>
         ensures declared { result.declared.items ≡ [] }
         ensures used { result.used.items ≡ [] }
     {
@@ -69,7 +69,7 @@ impl<'a> Listing<'a> {
     }
 
     /// Adds an entry; answers its index.
-    pub fn add(&mut self, entry: Listed) -> Result<usize, NoMemory>
+    pub(crate) fn add(&mut self, entry: Listed) -> Result<usize, NoMemory>
         requires within { needs entry.above ≤ length self.old.declared.items }
         requires token { last_token (whole
             (seen (path_at (read self.old.declared.items) entry.above) entry)) ≡ Some entry.token }
@@ -84,7 +84,7 @@ impl<'a> Listing<'a> {
     }
 
     /// Adds a declaration whose last word is the text of its token; answers its index.
-    pub fn name(&mut self, above: Above, token: u32, kind: Kind) -> Result<usize, NoMemory>
+    pub(crate) fn name(&mut self, above: Above, token: u32, kind: Kind) -> Result<usize, NoMemory>
         requires { needs above ≤ length self.old.declared.items }
         ensures index { IfOk result (λ k. (k ≡ length self.old.declared.items)
             × (k < length self.new.declared.items)) }
@@ -101,7 +101,7 @@ impl<'a> Listing<'a> {
     }
 
     /// Adds a reference.
-    pub fn refer(
+    pub(crate) fn refer(
         &mut self,
         scope: usize,
         is_method: bool,

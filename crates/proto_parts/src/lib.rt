@@ -27,7 +27,7 @@ pub use option_statements::{
 pub use option_values::{
     is_allowed, option_named, text_option, text_value, truth, truth_option, word, word_option,
 };
-pub use options::{Element, ValueKind, value_kind};
+pub use options::Element;
 pub use ranges::{
     RangeAt, closed_ranges, enum_ranges, extension_ranges, extension_words, meet, reserved_ranges,
 };

@@ -48,7 +48,7 @@ fn file_option(name: &str) -> Option<ValueKind>
 }
 
 /// The kind of the value of an element's option, where the element may have the option.
-pub fn value_kind(element: Element, name: &str) -> Option<ValueKind>
+pub(crate) fn value_kind(element: Element, name: &str) -> Option<ValueKind>
     ensures { result ≡ value_kind_of element name.now }
 {
     match (element, name) {

@@ -1,5 +1,13 @@
+pub mod TornStores
+mod Apart
+mod Comebacks
 mod CompactText
 mod JournalLists
 mod Lines
+mod OldFiles
+mod OldTexts
+mod OneRecovery
+mod Outcomes
+mod PutBack
 mod ReadSteps
 mod RecordTexts

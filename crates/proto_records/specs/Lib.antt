@@ -1,4 +1,10 @@
-pub mod RecordText
-pub mod Journals
 pub mod FaultTable
+pub mod Journals
+pub mod Known
 pub mod Laws
+pub mod ReadJournals
+pub mod RecordText
+pub mod Recovery
+pub mod RecoveryLaws
+pub mod Restoring
+pub mod Torn

@@ -1,16 +1,21 @@
-//! The text of the journal: its records, a line each, and what
-//! may be wrong with a journal. No schema is needed here.
+//! The text of the journal: its records, a line each, what may be wrong with a journal, and how a
+//! store comes back that a failed call left in the midst of an entry. No schema is needed here.
 #![tactic(auto)]
 
 mod fault;
 mod journal;
 pub mod laws;
+mod putting;
 mod reading;
 mod record;
+mod recovering;
+pub mod recovery_laws;
+mod restoring;
 mod writing;
 
 pub use fault::JournalFault;
 pub use journal::{last_is_open, read_records, with_record, without_last};
 pub use reading::read_entry;
 pub use record::{Record, State};
+pub use recovering::recover;
 pub use writing::{entry_text, state_text};

@@ -27,15 +27,15 @@ use Rattle.proto_parts.specs.Labels.{is_label}
 use Rattle.proto_numbers.specs.NumberFlaws.{bound_of, end_of, enum_range_of, first_of_signed, most_field, most_value, range_of}
 use Rattle.proto_parts.specs.declared.ranges.RangeAt.{RangeAt}
 use Rattle.proto_checks_laws.specs.Renamed.{DifferInNames, SameButValues, constant_tokens, end_tokens, enum_tokens, field_tokens, message_tokens, option_tokens, range_tokens, scalar_tokens, up_to_tokens, value_tokens}
-use Rattle.proto_json.specs.declared.enumeration.EnumOptions.{EnumOptions}
-use Rattle.proto_json.specs.declared.field.FieldOptions.{FieldOptions}
-use Rattle.proto_json.specs.declared.message.MessageOptions.{MessageOptions}
-use Rattle.proto_json.specs.declared.service.IdempotencyLevel.{IdempotencyLevel}
-use Rattle.proto_json.specs.declared.service.MethodOptions.{MethodOptions}
-use Rattle.proto_json.specs.declared.file.OptimizeMode.{OptimizeMode}
-use Rattle.proto_json.specs.Descriptors.{FileOptionsDesc}
-use Rattle.proto_json.specs.declared.field.FieldType.TheVariants as field_type
-use Rattle.proto_json.specs.declared.field.Label.TheVariants as label
+use Rattle.proto_descriptors.specs.declared.enumeration.EnumOptions.{EnumOptions}
+use Rattle.proto_descriptors.specs.declared.field.FieldOptions.{FieldOptions}
+use Rattle.proto_descriptors.specs.declared.message.MessageOptions.{MessageOptions}
+use Rattle.proto_descriptors.specs.declared.service.IdempotencyLevel.{IdempotencyLevel}
+use Rattle.proto_descriptors.specs.declared.service.MethodOptions.{MethodOptions}
+use Rattle.proto_descriptors.specs.declared.file.OptimizeMode.{OptimizeMode}
+use Rattle.proto_descriptors.specs.Descriptors.{FileOptionsDesc}
+use Rattle.proto_descriptors.specs.declared.field.FieldType.TheVariants as field_type
+use Rattle.proto_descriptors.specs.declared.field.Label.TheVariants as label
 use Rattle.proto_described.specs.Described.{enum_options, field_number, file_options, is_map, level_named, message_options, method_options, mode_named, number_range, scalar_type, type_of, value_described, value_number, value_range}
 use Rattle.proto_rename_laws.proofs.Places.{from_flat_map, to_flat_map}
 use Rattle.proto_rename_laws.proofs.Scenes.{find_agree, find_there}

@@ -29,17 +29,17 @@ use Rattle.proto_parts.specs.Options.{value_named}
 use Rattle.proto_parts.specs.Parts.{FieldOf, OptionOf, fields_in, values_in, reserved_names_in, options_in}
 use Rattle.proto_parts.specs.Scenes.{MeantOf, Scene, text, value, meant_by}
 use Rattle.proto_parts.specs.JsonNames.{json_word, json_name_of, written_or}
-use Rattle.proto_json.specs.declared.enumeration.EnumOptions.{EnumOptions}
-use Rattle.proto_json.specs.declared.enumeration.EnumReservedRange.{EnumReservedRange}
-use Rattle.proto_json.specs.declared.field.FieldOptions.{FieldOptions}
-use Rattle.proto_json.specs.declared.field.FieldType.{FieldType}
-use Rattle.proto_json.specs.declared.field.Label.{Label}
-use Rattle.proto_json.specs.declared.file.Syntax.{Syntax}
-use Rattle.proto_json.specs.declared.service.MethodOptions.{MethodOptions}
-use Rattle.proto_json.specs.declared.message.MessageOptions.{MessageOptions}
-use Rattle.proto_json.specs.declared.message.NumberRange.{NumberRange}
-use Rattle.proto_json.specs.Descriptors.{FieldDesc, EnumValueDesc, EnumDesc, MessageDesc, Messages, NoMessages, Message, MethodDesc, ServiceDesc, FileOptionsDesc, FileDesc}
-use Rattle.proto_json.specs.declared.file.Syntax.TheVariants as syntax
+use Rattle.proto_descriptors.specs.declared.enumeration.EnumOptions.{EnumOptions}
+use Rattle.proto_descriptors.specs.declared.enumeration.EnumReservedRange.{EnumReservedRange}
+use Rattle.proto_descriptors.specs.declared.field.FieldOptions.{FieldOptions}
+use Rattle.proto_descriptors.specs.declared.field.FieldType.{FieldType}
+use Rattle.proto_descriptors.specs.declared.field.Label.{Label}
+use Rattle.proto_descriptors.specs.declared.file.Syntax.{Syntax}
+use Rattle.proto_descriptors.specs.declared.service.MethodOptions.{MethodOptions}
+use Rattle.proto_descriptors.specs.declared.message.MessageOptions.{MessageOptions}
+use Rattle.proto_descriptors.specs.declared.message.NumberRange.{NumberRange}
+use Rattle.proto_descriptors.specs.Descriptors.{FieldDesc, EnumValueDesc, EnumDesc, MessageDesc, Messages, NoMessages, Message, MethodDesc, ServiceDesc, FileOptionsDesc, FileDesc}
+use Rattle.proto_descriptors.specs.declared.file.Syntax.TheVariants as syntax
 use Rattle.proto_described.specs.Described.{absolute, below, default_text, entry_described, entry_field, enum_described, enums_described, field_described, field_type_name, is_map, message_described, messages_described, method_described, methods_described, oneof_names, or_nothing, package_named, package_prefix, scalar_type, services_described, type_name_of, type_of, type_text, value_described}
 use Rattle.proto_rename_described.specs.Mapped.{Taken, behind_first, dotted, mapped_default, mapped_enum, mapped_field, mapped_json, mapped_message, mapped_messages, mapped_method, mapped_name, mapped_service, mapped_value, parts, put_first, word_under, words_of}
 use Rattle.proto_rename_described.specs.Turns.{DescriptorsAreMapped, EntryTurns, EnumTurns, FieldTurns, IsUnder, MessageTurns, MethodTurns, MethodsTurn, Turned, Turns, ValueTurns, full, is_target, written_json}

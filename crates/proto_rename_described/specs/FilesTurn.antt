@@ -4,7 +4,7 @@ use Rattle.std.specs.Prelude.{◌≡◌, ℕ, ◌<◌, Bool, List, length, None}
 use Rattle.proto_faults.specs.Texts.{Text}
 use Rattle.proto_files.specs.GivenFiles.{FileOf}
 use Rattle.proto_files.specs.FilesRead.{ReadOf, read_at}
-use Rattle.proto_json.specs.Descriptors.{FileDesc}
+use Rattle.proto_descriptors.specs.Descriptors.{FileDesc}
 use Rattle.proto_rename_laws.specs.SceneOf.{scene_of}
 use Rattle.proto_desc.specs.Checked.{AreDescribed, described}
 use Rattle.proto_rename_laws.specs.Rewording.{AreReworded}

@@ -5,7 +5,7 @@ use Rattle.proto_faults.specs.Texts.{Text}
 use Rattle.proto_meaning.specs.Edits.{Renaming, ren, target, turned}
 use Rattle.proto_meaning.specs.Names.{same_name}
 use Rattle.proto_parts.specs.JsonNames.{json_word}
-use Rattle.proto_json.specs.Descriptors.{FieldDesc, EnumValueDesc, EnumDesc, MessageDesc, Messages, NoMessages, Message, MethodDesc, ServiceDesc, FileDesc}
+use Rattle.proto_descriptors.specs.Descriptors.{FieldDesc, EnumValueDesc, EnumDesc, MessageDesc, Messages, NoMessages, Message, MethodDesc, ServiceDesc, FileDesc}
 use Rattle.proto_described.specs.Described.{package_prefix}
 
 -- ---- full names as text: each word behind a dot

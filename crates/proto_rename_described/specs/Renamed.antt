@@ -7,7 +7,7 @@ use Rattle.proto_files.specs.GivenFiles.{FileOf}
 use Rattle.proto_parts.specs.Options.{text_option}
 use Rattle.proto_parts.specs.Parts.{BlockOf, FieldOf}
 use Rattle.proto_parts.specs.Scenes.{text, value}
-use Rattle.proto_json.specs.Descriptors.{FileDesc}
+use Rattle.proto_descriptors.specs.Descriptors.{FileDesc}
 use Rattle.proto_rename_laws.specs.Cases.{IsFieldIn, scene_at}
 use Rattle.proto_rename_laws.specs.Targets.{Target, name_map}
 use Rattle.proto_rename_described.specs.Mapped.{mapped}

@@ -2,10 +2,9 @@
 //! one allocation this test still passes, whichever it is.
 
 use crate::calls::*;
-use proto_desc::to_json;
+use proto_desc::{Schema, to_json};
 use proto_faults::{NoMemory, SchemaFault};
 use proto_lint::{Finding, RuleSet, lint};
-use proto_schema::Schema;
 use std::alloc::Global;
 use std::fmt::Write;
 use std::process::Abort;

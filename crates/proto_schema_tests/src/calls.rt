@@ -1,9 +1,8 @@
 //! Compiling, with what tests say of the answers.
 
 use crate::allocations::{Row, expect_kept};
-use proto_desc::to_json;
+use proto_desc::{Schema, to_json};
 use proto_faults::{NoMemory, SchemaFault};
-use proto_schema::Schema;
 use std::alloc::Global;
 use std::process::Abort;
 

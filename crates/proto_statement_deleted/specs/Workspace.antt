@@ -9,7 +9,7 @@ use Rattle.proto_files.specs.GivenFiles.{AreWorkspaceFiles, FileOf, file_at}
 use Rattle.proto_files.specs.ReadFaults.{ReadFaults}
 use Rattle.proto_meaning.specs.Grown.{at}
 use Rattle.proto_imports.specs.Links.{LinkFaults}
-use Rattle.proto_json.specs.Descriptors.{FileDesc}
+use Rattle.proto_descriptors.specs.Descriptors.{FileDesc}
 use Rattle.proto_statement_described.specs.Checked.{AreDescribed, CheckFaults}
 use Rattle.proto_statement_names.specs.Targets.{Target}
 use Rattle.proto_entries.specs.Entries.{IsEntry}

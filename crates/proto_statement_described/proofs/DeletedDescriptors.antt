@@ -18,12 +18,12 @@ use Rattle.proto_numbers.specs.NumberFlaws.{range_of}
 use Rattle.proto_checks_laws.proofs.MovedParts.{flat_moved, maps_kept, some_kept, extension_ranges_moved, move_field_of, move_option_of, options_moved, reserved_ranges_moved, statement_names_moved, statement_options_moved}
 use Rattle.proto_listing.specs.FromTree.{Wanted, imports_in, items_in, statement_imports}
 use Rattle.proto_meaning.specs.Tree.{package_of}
-use Rattle.proto_json.specs.declared.file.Syntax.TheVariants as syntax
+use Rattle.proto_descriptors.specs.declared.file.Syntax.TheVariants as syntax
 use Rattle.proto_described.specs.Described.{field_number, file_options, package_named, package_prefix, public_places, services_described, below, entry_described, message_options, enums_described, field_described, message_described, messages_described, number_range, oneof_names}
-use Rattle.proto_json.specs.declared.message.NumberRange.{NumberRange}
+use Rattle.proto_descriptors.specs.declared.message.NumberRange.{NumberRange}
 use Rattle.proto_parts.specs.Options.{truth_option}
 use Rattle.proto_checks_laws.proofs.MovedFlaws.{range_moved}
-use Rattle.proto_json.specs.Descriptors.{FileDesc, FileOptionsDesc, ServiceDesc, EnumDesc, FieldDesc, MessageDesc, Messages, NoMessages, Message}
+use Rattle.proto_descriptors.specs.Descriptors.{FileDesc, FileOptionsDesc, ServiceDesc, EnumDesc, FieldDesc, MessageDesc, Messages, NoMessages, Message}
 use Rattle.proto_statement_described.specs.Deletions.{Deeper, AtField, AtOneof, BehindBlock, BehindLeaf, InMessage, IsDeletedIn, IsDeletedRight, PastBlock, PastLeaf, Plain, OfMap, Reservation, Reserves, WrittenField, field_of, name_of, reserved, statement_of}
 use Rattle.proto_statement_described.proofs.Parts.{IsReader, named_one, no_ranges, no_words, nothing_with, numbered_one, new_fields, new_read, old_fields, old_read, outer_fields, outer_statements}
 use Rattle.proto_statement_described.specs.Imports.{move_wanted}

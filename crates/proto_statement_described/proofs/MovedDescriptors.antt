@@ -32,16 +32,16 @@ use Rattle.proto_numbers.specs.NumberFlaws.{enum_range_of, range_of}
 use Rattle.proto_checks_laws.proofs.MovedParts.{enum_ranges_moved, extension_ranges_moved, fields_moved, file_options_moved, find_moved, flat_kept, given_moved, maps_kept, move_field_of, move_option_of, options_moved, reserved_names_moved, reserved_ranges_moved, settings_moved, some_kept, values_moved}
 use Rattle.proto_checks_laws.proofs.MovedFlaws.{enum_range_moved, json_name_moved, label_moved, named_moved, number_moved, range_moved, signed_moved, text_moved, word_moved}
 use Rattle.proto_described.specs.Described.{absolute, below, default_number, default_text, entry_described, entry_field, enum_described, enum_options, enums_described, field_described, field_number, field_options, field_type_name, field_type_of, file_described, file_options, is_map, label_of, message_described, messages_described, method_described, methods_described, mode_named, level_named, number_range, oneof_names, or_nothing, package_named, package_prefix, public_places, scalar_type, service_described, services_described, type_name_of, type_of, type_text, value_described, value_number, value_range}
-use Rattle.proto_json.specs.declared.enumeration.EnumOptions.{EnumOptions}
-use Rattle.proto_json.specs.declared.enumeration.EnumReservedRange.{EnumReservedRange}
-use Rattle.proto_json.specs.declared.field.FieldOptions.{FieldOptions}
-use Rattle.proto_json.specs.declared.field.FieldType.{FieldType}
-use Rattle.proto_json.specs.declared.field.FieldType.TheVariants as field_type
-use Rattle.proto_json.specs.declared.field.Label.{Label}
-use Rattle.proto_json.specs.declared.field.Label.TheVariants as label
-use Rattle.proto_json.specs.declared.message.NumberRange.{NumberRange}
-use Rattle.proto_json.specs.declared.file.Syntax.TheVariants as syntax
-use Rattle.proto_json.specs.Descriptors.{FieldDesc, EnumValueDesc, EnumDesc, MessageDesc, Messages, NoMessages, Message, MethodDesc, ServiceDesc, FileOptionsDesc, FileDesc}
+use Rattle.proto_descriptors.specs.declared.enumeration.EnumOptions.{EnumOptions}
+use Rattle.proto_descriptors.specs.declared.enumeration.EnumReservedRange.{EnumReservedRange}
+use Rattle.proto_descriptors.specs.declared.field.FieldOptions.{FieldOptions}
+use Rattle.proto_descriptors.specs.declared.field.FieldType.{FieldType}
+use Rattle.proto_descriptors.specs.declared.field.FieldType.TheVariants as field_type
+use Rattle.proto_descriptors.specs.declared.field.Label.{Label}
+use Rattle.proto_descriptors.specs.declared.field.Label.TheVariants as label
+use Rattle.proto_descriptors.specs.declared.message.NumberRange.{NumberRange}
+use Rattle.proto_descriptors.specs.declared.file.Syntax.TheVariants as syntax
+use Rattle.proto_descriptors.specs.Descriptors.{FieldDesc, EnumValueDesc, EnumDesc, MessageDesc, Messages, NoMessages, Message, MethodDesc, ServiceDesc, FileOptionsDesc, FileDesc}
 use Rattle.proto_statement_described.specs.Imports.{with_imports}
 use Rattle.proto_statement_described.specs.Scenes.{IsMovedScene}
 

@@ -14,7 +14,7 @@ use Rattle.proto_checks.specs.FileFlaws.{file_flaws}
 use Rattle.proto_checks_laws.specs.Imports.{moved}
 use Rattle.proto_checks_laws.proofs.MovedFlaws.{imports_move_flaws}
 use Rattle.proto_described.specs.Described.{file_described}
-use Rattle.proto_json.specs.Descriptors.{FileDesc}
+use Rattle.proto_descriptors.specs.Descriptors.{FileDesc}
 use Rattle.proto_desc.specs.Checked.{CheckFaults, described_from, fault_of, flaws_of, of_flaw}
 use Rattle.proto_statement_described.specs.Files.{AdditionsLeaveNoFault, AdditionsMapDescriptors, DeletionsLeaveNoFault, DeletionsMapDescriptors, DropsLeaveNoFault, DropsMapDescriptors, OthersStay, scene_at, tree_at}
 use Rattle.proto_statement_described.specs.Imports.{with_dependency, without_dependency}

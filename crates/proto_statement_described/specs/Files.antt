@@ -13,7 +13,7 @@ use Rattle.proto_meaning.specs.Linked.{IsLinked}
 use Rattle.proto_imports.specs.Links.{names_of_files}
 use Rattle.proto_listing.specs.FromTree.{Wanted}
 use Rattle.proto_parts.specs.Scenes.{Scene, value}
-use Rattle.proto_json.specs.Descriptors.{FileDesc}
+use Rattle.proto_descriptors.specs.Descriptors.{FileDesc}
 use Rattle.proto_desc.specs.SceneOf.{scene_of}
 use Rattle.proto_desc.specs.Checked.{AreDescribed, CheckFaults}
 use Rattle.proto_statement_described.specs.Deletions.{IsDeletedIn, Reservation, Reserves, WrittenField, name_of}

@@ -9,7 +9,7 @@ use Rattle.proto_listing.specs.FromTree.{Wanted, imports_in}
 use Rattle.proto_parts.specs.Scenes.{Scene, value}
 use Rattle.proto_checks_laws.specs.Imports.{without_imports}
 use Rattle.proto_described.specs.Described.{file_described}
-use Rattle.proto_json.specs.Descriptors.{FileDesc}
+use Rattle.proto_descriptors.specs.Descriptors.{FileDesc}
 use Rattle.proto_statement_described.specs.Lists.{places_before, without_place}
 use Rattle.proto_statement_described.specs.Scenes.{IsMovedScene}
 

@@ -11,8 +11,8 @@ use Rattle.proto_tree.specs.Tree.{Tree, End, Leaf, Block}
 use Rattle.proto_parts.specs.Parts.{FieldOf, fields_in, reserved_names, reserved_ranges, statement_fields, statements}
 use Rattle.proto_parts.specs.Scenes.{Scene}
 use Rattle.proto_described.specs.Described.{file_described}
-use Rattle.proto_json.specs.declared.message.NumberRange.{NumberRange}
-use Rattle.proto_json.specs.Descriptors.{FieldDesc, FileDesc, MessageDesc, Messages, NoMessages, Message}
+use Rattle.proto_descriptors.specs.declared.message.NumberRange.{NumberRange}
+use Rattle.proto_descriptors.specs.Descriptors.{FieldDesc, FileDesc, MessageDesc, Messages, NoMessages, Message}
 use Rattle.proto_statement_described.specs.Deletions.{IsDeletedIn, Reservation, Reserves, WrittenField, name_of}
 use Rattle.proto_statement_described.specs.Lists.{at_place, places_before, with_more, without_place}
 use Rattle.proto_statement_described.specs.Scenes.{IsMovedScene}

@@ -17,8 +17,8 @@ use Rattle.proto_files.specs.GivenFiles.{FileOf, file_at}
 use Rattle.proto_statement_laws.specs.Deletions.{splice}
 use Rattle.proto_statement_laws.specs.Imports.{AdditionsAreRead, added_text, import_place}
 use Rattle.proto_statement_changes.specs.ImportChanges.{splice_of_addition}
-use Rattle.proto_statement_splices.specs.ImportPlaces.{behind_all, ends_of, place_behind}
-use Rattle.proto_statement_splices.proofs.ImportEnds.{place_is}
+use Rattle.proto_statement_edits.specs.ImportPlaces.{behind_all, ends_of, place_behind}
+use Rattle.proto_statement_edits.proofs.ImportEnds.{place_is}
 use Rattle.proto_statement_edits.proofs.TokenSpans.{end_is}
 
 empty_string : IsString (quoted [])

@@ -15,8 +15,8 @@ use Rattle.proto_statement_changes.specs.DeletionChanges.{FieldAt, FieldsAreOne,
 use Rattle.proto_statement_changes.specs.OneFile.{IsTooLong}
 use Rattle.proto_statement_names.specs.Cases.{IsAlone, last_of_oneof}
 use Rattle.proto_statement_names.proofs.Fields.{fields_are_one}
-use Rattle.proto_statement_splices.specs.Fields.{alone_in}
-use Rattle.proto_statement_splices.proofs.AloneTrees.{HoldsAlone, alone_holds, holds_alone}
+use Rattle.proto_statement_edits.specs.FieldPlaces.{alone_in}
+use Rattle.proto_statement_edits.proofs.AloneTrees.{HoldsAlone, alone_holds, holds_alone}
 use Rattle.proto_statement_edits.specs.Edits.{IsDeletionCase, IsDeletionRefusal, IsFieldNamed, RefusesDeletion, by_name, too_large}
 use Rattle.proto_statement_edits.specs.Fields.{IsFieldToken}
 use Rattle.proto_statement_edits.specs.declared.deleting.FieldName.{FieldName}

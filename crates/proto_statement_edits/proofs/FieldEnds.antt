@@ -9,7 +9,7 @@ use Rattle.proto_tree.specs.declared.tree.Field.{Field}
 use Rattle.proto_tree.specs.declared.tree.MapField.{MapField}
 use Rattle.proto_tree.specs.Flat.{Mark, flat_option, flat_settings, flat_statement, flat_type, name, one, only}
 use Rattle.proto_statement_laws.specs.Deletions.{IsFieldOf, last_of, next_token}
-use Rattle.proto_statement_splices.specs.Fields.{last_token}
+use Rattle.proto_statement_edits.specs.FieldPlaces.{last_token}
 
 record EndsAt (k : ℕ) (ms : List Mark) : Type 0 where
   init : List Mark

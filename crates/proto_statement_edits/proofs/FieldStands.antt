@@ -13,7 +13,7 @@ use Rattle.proto_tree.specs.declared.piece.Statement.{Statement}
 use Rattle.proto_tree.specs.declared.piece.Statement.TheVariants as statement
 use Rattle.proto_tree.specs.Tree.{Tree, End, Leaf, Block, IsWellFormed, after, allows, field_kind, header_kind, statement_kind}
 use Rattle.proto_statement_laws.specs.Deletions.{AfterBlock, AfterLeaf, Deeper, First, InMessage, InOneof, IsFieldOf, PastBlock, PastLeaf, StandsAt, StandsIn}
-use Rattle.proto_statement_splices.specs.Fields.{FieldAt, field_among, field_if, field_in, has_name, number_token, or_else}
+use Rattle.proto_statement_edits.specs.FieldPlaces.{FieldAt, field_among, field_if, field_in, has_name, number_token, or_else}
 
 -- ---- the first of two
 

@@ -29,8 +29,8 @@ use Rattle.proto_statement_laws.proofs.Marks.{some_marks}
 use Rattle.proto_statement_laws.proofs.Seams.{fit_long}
 use Rattle.proto_statement_laws.proofs.TakenOut.{close_at, closed}
 use Rattle.proto_statement_changes.specs.DeletionChanges.{FieldAt, FieldsAreThere, IsFieldAt, name_of_field, number_of_field, splice_of_deletion}
-use Rattle.proto_statement_splices.specs.Fields.{FieldAt as FoundAt, field_in, last_token, number_token, place_of}
-use Rattle.proto_statement_splices.specs.declared.fields.FieldPlace.{FieldPlace}
+use Rattle.proto_statement_edits.specs.FieldPlaces.{FieldAt as FoundAt, field_in, last_token, number_token, place_of}
+use Rattle.proto_statement_edits.specs.declared.fields.FieldPlace.{FieldPlace}
 use Rattle.proto_statement_edits.specs.Edits.{IsFieldNamed}
 use Rattle.proto_statement_edits.specs.Fields.{IsFieldToken, StandsInOrder, last_by, last_of, text_by, text_if}
 use Rattle.proto_statement_edits.specs.declared.deleting.FieldName.{FieldName}

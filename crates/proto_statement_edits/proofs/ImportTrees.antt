@@ -7,7 +7,7 @@ use Rattle.proto_tree.specs.declared.piece.Statement.TheVariants as statement
 use Rattle.proto_tree.specs.declared.tree.Import.{Import}
 use Rattle.proto_tree.specs.Tree.{Tree, End, Leaf, Block, joined}
 use Rattle.proto_statement_laws.specs.Deletions.{AfterBlock, AfterLeaf, First, StandsIn}
-use Rattle.proto_statement_splices.specs.Fields.{or_else}
+use Rattle.proto_statement_edits.specs.FieldPlaces.{or_else}
 use Rattle.proto_statement_edits.specs.Imported.{import_if, import_in}
 
 or_else_assoc : {A : Type 0} (a b c : Option A) → or_else (or_else a b) c ≡ or_else a (or_else b c)

@@ -15,7 +15,7 @@ use Rattle.proto_meaning.specs.Names.{Import, Workspace}
 use Rattle.proto_statement_names.specs.Cases.{IsPlaceOf, with_added, with_dropped}
 use Rattle.proto_statement_edits.specs.Steps.{AreImportsOf, AreSeenIn}
 use Rattle.proto_statement_edits.proofs.MoreOrLess.{one_less, one_more}
-use Rattle.proto_statement_edits.proofs.SameImports.{same_marks}
+use Rattle.proto_statement_names.proofs.SameImports.{same_marks}
 
 pub if_both : {A E : Type 0} {P Q R : A → Type 0} (r : Result A E) → IfOk r P → IfOk r Q → ((x : A) → P x → Q x → R x) → IfOk r R
 if_both (Ok x) p q f = f x p q

@@ -5,7 +5,7 @@ use Rattle.proto_files.specs.GivenFiles.{FileOf}
 use Rattle.proto_entries.specs.declared.entry.Change.{Change}
 use Rattle.proto_entries.specs.Entries.{change_of}
 use Rattle.proto_statement_changes.specs.OneFile.{IsTooLong, one_change}
-use Rattle.proto_statement_splices.specs.Spliced.{IsSpliced}
+use Rattle.proto_statement_edits.specs.Spliced.{IsSpliced}
 
 -- the one change
 pub changes_are : (f : FileOf) (e g : Edit) (c : Change) (cs : List Change) → e ≡ g → IsSpliced f e (Some c) → cs ≡ c ∷ [] → map change_of cs ≡ one_change f g

@@ -12,8 +12,8 @@ use Rattle.proto_meaning.specs.Grown.{at}
 use Rattle.proto_captures.specs.Targets.{Target}
 use Rattle.proto_statement_edits.specs.declared.deleting.FieldName.{FieldName}
 use Rattle.proto_statement_names.specs.Cases.{IsField}
-use Rattle.proto_statement_splices.specs.Fields.{field_in, place_of}
-use Rattle.proto_statement_splices.specs.declared.fields.FieldPlace.{FieldPlace}
+use Rattle.proto_statement_edits.specs.FieldPlaces.{field_in, place_of}
+use Rattle.proto_statement_edits.specs.declared.fields.FieldPlace.{FieldPlace}
 
 -- whether a symbol of this kind is a written field
 abbrev pub is_field_kind : Kind → Bool

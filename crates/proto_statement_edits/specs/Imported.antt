@@ -7,7 +7,7 @@ use Rattle.proto_tree.specs.declared.tree.Import.{Import}
 use Rattle.proto_tree.specs.declared.piece.Statement.{Statement}
 use Rattle.proto_tree.specs.declared.piece.Statement.TheVariants as statement
 use Rattle.proto_tree.specs.Tree.{Tree, End, Leaf, Block}
-use Rattle.proto_statement_splices.specs.Fields.{or_else}
+use Rattle.proto_statement_edits.specs.FieldPlaces.{or_else}
 use Rattle.proto_statement_changes.specs.ImportChanges.{IsImportOf}
 use Rattle.proto_statement_names.specs.Cases.{IsImported}
 

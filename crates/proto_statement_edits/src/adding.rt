@@ -9,20 +9,21 @@ ghost use Rattle.proto_statement_edits.specs.Edits.{IsAdded, IsAdditionCase, IsA
 ghost use Rattle.proto_statement_edits.specs.Steps.{IsCapturedAt};
 ghost use Rattle.proto_statement_names.specs.Cases.{IsPlaceOf};
 ghost use Rattle.proto_statement_laws.specs.Imports.{added_text};
-ghost use Rattle.proto_statement_splices.specs.ImportPlaces.{place_behind};
+ghost use Rattle.proto_statement_edits.specs.ImportPlaces.{place_behind};
 
+use crate::import_places::end_before_import;
 use crate::imported::import_named;
 use crate::imports::seen_with;
 use crate::leading::leads;
 use crate::only::only;
 use crate::paths::Paths;
+use crate::splicing::spliced;
 use proto_captures::first_overtaken;
 use proto_entries::{Change, Refusal};
 use proto_faults::NoMemory;
 use proto_files::{Files, are_read, file_named, offset_of};
 use proto_names::Link;
 use proto_statement_laws::laws::additions_are_read;
-use proto_statement_splices::{end_before_import, spliced};
 use proto_text::Span;
 use std::alloc::Global;
 

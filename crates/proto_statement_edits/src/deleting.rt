@@ -15,7 +15,10 @@ ghost use Rattle.proto_text.specs.Tokens.{AreTokens};
 ghost use Rattle.proto_text.specs.declared.lexer.Token.{Token};
 ghost use Rattle.proto_statement_laws.specs.Statements.{reservation_text};
 
+use crate::alone::is_alone;
+use crate::fields::{FieldPlace, field_at};
 use crate::only::only;
+use crate::splicing::spliced;
 use proto_entries::{Change, Refusal};
 use proto_faults::NoMemory;
 use proto_files::{Files, Words, are_read};
@@ -23,7 +26,6 @@ use proto_meaning::Kind;
 use proto_names::Link;
 use proto_parts::number_of;
 use proto_statement_changes::laws::fields_are_one;
-use proto_statement_splices::{FieldPlace, field_at, is_alone, spliced};
 use proto_text::Span;
 use std::alloc::Global;
 

@@ -1,15 +1,19 @@
-//! A field deleted, an import added or dropped: the least case that refuses it, or what it changes.
+//! A field deleted, an import added or dropped: the least case that refuses it, or its one splice.
 #![tactic(auto)]
 
 mod adding;
+mod alone;
 mod deleting;
 mod dropping;
+mod fields;
+mod import_places;
 mod imported;
 mod imports;
 mod leading;
 mod needing;
 mod only;
 mod paths;
+mod splicing;
 
 pub use adding::add_import;
 pub use deleting::delete_field;

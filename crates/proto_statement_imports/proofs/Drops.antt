@@ -22,7 +22,7 @@ use Rattle.proto_meaning.proofs.Following.{Follows, follows_first}
 use Rattle.proto_listing.specs.FromTree.{Wanted, imports_in}
 use Rattle.proto_imports.specs.Links.{asked_as, names_of_files, text_of, value_or_none}
 use Rattle.proto_parts.specs.Scenes.{value}
-use Rattle.proto_json.specs.Descriptors.{FileDesc}
+use Rattle.proto_descriptors.specs.Descriptors.{FileDesc}
 use Rattle.proto_statement_described.specs.SceneOf.{lexemes_of}
 use Rattle.proto_statement_described.specs.Checked.{AreDescribed}
 use Rattle.proto_statement_laws.specs.Deletions.{own}

@@ -5,7 +5,7 @@ use Rattle.proto_files.specs.Faults.{HasNoFault}
 use Rattle.proto_files.specs.FilesRead.{ReadOf}
 use Rattle.proto_files.specs.GivenFiles.{FileOf, file_at}
 use Rattle.proto_imports.specs.Links.{LinkFaults}
-use Rattle.proto_json.specs.Descriptors.{FileDesc}
+use Rattle.proto_descriptors.specs.Descriptors.{FileDesc}
 use Rattle.proto_statement_described.specs.Checked.{AreDescribed, CheckFaults}
 use Rattle.proto_entries.specs.Entries.{ChangeOf, IsEntry}
 use Rattle.proto_entries.specs.Putting.{IsPut}

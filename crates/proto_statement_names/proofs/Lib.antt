@@ -1,13 +1,16 @@
 pub mod Fields
 pub mod Imports
 pub mod Kept
+pub mod LeadingWalks
 pub mod Less
 pub mod Lists
 pub mod MovedNames
 pub mod NamesOut
+pub mod PathPlaces
 pub mod Places
-mod Sight
+pub mod SameImports
 pub mod Spelled
+mod Sight
 mod Walks
 pub use Rattle.proto_rename_laws.proofs.Declarations
 pub use Rattle.proto_rename_laws.proofs.Scenes

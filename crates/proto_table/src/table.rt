@@ -243,7 +243,7 @@ impl Table {
     /// Declares a symbol by the number of the name above it; answers the index of its row. Packages
     /// alone share a name: none for another symbol whose name is taken. Refused for want of memory
     /// alone. Where it declares nothing, the table stays as it was.
-    pub fn declare(
+    pub(crate) fn declare(
         &mut self,
         alloc: Global,
         above: usize,
@@ -282,7 +282,7 @@ impl Table {
 
     /// A new row below the name with this number; answers its index. Refused for want of memory
     /// alone; then the table stays as it was.
-    pub fn add(
+    pub(crate) fn add(
         &mut self,
         alloc: Global,
         above: usize,

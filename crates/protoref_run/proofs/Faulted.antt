@@ -12,8 +12,8 @@ use Rattle.proto_files.specs.FilesRead.{ReadOf}
 use Rattle.proto_imports.specs.Links.{StandsAt, LinkFaults, of_import, of_name, of_reference}
 use Rattle.proto_imports.proofs.FaultPlaces.{import_found, name_found, reference_found}
 use Rattle.proto_desc.specs.Checked.{CheckFaults, of_flaw}
-use Rattle.proto_schema.specs.Whole.{FileFaults, of_read, of_link, of_check, WorkspaceFaults, of_path, of_files}
-use Rattle.proto_recovery.specs.Known.{Over}
+use Rattle.proto_desc.specs.Whole.{FileFaults, of_read, of_link, of_check, WorkspaceFaults, of_path, of_files}
+use Rattle.proto_records.specs.Known.{Over}
 use Rattle.proto_store.specs.Stores.{Held, HoldsFiles, IsListed, bytes_at}
 use Rattle.proto_store.proofs.PathOrder.{equal_itself}
 

@@ -2,7 +2,7 @@
 use Rattle.std.specs.Io.KnownBytes.{Keeps}
 use Rattle.std.proofs.Common.{◌≡◌, ℕ, List, ◌++◌, IfErr, IfOk, codes, refl, sym, ap, subst, ◌∙◌}
 use Rattle.std.specs.Prelude.{Option, Some, None, Result, Ok, Err}
-use Rattle.proto_json.specs.Descriptors.{FileDesc}
+use Rattle.proto_descriptors.specs.Descriptors.{FileDesc}
 use Rattle.proto_json.specs.DescriptorText.{json_text}
 use Rattle.proto_desc.specs.Checked.{AreDescribed}
 use Rattle.proto_files.specs.Faults.{FaultAt, HasNoFault, IsLeastFault}
@@ -16,7 +16,7 @@ use Rattle.proto_output.specs.declared.run_fault.RunFault.{RunFault}
 use Rattle.proto_output.specs.declared.run_fault.RunFault.TheVariants as ends
 use Rattle.proto_output.specs.declared.status.Status.{Status}
 use Rattle.proto_output.specs.declared.status.Status.TheVariants.{Done, Problem}
-use Rattle.proto_schema.specs.Whole.{IsSortedOf, WorkspaceFaults}
+use Rattle.proto_desc.specs.Whole.{IsSortedOf, WorkspaceFaults}
 use Rattle.proto_store.specs.Stores.{Held, HoldsFiles}
 use Rattle.protoref_run.specs.Commands.{Answers, Ran}
 use Rattle.protoref_run.specs.Linted.{IsLintOf, of_findings, of_fault}

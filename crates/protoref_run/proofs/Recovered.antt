@@ -7,7 +7,7 @@ use Rattle.proto_output.specs.declared.run_fault.RunFault.{RunFault}
 use Rattle.proto_output.specs.declared.run_fault.RunFault.TheVariants as ends
 use Rattle.proto_records.specs.declared.fault.JournalFault.{JournalFault}
 use Rattle.proto_records.specs.declared.fault.JournalFault.TheVariants as fault
-use Rattle.proto_recovery.specs.Recovery.{IsRecoveryCut, RecoverOutcome}
+use Rattle.proto_records.specs.Recovery.{IsRecoveryCut, RecoverOutcome}
 use Rattle.proto_store.specs.Stores.{Held}
 use Rattle.protoref_run.specs.Recoveries.{AnswersRecovery}
 use Rattle.protoref_run.specs.Told.{IsFaultTold}

@@ -7,8 +7,8 @@ use Rattle.proto_entries.specs.declared.refusal.Refusal.TheVariants as refusal
 use Rattle.proto_files.specs.Faults.{FaultAt, IsLeastFault}
 use Rattle.proto_files.specs.GivenFiles.{FileOf}
 use Rattle.proto_journal.specs.Commits.{CommitOutcome}
-use Rattle.proto_recovery.specs.ReadJournals.{IsReady}
-use Rattle.proto_recovery.specs.Known.{Over}
+use Rattle.proto_records.specs.ReadJournals.{IsReady}
+use Rattle.proto_records.specs.Known.{Over}
 use Rattle.proto_journal.specs.Loads.{IsUnready}
 use Rattle.proto_journal.specs.Undoing.{UndoOutcome}
 use Rattle.proto_output.specs.Answers.{status_of, text_of}
@@ -23,7 +23,7 @@ use Rattle.proto_records.specs.Journals.{IsJournal}
 use Rattle.proto_records.specs.declared.fault.JournalFault.{JournalFault}
 use Rattle.proto_records.specs.declared.fault.JournalFault.TheVariants as fault
 use Rattle.proto_records.specs.declared.record.Record.{Record}
-use Rattle.proto_schema.specs.Whole.{WorkspaceFaults}
+use Rattle.proto_desc.specs.Whole.{WorkspaceFaults}
 use Rattle.proto_store.specs.Stores.{Held, HoldsFiles, HoldsJournal}
 use Rattle.protoref_run.specs.Changes.{AnswersEdit, AnswersUndo, Begins, IsEditCut, IsUndoingCut, MayBegin, of_journal, of_files, of_change}
 use Rattle.protoref_run.specs.Logs.{AnswersLog, PrintsLog, TellsLog}

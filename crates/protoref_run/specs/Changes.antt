@@ -6,8 +6,8 @@ use Rattle.proto_faults.specs.Texts.{Text}
 use Rattle.proto_files.specs.Faults.{FaultAt, IsLeastFault}
 use Rattle.proto_files.specs.GivenFiles.{FileOf}
 use Rattle.proto_journal.specs.Commits.{CommitOutcome, IsCommitCut}
-use Rattle.proto_recovery.specs.ReadJournals.{IsReady}
-use Rattle.proto_recovery.specs.Known.{Over}
+use Rattle.proto_records.specs.ReadJournals.{IsReady}
+use Rattle.proto_records.specs.Known.{Over}
 use Rattle.proto_journal.specs.Loads.{IsUnready, LoadOutcome}
 use Rattle.proto_journal.specs.Undoing.{IsUndoCut, UndoOutcome}
 use Rattle.proto_output.specs.Answers.{IsAnswer, status_of, text_of}
@@ -17,7 +17,7 @@ use Rattle.proto_output.specs.declared.run_fault.RunFault.{RunFault}
 use Rattle.proto_output.specs.declared.status.Status.{Status}
 use Rattle.proto_output.specs.declared.status.Status.TheVariants.{Problem}
 use Rattle.proto_records.specs.declared.fault.JournalFault.{JournalFault}
-use Rattle.proto_schema.specs.Whole.{WorkspaceFaults}
+use Rattle.proto_desc.specs.Whole.{WorkspaceFaults}
 use Rattle.proto_store.specs.Stores.{Held}
 use Rattle.protoref_run.specs.Told.{Tells}
 use Rattle.protoref_run.specs.declared.beginning.Beginning.{Beginning}

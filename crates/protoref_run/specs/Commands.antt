@@ -3,14 +3,14 @@ use Rattle.std.specs.Prelude.{◌≡◌, Option, Result, Ok, Err}
 use Rattle.std.specs.Io.KnownBytes.{Appends, Keeps}
 use Rattle.proto_faults.specs.Texts.{Text}
 use Rattle.proto_journal.specs.Answers.{asked}
-use Rattle.proto_recovery.specs.Known.{Over}
+use Rattle.proto_records.specs.Known.{Over}
 use Rattle.proto_output.specs.Answers.{IsAnswer}
 use Rattle.proto_output.specs.Writing.{AppendsBeginning}
 use Rattle.proto_output.specs.declared.answer.Answer.{Answer}
 use Rattle.proto_output.specs.declared.run_fault.RunFault.{RunFault}
 use Rattle.proto_output.specs.declared.run_fault.RunFault.TheVariants.{Store, NoMemory, Output}
 use Rattle.proto_output.specs.declared.status.Status.{Status}
-use Rattle.proto_recovery.specs.Recovery.{IsRecoveryCut}
+use Rattle.proto_records.specs.Recovery.{IsRecoveryCut}
 use Rattle.proto_store.specs.Stores.{Held}
 use Rattle.protoref_run.specs.Changes.{IsEditCut, IsUndoingCut, PrintsEdit, PrintsUndo}
 use Rattle.protoref_run.specs.Logs.{PrintsLogOf}

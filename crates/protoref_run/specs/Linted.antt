@@ -8,7 +8,7 @@ use Rattle.proto_lint.specs.Findings.{findings}
 use Rattle.proto_files.specs.FilesRead.{ReadOf, AreRead}
 use Rattle.proto_output.specs.FaultLines.{IsLine}
 use Rattle.proto_output.specs.FoundLines.{found_line}
-use Rattle.proto_schema.specs.Whole.{IsSortedOf, WorkspaceFaults}
+use Rattle.proto_desc.specs.Whole.{IsSortedOf, WorkspaceFaults}
 use Rattle.proto_output.specs.declared.status.Status.{Status}
 use Rattle.proto_output.specs.declared.status.Status.TheVariants.{Done, Problem}
 

@@ -1,7 +1,7 @@
 -- What the log prints, and how it ends: the choice of this program.
 use Rattle.std.specs.Prelude.{◌≡◌, List, Option, Result, Ok, Err}
 use Rattle.proto_faults.specs.Texts.{Text}
-use Rattle.proto_recovery.specs.Known.{Over}
+use Rattle.proto_records.specs.Known.{Over}
 use Rattle.proto_output.specs.Answers.{IsAnswer, status_of, text_of}
 use Rattle.proto_output.specs.EditLines.{faulty_line}
 use Rattle.proto_output.specs.LogLines.{log_lines}

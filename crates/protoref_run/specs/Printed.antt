@@ -5,13 +5,13 @@ use Rattle.proto_faults.specs.Texts.{Text}
 use Rattle.proto_files.specs.Faults.{FaultAt, HasNoFault, IsLeastFault}
 use Rattle.proto_files.specs.FilesRead.{ReadOf, AreRead}
 use Rattle.proto_files.specs.GivenFiles.{FileOf}
-use Rattle.proto_recovery.specs.Known.{Over}
+use Rattle.proto_records.specs.Known.{Over}
 use Rattle.proto_json.specs.DescriptorText.{json_text}
 use Rattle.proto_output.specs.Answers.{status_of, text_of}
 use Rattle.proto_output.specs.FaultLines.{IsLine}
 use Rattle.proto_output.specs.declared.status.Status.{Status}
 use Rattle.proto_output.specs.declared.status.Status.TheVariants.{Done, Problem}
-use Rattle.proto_schema.specs.Whole.{IsSortedOf, WorkspaceFaults}
+use Rattle.proto_desc.specs.Whole.{IsSortedOf, WorkspaceFaults}
 use Rattle.proto_store.specs.Stores.{Held}
 use Rattle.protoref_run.specs.declared.opening.Opening.{Opening}
 use Rattle.protoref_run.specs.declared.opening.Opening.TheVariants.{Whole, Faulty}

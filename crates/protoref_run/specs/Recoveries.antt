@@ -8,7 +8,7 @@ use Rattle.proto_output.specs.declared.run_fault.RunFault.{RunFault}
 use Rattle.proto_output.specs.declared.status.Status.{Status}
 use Rattle.proto_output.specs.declared.status.Status.TheVariants.{Done}
 use Rattle.proto_records.specs.declared.fault.JournalFault.{JournalFault}
-use Rattle.proto_recovery.specs.Recovery.{IsRecoveryCut, RecoverOutcome}
+use Rattle.proto_records.specs.Recovery.{IsRecoveryCut, RecoverOutcome}
 use Rattle.proto_store.specs.Stores.{Held}
 use Rattle.protoref_run.specs.Told.{TellsFault}
 

@@ -4,7 +4,7 @@ use Rattle.proto_faults.specs.Texts.{Text}
 use Rattle.proto_entries.specs.Entries.{ChangeOf}
 use Rattle.proto_entries.specs.declared.refusal.Refusal.{Refusal}
 use Rattle.proto_files.specs.GivenFiles.{FileOf}
-use Rattle.proto_recovery.specs.Known as known
+use Rattle.proto_records.specs.Known as known
 use Rattle.proto_output.specs.Answers.{status_of, text_of}
 use Rattle.proto_output.specs.EditLines.{changed_lines, faulty_line, refused_line}
 use Rattle.proto_output.specs.Ends.{CountsStore}

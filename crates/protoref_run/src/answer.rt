@@ -2,15 +2,14 @@
 
 ghost use Rattle.std.specs.Prelude.{◌≡◌, ◌++◌, IfErr, IfOk, codes};
 ghost use Rattle.proto_json.specs.DescriptorText.{json_text};
-ghost use Rattle.proto_json.specs.Views.{files_desc};
+ghost use Rattle.proto_descriptors.specs.Views.{files_desc};
 ghost use Rattle.proto_output.specs.Answers.{status_of, text_of};
 ghost use Rattle.protoref_run.specs.Linted.{IsLintOf};
 
-use proto_desc::{Descriptors, to_json};
+use proto_desc::{Descriptors, Schema, to_json};
 use proto_lint::{RuleSet, lint};
 use proto_names::are_read;
 use proto_output::{Answer, RunFault, Status, lines_of_findings};
-use proto_schema::Schema;
 use std::alloc::Global;
 
 // The answer of their descriptors.

@@ -1,8 +1,8 @@
 //! What comes before a change: the journal is asked, and then the files are loaded.
 
 ghost use Rattle.std.specs.Prelude.{◌≡◌, ◌-◌, ◌^◌, ◌<◌, IfOk, IsErrOf};
-ghost use Rattle.proto_recovery.specs.ReadJournals.{IsReady};
-ghost use Rattle.proto_recovery.specs.Known.{Over};
+ghost use Rattle.proto_records.specs.ReadJournals.{IsReady};
+ghost use Rattle.proto_records.specs.Known.{Over};
 ghost use Rattle.proto_output.specs.Ends.{CountsStore};
 ghost use Rattle.protoref_run.specs.Changes.{Begins};
 

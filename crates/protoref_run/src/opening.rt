@@ -6,10 +6,10 @@ ghost use Rattle.proto_output.specs.Ends.{CountsStore};
 ghost use Rattle.proto_store.specs.Stores.{HoldsFiles};
 ghost use Rattle.protoref_run.specs.Printed.{Opens};
 
+use proto_desc::Schema;
 use proto_faults::SchemaFault;
 use proto_journal::{LoadFault, all_files};
 use proto_output::{Answer, RunFault, reported};
-use proto_schema::Schema;
 use proto_store::Store;
 use std::alloc::Global;
 

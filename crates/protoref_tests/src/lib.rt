@@ -1,4 +1,5 @@
-//! Tests of the program, through the public calls of its crates alone.
+//! Tests of the workspace, of all edits, of their journal and of the program, through the public
+//! calls of their crates alone.
 #![tactic(auto)]
 
 #[cfg(test)]
@@ -7,6 +8,8 @@ mod calls;
 mod command_lines;
 #[cfg(test)]
 mod compiling;
+#[cfg(test)]
+mod edits;
 #[cfg(test)]
 mod full;
 #[cfg(test)]

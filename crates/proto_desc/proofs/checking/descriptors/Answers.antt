@@ -4,7 +4,7 @@ use Rattle.proto_files.specs.FilesRead.{read_at}
 use Rattle.proto_files.proofs.FilesAreRead.{each_pushed}
 use Rattle.proto_scenes.specs.Scenes.{IsSceneOf}
 use Rattle.proto_described.specs.Described.{file_described}
-use Rattle.proto_json.specs.Views.{file_desc}
+use Rattle.proto_descriptors.specs.Views.{file_desc}
 use Rattle.proto_desc.proofs.CheckedFiles.{all_described, described_at, described_of_file}
 use Rattle.proto_desc.proofs.checking.descriptors.Goals as goal
 

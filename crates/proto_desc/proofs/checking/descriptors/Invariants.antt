@@ -3,7 +3,7 @@ use Rattle.proto_files.specs.GivenFiles.{file_at}
 use Rattle.proto_files.specs.FilesRead.{Each, ReadOf, AreRead, read_at}
 use Rattle.proto_described.specs.Described.{file_described}
 use Rattle.proto_scenes.specs.SceneOf.{scene_of}
-use Rattle.proto_json.specs.Views.{file_desc}
+use Rattle.proto_descriptors.specs.Views.{file_desc}
 use Rattle.std.specs.Prelude.{None}
 use Rattle.proto_desc.proofs.checking.descriptors.Given as goal
 

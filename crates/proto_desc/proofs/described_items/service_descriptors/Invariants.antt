@@ -1,7 +1,7 @@
 use Rattle.std.proofs.Common.{◌≡◌, ◌++◌, map, drop}
 use Rattle.proto_tree.specs.File.{trees, item_tree}
 use Rattle.proto_described.specs.Described.{services_described}
-use Rattle.proto_json.specs.Views.{service_desc}
+use Rattle.proto_descriptors.specs.Views.{service_desc}
 use Rattle.proto_desc.proofs.described_items.service_descriptors.Given as goal
 
 abbrev pub invariant-loop-item : goal.invariant-loop-item

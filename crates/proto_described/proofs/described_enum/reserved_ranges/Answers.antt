@@ -4,7 +4,7 @@ use Rattle.proto_tree.specs.declared.tree.Range.{Range}
 use Rattle.proto_tree.specs.declared.tree.Signed.{Signed}
 use Rattle.proto_numbers.specs.NumberFlaws.{enum_range_of}
 use Rattle.proto_described.specs.Described.{value_range}
-use Rattle.proto_json.proofs.Mapped.{map_both}
+use Rattle.proto_descriptors.proofs.Mapped.{map_both}
 use Rattle.proto_described.proofs.Levels.{pushed_turn}
 use Rattle.proto_described.proofs.described_enum.reserved_ranges.Goals as goal
 

@@ -1,6 +1,6 @@
 use Rattle.std.proofs.Common.{◌≡◌, map, take}
 use Rattle.proto_described.specs.Described.{value_described}
-use Rattle.proto_json.specs.Views.{enum_value_desc}
+use Rattle.proto_descriptors.specs.Views.{enum_value_desc}
 use Rattle.proto_described.proofs.described_enum.value_descriptors.Given as goal
 
 abbrev pub invariant-loop-value : goal.invariant-loop-value

@@ -1,7 +1,7 @@
 use Rattle.std.proofs.Common.{◌≡◌, ◌+◌, ◌*◌, drop}
 use Rattle.proto_tree.specs.File.{trees, member_tree}
 use Rattle.proto_described.specs.Described.{messages_described}
-use Rattle.proto_json.specs.Views.{messages_desc}
+use Rattle.proto_descriptors.specs.Views.{messages_desc}
 use Rattle.proto_described.proofs.Levels.{and_then}
 use Rattle.proto_described.proofs.described_message.+messages.Given as goal
 

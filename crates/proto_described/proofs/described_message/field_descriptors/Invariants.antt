@@ -1,7 +1,7 @@
 use Rattle.std.proofs.Common.{◌≡◌, map, take}
 use Rattle.proto_parts.specs.Views.{field_of}
 use Rattle.proto_described.specs.Described.{field_described}
-use Rattle.proto_json.specs.Views.{field_desc}
+use Rattle.proto_descriptors.specs.Views.{field_desc}
 use Rattle.proto_described.proofs.described_message.field_descriptors.Given as goal
 
 abbrev pub invariant-loop-field : goal.invariant-loop-field

@@ -2,7 +2,7 @@ use Rattle.std.proofs.Common.{◌∙◌, sym, ap, map, arith}
 use Rattle.std.proofs.lemmas.List.{take_all}
 use Rattle.proto_numbers.specs.NumberFlaws.{range_of}
 use Rattle.proto_described.specs.Described.{number_range}
-use Rattle.proto_json.proofs.Mapped.{map_both}
+use Rattle.proto_descriptors.proofs.Mapped.{map_both}
 use Rattle.proto_described.proofs.Levels.{pushed_turn}
 use Rattle.proto_described.proofs.described_message.number_ranges.Goals as goal
 

@@ -1,7 +1,7 @@
 use Rattle.std.proofs.Common.{◌≡◌, ◌++◌, map, drop}
 use Rattle.proto_tree.specs.File.{trees, member_tree}
 use Rattle.proto_described.specs.Described.{oneof_names}
-use Rattle.proto_json.specs.Views.{oneof_desc}
+use Rattle.proto_descriptors.specs.Views.{oneof_desc}
 use Rattle.proto_described.proofs.described_message.oneof_descriptors.Given as goal
 
 abbrev pub invariant-loop-member : goal.invariant-loop-member

@@ -1,7 +1,7 @@
 use Rattle.std.proofs.Common.{◌≡◌, ◌++◌, map, drop}
 use Rattle.proto_tree.specs.File.{trees, service_item_tree}
 use Rattle.proto_described.specs.Described.{methods_described}
-use Rattle.proto_json.specs.Views.{method_desc}
+use Rattle.proto_descriptors.specs.Views.{method_desc}
 use Rattle.proto_described.proofs.described_service.method_descriptors.Given as goal
 
 abbrev pub invariant-loop-item : goal.invariant-loop-item

@@ -1,6 +1,6 @@
 use Rattle.std.proofs.Common.{subst}
 use Rattle.proto_files.specs.GivenFiles.{files_of}
-use Rattle.proto_schema.specs.Answers.{IsOpenError}
+use Rattle.proto_desc.specs.Opening.{IsOpenError}
 use Rattle.proto_journal.proofs.Loaded.{faulty, loaded}
 use Rattle.proto_journal.proofs.loading.load.Goals as goal
 

@@ -2,8 +2,8 @@ use Rattle.std.proofs.Common.{◌≡◌, [], ◌∷◌, List, ℕ, IfOk, ap, ref
 use Rattle.proto_json.specs.DescriptorText.{file_text}
 use Rattle.proto_json.specs.JsonText.{array_if_any}
 use Rattle.proto_json.specs.Members.{Keeps}
-use Rattle.proto_json.specs.Views.{file_desc}
-use Rattle.proto_json.proofs.Mapped.{map_both}
+use Rattle.proto_descriptors.specs.Views.{file_desc}
+use Rattle.proto_descriptors.proofs.Mapped.{map_both}
 use Rattle.proto_json.proofs.Slots.{rising-kept, slots-put}
 use Rattle.proto_json.proofs.file.text_of_files.Goals as goal
 

@@ -1,8 +1,8 @@
 use Rattle.std.proofs.Common.{◌≡◌, ◌∷◌, ◌++◌, [], List, ℕ, IfOk, sym, ap, ◌∙◌, subst, take, ◌+◌, arith}
 use Rattle.std.proofs.lemmas.List.{take_more}
 use Rattle.proto_json.specs.DescriptorText.{message_texts}
-use Rattle.proto_json.specs.Views.{messages_desc}
-use Rattle.proto_json.specs.declared.message.MessageDescriptor.{MessageDescriptor}
+use Rattle.proto_descriptors.specs.Views.{messages_desc}
+use Rattle.proto_descriptors.specs.declared.message.MessageDescriptor.{MessageDescriptor}
 use Rattle.proto_json.specs.MessageText.{level_text}
 use Rattle.proto_json.proofs.Nesting.{message_texts-push, tree_text-level}
 use Rattle.proto_json.proofs.message.+messages.Goals as goal

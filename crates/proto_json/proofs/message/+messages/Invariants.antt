@@ -1,6 +1,6 @@
 use Rattle.std.proofs.Common.{◌≡◌, take}
 use Rattle.proto_json.specs.DescriptorText.{message_texts}
-use Rattle.proto_json.specs.Views.{messages_desc}
+use Rattle.proto_descriptors.specs.Views.{messages_desc}
 use Rattle.proto_json.proofs.message.+messages.Given as goal
 
 abbrev pub invariant-messages_json-loop-message : goal.invariant-messages_json-loop-message

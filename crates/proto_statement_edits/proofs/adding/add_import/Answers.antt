@@ -1,6 +1,6 @@
 use Rattle.std.proofs.Common.{arith}
 use Rattle.proto_statement_edits.proofs.Additions.{no_file, no_path}
-use Rattle.proto_statement_edits.proofs.PathPlaces.{no_place_of, place_of_path}
+use Rattle.proto_statement_names.proofs.PathPlaces.{no_place_of, place_of_path}
 use Rattle.proto_statement_edits.proofs.adding.add_import.Goals as goal
 
 pub returns-in_default-clause-err : goal.returns-in_default-clause-err

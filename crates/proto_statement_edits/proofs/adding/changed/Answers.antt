@@ -13,8 +13,8 @@ use Rattle.proto_files.proofs.OneReading.{same_tree}
 use Rattle.proto_statement_laws.specs.Deletions.{splice}
 use Rattle.proto_statement_changes.specs.ImportChanges.{splice_of_addition}
 use Rattle.proto_statement_changes.specs.OneFile.{IsTooLong}
-use Rattle.proto_statement_splices.specs.ImportPlaces.{behind_all, ends_of, place_behind}
-use Rattle.proto_statement_splices.specs.Spliced.{IsSpliced}
+use Rattle.proto_statement_edits.specs.ImportPlaces.{behind_all, ends_of, place_behind}
+use Rattle.proto_statement_edits.specs.Spliced.{IsSpliced}
 use Rattle.proto_statement_edits.proofs.AddedPlace.{addition_is, empty_span, place_by, place_inside, place_of_some}
 use Rattle.proto_statement_edits.proofs.Additions.{free_16, refused_16}
 use Rattle.proto_statement_edits.proofs.MoreOrLess.{place_within}

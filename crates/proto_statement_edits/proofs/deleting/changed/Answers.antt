@@ -8,7 +8,7 @@ use Rattle.proto_parts.specs.Numbers.{past}
 use Rattle.proto_statement_laws.specs.Deletions.{splice}
 use Rattle.proto_statement_changes.specs.DeletionChanges.{number_of_field, splice_of_deletion}
 use Rattle.proto_statement_changes.specs.OneFile.{IsTooLong}
-use Rattle.proto_statement_splices.specs.Spliced.{IsSpliced}
+use Rattle.proto_statement_edits.specs.Spliced.{IsSpliced}
 use Rattle.proto_statement_edits.specs.Fields.{last_of, text_by}
 use Rattle.proto_statement_edits.proofs.FieldCases.{file_there, free_16, refused_16}
 use Rattle.proto_statement_edits.proofs.FieldThere.{deleted_is, field_at, in_order, is_field_at, is_named, min_past, number_told}

@@ -2,7 +2,7 @@ use Rattle.std.proofs.Common.{sym, ap, ◌∙◌}
 use Rattle.std.specs.Prelude.{option_map}
 use Rattle.proto_tree.specs.File.{tree_of_file}
 use Rattle.proto_files.proofs.OneReading.{same_tree}
-use Rattle.proto_statement_splices.specs.Fields.{alone_in, field_in, place_of}
+use Rattle.proto_statement_edits.specs.FieldPlaces.{alone_in, field_in, place_of}
 use Rattle.proto_statement_edits.proofs.FieldCases.{file_there, free_10, refused_10}
 use Rattle.proto_statement_edits.proofs.FieldThere.{some_place}
 use Rattle.proto_statement_edits.proofs.deleting.delete_field.Goals as goal

@@ -10,7 +10,7 @@ use Rattle.proto_files.specs.GivenFiles.{file_at}
 use Rattle.proto_tree.specs.declared.piece.Statement.TheVariants as statement
 use Rattle.proto_statement_laws.specs.Deletions.{begins, ends, splice}
 use Rattle.proto_statement_changes.specs.ImportChanges.{splice_of_drop}
-use Rattle.proto_statement_splices.specs.Spliced.{IsSpliced}
+use Rattle.proto_statement_edits.specs.Spliced.{IsSpliced}
 use Rattle.proto_statement_edits.proofs.MoreOrLess.{place_within}
 use Rattle.proto_statement_edits.proofs.Spliced.{changes_are, no_longer}
 use Rattle.proto_statement_edits.proofs.StandsParts.{import_inside, import_last}

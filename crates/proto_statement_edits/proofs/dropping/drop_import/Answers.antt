@@ -1,7 +1,7 @@
 use Rattle.std.proofs.Common.{arith}
 use Rattle.proto_statement_edits.proofs.Drops.{free_13, no_file, refused_13}
 use Rattle.proto_statement_edits.proofs.NoImportFault.{none_missing}
-use Rattle.proto_statement_edits.proofs.PathPlaces.{no_place_of, place_of_path}
+use Rattle.proto_statement_names.proofs.PathPlaces.{no_place_of, place_of_path}
 use Rattle.proto_statement_edits.proofs.dropping.drop_import.Goals as goal
 
 pub returns-in_default-clause-err : goal.returns-in_default-clause-err

@@ -5,7 +5,7 @@ use Rattle.std.proofs.lemmas.List.{get_or-map, length-set}
 use Rattle.std.proofs.lemmas.List.Elements.{All-set}
 use Rattle.proto_imports.specs.declared.import.FileImport.{FileImport}
 use Rattle.proto_statement_edits.proofs.SeenThen.{if_both, seen_less}
-use Rattle.proto_statement_edits.proofs.SameImports.{all_filtered}
+use Rattle.proto_statement_names.proofs.SameImports.{all_filtered}
 use Rattle.proto_statement_edits.proofs.imports.seen_without.Goals as goal
 
 pub all_seen-requires-clause-within : goal.all_seen-requires-clause-within

@@ -5,7 +5,7 @@ use Rattle.std.proofs.lemmas.List.{get_or_default, length-map}
 use Rattle.proto_imports.specs.Importing.{all_imports}
 use Rattle.proto_imports.proofs.ImportGraph.{IsGraph, all_within, graph_of, targets_twice, within_map}
 use Rattle.proto_meaning.specs.Cycles.{Leads}
-use Rattle.proto_statement_edits.proofs.LeadingWalks.{walks_lead}
+use Rattle.proto_statement_names.proofs.LeadingWalks.{walks_lead}
 use Rattle.proto_statement_edits.proofs.leading.leads.Goals as goal
 
 pub reached-requires-clause-files : goal.reached-requires-clause-files

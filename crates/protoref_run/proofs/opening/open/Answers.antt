@@ -4,7 +4,7 @@ use Rattle.proto_files.specs.Faults.{FaultAt, IsLeastFault, fault_at}
 use Rattle.proto_files.specs.GivenFiles.{FileOf, files_of}
 use Rattle.proto_output.specs.Answers.{text_of}
 use Rattle.proto_output.specs.FaultLines.{IsLineOver}
-use Rattle.proto_schema.specs.Whole.{WorkspaceFaults}
+use Rattle.proto_desc.specs.Whole.{WorkspaceFaults}
 use Rattle.proto_store.specs.Stores.{Held, IsListed}
 use Rattle.protoref_run.proofs.Faulted.{fault_is_held}
 use Rattle.protoref_run.proofs.Printing.{opens_faulty, opens_whole}

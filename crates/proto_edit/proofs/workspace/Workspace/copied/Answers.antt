@@ -2,8 +2,8 @@ use Rattle.std.proofs.Common.{◌≤◌, ◌∙◌, List, length, subst, arith}
 use Rattle.std.proofs.lemmas.List.{take_all}
 use Rattle.proto_files.specs.Faults.{fault_at}
 use Rattle.proto_files.specs.GivenFiles.{FileOf, files_of}
-use Rattle.proto_schema.specs.Answers.{IsOpenError}
-use Rattle.proto_schema.specs.Whole.{IsSortedOf}
+use Rattle.proto_desc.specs.Opening.{IsOpenError}
+use Rattle.proto_desc.specs.Whole.{IsSortedOf}
 use Rattle.proto_edit.proofs.GivenAgain.{opens_again, sorted_again}
 use Rattle.proto_edit.proofs.workspace.Workspace.copied.Goals as goal
 

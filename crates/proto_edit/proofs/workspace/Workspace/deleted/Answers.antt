@@ -4,7 +4,7 @@ use Rattle.proto_files.specs.Faults.{HasNoFault}
 use Rattle.proto_files.specs.GivenFiles.{FileOf}
 use Rattle.proto_imports.specs.Links.{LinkFaults}
 use Rattle.proto_entries.specs.Entries.{change_of}
-use Rattle.proto_schema.specs.Whole.{of_check}
+use Rattle.proto_desc.specs.Whole.{of_check}
 use Rattle.proto_statement_edits.specs.Edits.{HaveSmallNumbers, IsDeleted, IsDeletionRefusal}
 use Rattle.proto_edit.proofs.Refusals.{compiled_is_linked, deletion_made, deletion_refused}
 use Rattle.proto_edit.proofs.workspace.Workspace.deleted.Goals as goal

@@ -1,7 +1,7 @@
 use Rattle.std.proofs.Common.{List, map, sym, subst}
 use Rattle.proto_files.specs.Faults.{fault_at}
 use Rattle.proto_files.specs.GivenFiles.{FileOf, files_of}
-use Rattle.proto_schema.specs.Answers.{IsOpenError}
+use Rattle.proto_desc.specs.Opening.{IsOpenError}
 use Rattle.proto_entries.specs.Entries.{change_of}
 use Rattle.proto_entries.specs.Putting.{ArePut}
 use Rattle.proto_edit.proofs.Reopening.{none_put, none_faulty, some_opened}

@@ -1,7 +1,7 @@
 use Rattle.std.proofs.Common.{refl}
 use Rattle.proto_json.specs.DescriptorText.{oneof_slots}
 use Rattle.proto_json.specs.Members.{Keeps}
-use Rattle.proto_json.specs.Views.{oneof_desc}
+use Rattle.proto_descriptors.specs.Views.{oneof_desc}
 use Rattle.proto_json.proofs.Slots.{rising-kept, slots-put}
 use Rattle.proto_json.proofs.message.OneofDescriptorToJson.to_json.Goals as goal
 

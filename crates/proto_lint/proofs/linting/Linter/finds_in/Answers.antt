@@ -5,7 +5,7 @@ use Rattle.proto_imports.specs.Links.{names_of_files}
 use Rattle.proto_files.specs.FilesRead.{read_at}
 use Rattle.proto_findings.specs.Readings.{reading_of}
 use Rattle.proto_findings.specs.Views.{found_of}
-use Rattle.proto_file_rules.specs.Imports.{imports_finds}
+use Rattle.proto_lint.specs.Imports.{imports_finds}
 use Rattle.proto_lint.proofs.Linters.{finds_are, is_headed, moved, scope_is}
 use Rattle.proto_lint.proofs.linting.Linter.finds_in.Goals as goal
 

@@ -1,0 +1,121 @@
+//! Files that compile, with their link and their descriptors.
+
+ghost use Rattle.std.specs.Prelude.{◌≡◌, List, IfOk, IfErr};
+ghost use Rattle.proto_desc.specs.Checked.{AreDescribed};
+ghost use Rattle.proto_descriptors.specs.Views.{files_desc};
+ghost use Rattle.proto_files.specs.Faults.{HasNoFault, IsFilesError};
+ghost use Rattle.proto_files.specs.GivenFiles.{files_of};
+ghost use Rattle.proto_files.specs.ReadFaults.{ReadFaults};
+ghost use Rattle.proto_scenes.specs.LinkOfFiles.{IsLinkOf};
+ghost use Rattle.proto_files.specs.FilesRead.{ReadOf, AreRead};
+ghost use Rattle.proto_desc.specs.Opening.{IsOpenError};
+ghost use Rattle.proto_desc.specs.Whole.{FileFaults, WorkspaceFaults, IsSortedOf};
+
+use crate::checking::check;
+use proto_descriptors::Descriptors;
+use proto_faults::SchemaFault;
+use proto_files::{Files, Paths, are_read};
+use proto_scenes::Link;
+use std::alloc::Global;
+use std::marker::Model;
+
+/// Schemas that compile: at most 4,096 files in the order of their paths, with their link and their
+/// descriptors.
+#[derive(Drop)]
+pub struct Schema {
+    files: Files,
+    link: Link,
+    descriptors: Descriptors,
+}
+
+impl Model for Schema {
+    ghost use Rattle.std.specs.Prelude.{List};
+    ghost use Rattle.proto_files.specs.GivenFiles.{FileOf};
+
+    ghost Value = { List FileOf };
+
+    ghost use Rattle.proto_desc.specs.Checked.{AreDescribed};
+    ghost use Rattle.proto_descriptors.specs.Views.{files_desc};
+    ghost use Rattle.proto_files.specs.Faults.{HasNoFault};
+    ghost use Rattle.proto_scenes.specs.LinkOfFiles.{IsLinkOf};
+    ghost use Rattle.proto_desc.specs.Whole.{FileFaults};
+
+    ghost view = { λ s. s.files };
+
+    ghost invariant = { λ s. HasNoFault (FileFaults s.files)
+        × (IsLinkOf s.files s.link × AreDescribed s.files (files_desc s.descriptors)) };
+}
+
+// The link of files that were read, and their descriptors, where they have no fault.
+fn linked(alloc: Global, files: &Files) -> Result<(Link, Descriptors), SchemaFault>
+    requires { HasNoFault (ReadFaults files.now) }
+    ensures clean { IfOk result (λ _. HasNoFault (FileFaults files.now)) }
+    ensures link { IfOk result (λ l. IsLinkOf files.now l.0) }
+    ensures described { IfOk result (λ l. AreDescribed files.now (files_desc l.1)) }
+    ensures fault { IfErr result (IsFilesError (FileFaults files.now)) }
+{
+    let link = Link::new(alloc, files)?;
+    match check(alloc, files, &link) {
+        Ok(descriptors) => Ok((link, descriptors)),
+        Err(fault) => {
+            link.release();
+            Err(fault)
+        }
+    }
+}
+
+impl Schema {
+    /// The files given, as paths and bytes, in the order of their paths, where they compile; else
+    /// their least fault by phase, path, offset and number, or want of memory.
+    pub fn open(alloc: Global, files: Vec<(String, Vec<u8>)>) -> Result<Schema, SchemaFault>
+        ensures files { IfOk result (λ s. IsSortedOf (files_of files.items) s) }
+        ensures clean { IfOk result (λ _. HasNoFault (WorkspaceFaults (files_of files.items))) }
+        ensures fault { IfErr result (λ e. IsOpenError (files_of files.items) e) }
+    {
+        let paths = Paths::new(alloc, files)?;
+        let files = Files::read(alloc, paths)?;
+        match linked(alloc, &files) {
+            Ok((link, descriptors)) => Ok(Schema {
+                files,
+                link,
+                descriptors,
+            }),
+            Err(fault) => {
+                files.release();
+                Err(fault)
+            }
+        }
+    }
+
+    /// The files, in the order of their paths.
+    pub fn files(&self) -> &Files
+        ensures files { result.now ≡ self.now }
+        ensures compiled { HasNoFault (FileFaults self.now) }
+    {
+        &self.files
+    }
+
+    /// The link of the files: their names, and what each reference means.
+    pub fn link(&self) -> &Link
+        ensures { IsLinkOf self.now result.now }
+    {
+        &self.link
+    }
+
+    /// The descriptors of the files.
+    pub fn descriptors(&self) -> &Descriptors
+        ensures described { AreDescribed self.now (files_desc result.now) }
+        // Each file has tokens and a tree, of which the descriptors are told.
+        ensures read { (reads : List ReadOf) × AreRead self.now reads }
+    {
+        are_read(&self.files);
+        &self.descriptors
+    }
+
+    /// Lets the schemas go. A crate that ends them by this call need not prove how each of their
+    /// parts is dropped.
+    pub fn release(self) {
+        self.files.release();
+        self.link.release();
+    }
+}

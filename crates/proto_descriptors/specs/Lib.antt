@@ -1,0 +1,3 @@
+pub mod Descriptors
+pub mod Names
+pub mod Views

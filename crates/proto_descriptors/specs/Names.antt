@@ -1,0 +1,49 @@
+-- The names that descriptor.proto gives to labels, types, modes and levels.
+use Rattle.std.specs.Prelude.{codes}
+use Rattle.proto_faults.specs.Texts.{Text}
+use Rattle.proto_descriptors.specs.declared.field.FieldType.{FieldType}
+use Rattle.proto_descriptors.specs.declared.field.FieldType.TheVariants as field_type
+use Rattle.proto_descriptors.specs.declared.field.Label.{Label}
+use Rattle.proto_descriptors.specs.declared.field.Label.TheVariants as label
+use Rattle.proto_descriptors.specs.declared.file.OptimizeMode.{OptimizeMode}
+use Rattle.proto_descriptors.specs.declared.file.OptimizeMode.TheVariants as optimize_mode
+use Rattle.proto_descriptors.specs.declared.service.IdempotencyLevel.{IdempotencyLevel}
+use Rattle.proto_descriptors.specs.declared.service.IdempotencyLevel.TheVariants as idempotency_level
+
+-- the name of a label in descriptor.proto
+abbrev pub label_name : Label → Text
+label_name label.Optional = codes "LABEL_OPTIONAL"
+label_name label.Required = codes "LABEL_REQUIRED"
+label_name label.Repeated = codes "LABEL_REPEATED"
+
+-- the name of a type in descriptor.proto: `TYPE_`, then the word of the type in capitals
+abbrev pub field_type_name : FieldType → Text
+field_type_name field_type.Double = codes "TYPE_DOUBLE"
+field_type_name field_type.Float = codes "TYPE_FLOAT"
+field_type_name field_type.Int64 = codes "TYPE_INT64"
+field_type_name field_type.Uint64 = codes "TYPE_UINT64"
+field_type_name field_type.Int32 = codes "TYPE_INT32"
+field_type_name field_type.Fixed64 = codes "TYPE_FIXED64"
+field_type_name field_type.Fixed32 = codes "TYPE_FIXED32"
+field_type_name field_type.Bool = codes "TYPE_BOOL"
+field_type_name field_type.String = codes "TYPE_STRING"
+field_type_name field_type.Message = codes "TYPE_MESSAGE"
+field_type_name field_type.Bytes = codes "TYPE_BYTES"
+field_type_name field_type.Uint32 = codes "TYPE_UINT32"
+field_type_name field_type.Enum = codes "TYPE_ENUM"
+field_type_name field_type.Sfixed32 = codes "TYPE_SFIXED32"
+field_type_name field_type.Sfixed64 = codes "TYPE_SFIXED64"
+field_type_name field_type.Sint32 = codes "TYPE_SINT32"
+field_type_name field_type.Sint64 = codes "TYPE_SINT64"
+
+-- the word of a mode, as a file writes it at its option `optimize_for`
+abbrev pub optimize_mode_name : OptimizeMode → Text
+optimize_mode_name optimize_mode.Speed = codes "SPEED"
+optimize_mode_name optimize_mode.CodeSize = codes "CODE_SIZE"
+optimize_mode_name optimize_mode.LiteRuntime = codes "LITE_RUNTIME"
+
+-- the word of a level, as a method writes it at its option `idempotency_level`
+abbrev pub idempotency_level_name : IdempotencyLevel → Text
+idempotency_level_name idempotency_level.Unknown = codes "IDEMPOTENCY_UNKNOWN"
+idempotency_level_name idempotency_level.NoSideEffects = codes "NO_SIDE_EFFECTS"
+idempotency_level_name idempotency_level.Idempotent = codes "IDEMPOTENT"

@@ -1,0 +1,18 @@
+//! Descriptors, with the field names of descriptor.proto.
+#![tactic(auto)]
+
+mod enumeration;
+mod field;
+mod file;
+mod message;
+mod service;
+
+pub use enumeration::{
+    EnumDescriptor, EnumOptions, EnumReservedRange, EnumValueDescriptor, EnumValueOptions,
+};
+pub use field::{FieldDescriptor, FieldOptions, FieldType, Label};
+pub use file::{Descriptors, FileDescriptor, FileOptions, OptimizeMode, Syntax};
+pub use message::{MessageDescriptor, MessageOptions, NumberRange, OneofDescriptor};
+pub use service::{
+    IdempotencyLevel, MethodDescriptor, MethodOptions, ServiceDescriptor, ServiceOptions,
+};

@@ -1,7 +1,0 @@
-use Rattle.std.proofs.Common.{◌≡◌, ◌∷◌, ◌++◌, map, drop, string_bytes}
-use Rattle.std.specs.List.{flat_map}
-use Rattle.proto_meaning.specs.Joined.{joined}
-use Rattle.proto_file_rules.proofs.heads.joined_behind.Given as goal
-
-abbrev pub invariant-loop-word : goal.invariant-loop-word
-invariant-loop-word l = string_bytes l.name ++ flat_map (λ w. 46 ∷ w) (map (λ w. w.now) (drop l.word-index l.rest)) ≡ joined (l.fn.first ∷ map (λ w. w.now) l.rest)

@@ -1,7 +1,0 @@
-use Rattle.std.proofs.Common.{◌≡◌, ◌++◌, map, drop}
-use Rattle.proto_tree.specs.File.{trees, item_tree}
-use Rattle.proto_file_rules.specs.Imports.{imports_in}
-use Rattle.proto_file_rules.proofs.imports.import_statements.Given as goal
-
-abbrev pub invariant-loop-item : goal.invariant-loop-item
-invariant-loop-item l = map (λ i. i.now) l.imports.items ++ imports_in (trees item_tree (drop l.item-index l.item-items)) ≡ imports_in (trees item_tree l.item-items)

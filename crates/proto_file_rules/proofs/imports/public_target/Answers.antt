@@ -1,5 +1,0 @@
-use Rattle.std.proofs.Common.{rules}
-use Rattle.proto_file_rules.proofs.imports.public_target.Goals as goal
-
-pub returns : goal.returns
-returns c = search rules

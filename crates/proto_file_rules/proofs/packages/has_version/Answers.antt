@@ -1,5 +1,0 @@
-use Rattle.std.proofs.Common.{rules}
-use Rattle.proto_file_rules.proofs.packages.has_version.Goals as goal
-
-pub returns-else-not-has_package : goal.returns-else-not-has_package
-returns-else-not-has_package c = search rules

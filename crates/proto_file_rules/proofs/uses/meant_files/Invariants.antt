@@ -1,9 +1,0 @@
-use Rattle.std.proofs.Common.{◌≡◌, length, take}
-use Rattle.proto_file_rules.specs.ImportTables.{MarksMeant}
-use Rattle.proto_file_rules.proofs.uses.meant_files.Given as goal
-
-abbrev pub invariant-loop-meant : goal.invariant-loop-meant
-invariant-loop-meant l = record {
-  len : length l.marks.items ≡ l.fn.count;
-  marks : MarksMeant l.link (take l.meant-index l.meant-items) l.fn.count l.marks.items;
-}

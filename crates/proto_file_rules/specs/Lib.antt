@@ -1,4 +1,0 @@
-pub mod Heads
-pub mod ImportTables
-pub mod Imports
-pub mod Packages

@@ -1,5 +1,0 @@
-use Rattle.std.proofs.Common.{rules}
-use Rattle.proto_json.proofs.field.Label.name.Goals as goal
-
-pub returns-in-Required : goal.returns-in-Required
-returns-in-Required c = search rules

@@ -1,0 +1,72 @@
+-- The import statements of trees.
+use Rattle.std.proofs.Common.{◌≡◌, ℕ, ◌+◌, ◌<◌, List, [], ◌∷◌, ◌++◌, Bor, length, get_or, map, take, refl, sym, ◌∙◌, ap, subst, append_assoc}
+use Rattle.std.specs.Prelude.{Err, Ok, OnOk, Result, is_some}
+use Rattle.std.specs.List.{Contains, flat_map}
+use Rattle.std.proofs.lemmas.Grind.{flat_map-append}
+use Rattle.std.proofs.lemmas.List.{append-nil, map-append}
+use Rattle.proto_text.specs.declared.lexer.Token.{Token}
+use Rattle.proto_text.specs.Strings.{IsString}
+use Rattle.proto_text.specs.Texts.{words}
+use Rattle.proto_faults.proofs.Lists.{contains_map}
+use Rattle.proto_tree.specs.declared.piece.Statement.{Statement}
+use Rattle.proto_tree.specs.declared.piece.Statement.TheVariants as statement
+use Rattle.proto_tree.specs.declared.tree.Import.{Import}
+use Rattle.proto_tree.specs.Reads.{Reads}
+use Rattle.proto_tree.specs.Tree.{Tree, End, Leaf, Block, joined}
+use Rattle.proto_listing.specs.FromTree.{Wanted}
+use Rattle.proto_listing.specs.FromTree as names
+use Rattle.proto_listing.proofs.ReadTrees.{imports_are_strings}
+use Rattle.proto_imports.proofs.Turned.{take_more}
+use Rattle.proto_parts.specs.Parts.{statements}
+use Rattle.proto_parts.proofs.JoinedTrees.{statements_joined}
+use Rattle.proto_lint.specs.Imports.{imports_in, statement_imports}
+
+pub imports_joined : (t u : Tree) → imports_in (joined t u) ≡ imports_in t ++ imports_in u
+imports_joined t u = ap (flat_map statement_imports) (statements_joined t u) ∙ flat_map-append statement_imports (statements t) (statements u)
+
+-- an import as the names have it
+abbrev wanted_as : Import → Wanted
+wanted_as i = record { path = i.path; is_public = is_some i.public }
+
+same_statement : (s : Statement) → names.statement_imports s ≡ map wanted_as (statement_imports s)
+same_statement (statement.Syntax x) = refl
+same_statement (statement.Import x) = refl
+same_statement (statement.Package x) = refl
+same_statement (statement.Option x) = refl
+same_statement (statement.Field x) = refl
+same_statement (statement.MapField x) = refl
+same_statement (statement.Reserved x) = refl
+same_statement (statement.Extensions x) = refl
+same_statement (statement.Value x) = refl
+same_statement (statement.EnumReserved x) = refl
+same_statement (statement.Method x e) = refl
+same_statement (statement.Empty x) = refl
+
+same_imports : (t : Tree) → names.imports_in t ≡ map wanted_as (imports_in t)
+same_imports End = refl
+same_imports (Leaf s rest) =
+    ap (λ ws. ws ++ names.imports_in rest) (same_statement s) ∙ ap (λ ws. map wanted_as (statement_imports s) ++ ws) (same_imports rest)
+    ∙ sym (map-append wanted_as (statement_imports s) (imports_in rest))
+same_imports (Block h i within j rest) = same_imports rest
+
+-- they name files by strings
+pub paths_are_strings : (text : List ℕ) (tokens : List Token) (tree : Tree) → Reads text tokens tree → (i : Import) → Contains (imports_in tree) i → IsString (words text tokens i.path)
+paths_are_strings text tokens tree reads i c = imports_are_strings text tokens tree reads (wanted_as i) (subst (λ (ws : List Wanted). Contains ws (wanted_as i)) (sym (same_imports tree)) (contains_map wanted_as (imports_in tree) i c))
+
+-- one list after another is added
+pub then_more : {A : Type 0} (a b c x y : List A) → b ≡ a ++ x → c ≡ b ++ y → c ≡ a ++ (x ++ y)
+then_more a b c x y e h = h ∙ ap (λ zs. zs ++ y) e ∙ append_assoc a x y
+
+-- what is found of one import more
+pub finds_more : {A : Type 0} (finds : Import → List A) (xs : List (Bor Import)) (i : ℕ) (d : Bor Import) → i < length xs
+    → flat_map finds (map (λ x. x.now) (take (i + 1) xs)) ≡ flat_map finds (map (λ x. x.now) (take i xs)) ++ finds (get_or xs i d).now
+finds_more finds xs i d l =
+    ap (λ (ys : List (Bor Import)). flat_map finds (map (λ x. x.now) ys)) (take_more xs i d l)
+    ∙ ap (flat_map finds) (map-append (λ x. x.now) (take i xs) (get_or xs i d ∷ []))
+    ∙ flat_map-append finds (map (λ x. x.now) (take i xs)) ((get_or xs i d).now ∷ [])
+    ∙ ap (λ zs. flat_map finds (map (λ x. x.now) (take i xs)) ++ zs) (append-nil (finds (get_or xs i d).now))
+
+-- what follows of a call that is well
+pub on_ok_of : {T E P Q : Type 0} (r : Result T E) → (P → Q) → OnOk r P → OnOk r Q
+on_ok_of (Ok x) f h = f h
+on_ok_of (Err e) f h = tt

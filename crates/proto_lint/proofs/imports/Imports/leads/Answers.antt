@@ -1,0 +1,44 @@
+use Rattle.std.proofs.Common.{◌≡◌, ◌<◌, ◌↔◌, ℕ, List, Option, Some, length, map, true, sym, ◌∙◌, ap, subst, arith}
+use Rattle.std.specs.List.{All}
+use Rattle.proto_files.specs.GivenFiles.{paths_of}
+use Rattle.proto_meaning.specs.Faults.{file_of}
+use Rattle.proto_files.specs.FilesRead.{ReadOf}
+use Rattle.proto_imports.specs.Links.{link_imports}
+use Rattle.proto_imports.specs.Walks.{IsMarked}
+use Rattle.proto_lint.proofs.Reached.{reach_walks, walk_reaches}
+use Rattle.proto_lint.proofs.UsedFinds.{place_within}
+use Rattle.proto_lint.specs.ImportTables.{ArePublic, LeadsToMarked}
+use Rattle.proto_lint.proofs.imports.Imports.leads.Goals as goal
+
+pub reached-requires : goal.reached-requires
+reached-requires c =
+    let files = c.args.files.now in
+    let path = c.args.path.now in
+    let is : file_of (paths_of files) path ≡ Some c.in-Some.file = sym (c.requires.imports.index path) ∙ sym c.place_of.ensures ∙ c.in-Some.is in
+    let low = place_within files path c.in-Some.file is in
+    let count : length c.deref.result.now ≡ length files = subst (λ vs. length vs ≡ length files) (sym c.deref.ensures.value) c.requires.imports.count in
+    record {
+      start = omega (arith, low, count);
+      files = λ k d l j e m.
+          (let all = subst (λ vs. All (λ v. All (λ g. g < length files) v.items) vs) (sym c.deref.ensures.value) c.requires.imports.within in
+          let g = all k d l j e m in
+          omega (arith, g, count));
+    }
+
+pub share_a_mark-requires : goal.share_a_mark-requires
+share_a_mark-requires c = omega (arith, ap length c.deref.ensures.value, ap length c.deref-in-Some.ensures.value, c.requires.imports.count, c.requires.marks, c.in_ok-seen-in-Some.ensures.len)
+
+pub returns-in_ok-seen-in-Some : goal.returns-in_ok-seen-in-Some
+returns-in_ok-seen-in-Some c = λ (reads : List ReadOf) are.
+    (let files = c.args.files.now in
+    let path = c.args.path.now in
+    let imports = link_imports files reads in
+    let next = map (λ v. v.items) c.deref.result.now in
+    let public : ArePublic next imports = subst (λ vs. ArePublic (map (λ v. v.items) vs) imports) (sym c.deref.ensures.value) (c.requires.imports.public reads are) in
+    let is : file_of (paths_of files) path ≡ Some c.in-Some.file = sym (c.requires.imports.index path) ∙ sym c.place_of.ensures ∙ c.in-Some.is in
+    let seen = c.in_ok-seen-in-Some.seen.items in
+    let shared = subst (λ marks. (c.share_a_mark.result ≡ true) ↔ ((g : ℕ) × IsMarked marks g × IsMarked c.args.marks.now g)) c.deref-in-Some.ensures.value c.share_a_mark.ensures in
+    subst (λ (o : Option ℕ). (c.share_a_mark.result ≡ true) ↔ LeadsToMarked imports o c.args.marks.now) (sym is) (
+      λ t. (let x = shared.0 t in (x.0, walk_reaches next imports public ((c.in_ok-seen-in-Some.ensures.exact x.0).0 x.1), x.2)),
+      λ (g, r, m). shared.1 (g, (c.in_ok-seen-in-Some.ensures.exact g).1 (reach_walks next imports public r), m),
+    ))

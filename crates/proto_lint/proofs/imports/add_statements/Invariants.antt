@@ -1,0 +1,13 @@
+use Rattle.std.proofs.Common.{◌≡◌, ◌++◌, List, map, take}
+use Rattle.std.specs.List.{flat_map}
+use Rattle.proto_files.specs.GivenFiles.{paths_of}
+use Rattle.proto_files.specs.FilesRead.{ReadOf, AreRead}
+use Rattle.proto_imports.specs.Links.{names_of_files}
+use Rattle.proto_findings.specs.Readings.{reading_of}
+use Rattle.proto_findings.specs.Views.{found_of}
+use Rattle.proto_lint.specs.Imports.{import_finds}
+use Rattle.proto_lint.proofs.imports.add_statements.Given as goal
+
+abbrev pub invariant-loop-import : goal.invariant-loop-import
+invariant-loop-import l = (reads : List ReadOf) → AreRead l.files reads
+    → map found_of l.found.items ≡ map found_of l.initial.found.items ++ flat_map (import_finds l.rules.chosen (names_of_files l.files reads) (paths_of l.files) (reading_of l.reading) l.reading.file) (map (λ i. i.now) (take l.import-index l.statements))

@@ -1,7 +1,0 @@
-use Rattle.std.proofs.Common.{◌≡◌, ◌++◌, map}
-use Rattle.proto_findings.specs.Listings.{found_in}
-use Rattle.proto_findings.specs.Views.{finding_of, found_of}
-use Rattle.proto_lint.proofs.linting.add_findings.Given as goal
-
-abbrev pub invariant-loop-offset : goal.invariant-loop-offset
-invariant-loop-offset l = map finding_of l.all.items ++ map (found_in l.path) (map found_of l.offset-iterator.rest.items) ≡ map finding_of l.fn.all.items ++ map (found_in l.path) (map found_of l.fn.found.items)

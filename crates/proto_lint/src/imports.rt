@@ -1,0 +1,378 @@
+//! The imports of a workspace, and their rules.
+
+ghost use Rattle.std.specs.Prelude.{◌≡◌, ◌↔◌, ◌++◌, ℕ, ◌<◌, List, length, flat_map, map, true, option_map, option_to_list, IfOk, OnOk};
+ghost use Rattle.std.specs.List.{All};
+ghost use Rattle.proto_text.specs.Strings.{IsString};
+ghost use Rattle.proto_text.specs.Texts.{word_at};
+ghost use Rattle.proto_tree.specs.File.{item_tree, tree_of_file};
+ghost use Rattle.proto_files.specs.GivenFiles.{paths_of};
+ghost use Rattle.proto_meaning.specs.Faults.{file_of};
+ghost use Rattle.proto_meaning.specs.Grown.{at};
+ghost use Rattle.proto_listing.specs.FromTree.{imports_in as wanted_in};
+ghost use Rattle.proto_listing.specs.Listing.{wanted_of};
+ghost use Rattle.proto_imports.specs.ImportSteps.{IsFileIndex};
+ghost use Rattle.proto_files.specs.FilesRead.{ReadOf, AreRead, Each, read_at};
+ghost use Rattle.proto_imports.specs.Links.{link_imports, names_of_files, text_of};
+ghost use Rattle.proto_names.specs.LinkOfFiles.{IsLinkOf};
+ghost use Rattle.proto_findings.specs.Readings.{read_of_file, reading_of, text};
+ghost use Rattle.proto_findings.specs.Placed.{found_by};
+ghost use Rattle.proto_rules.specs.Rules.{is_chosen};
+ghost use Rattle.proto_findings.specs.Views.{found_of};
+ghost use Rattle.proto_rules.specs.declared.rule.Rule.TheVariants as rule;
+ghost use Rattle.proto_lint.specs.Imports.{import_finds, import_no_public, import_used, imports_finds, imports_in};
+ghost use Rattle.proto_lint.specs.ImportTables.{AreImportsOf, LeadsToMarked, MarksUsed, public_target, public_targets};
+
+use crate::uses::{share_a_mark, used_files};
+use indexmap::IndexMap;
+use proto_faults::NoMemory;
+use proto_files::{Files, Words, all_paths};
+use proto_findings::{Found, Reading, Rule, RuleSet, add_unless};
+use proto_imports::first_places::{first_places, place_of};
+use proto_imports::walk::reached;
+use proto_listing::wanted;
+use proto_listing::wanted::Wanted;
+use proto_names::{Link, are_read};
+use proto_text::string_value;
+use proto_tree::{File, Import, Item};
+use std::alloc::Global;
+
+/// The files of a workspace by their paths, and for each file those that it imports publicly.
+#[derive(Drop)]
+pub struct Imports {
+    files: IndexMap<String, u32>,
+    public: Vec<Vec<u32>>,
+}
+
+/// The files by their paths.
+fn files_by_path(alloc: Global, files: &Files) -> Result<IndexMap<String, u32>, NoMemory>
+    ensures { IfOk result (λ index. IsFileIndex index (paths_of files.now)) }
+{
+    // There are at most 4,096 files.
+    let _count = files.len();
+    let paths = all_paths(alloc, files)?;
+    let index = first_places(alloc, &paths)?;
+    Ok(index)
+}
+
+/// The file that a public import names.
+fn public_target(
+    alloc: Global,
+    index: &IndexMap<String, u32>,
+    words: &Words,
+    import: &Wanted,
+) -> Result<Option<u32>, NoMemory>
+    requires { IsString (word_at words.now import.now.path) }
+    ensures { IfOk result (λ to. (paths : List (List ℕ)) → IsFileIndex index.now paths
+        → to ≡ public_target paths (word_at words.now) (wanted_of import.now)) }
+{
+    if !import.is_public {
+        return Ok(None);
+    }
+    let path = string_value(alloc, words.get(import.path))?;
+    Ok(place_of(index, path.as_str()))
+}
+
+fn add(targets: &mut Vec<u32>, target: Option<u32>) -> Result<(), NoMemory>
+    ensures { OnOk result (targets.new.items ≡ targets.old.items ++ option_to_list target) }
+{
+    if let Some(target) = target {
+        targets.push(target)?;
+    }
+    Ok(())
+}
+
+/// The files that the public ones of these imports name.
+fn public_targets(
+    alloc: Global,
+    index: &IndexMap<String, u32>,
+    words: &Words,
+    wanted: &[Wanted],
+) -> Result<Vec<u32>, NoMemory>
+    requires { All (λ w. IsString (word_at words.now w.path)) wanted.now }
+    ensures { IfOk result (λ targets. (paths : List (List ℕ)) → IsFileIndex index.now paths
+        → targets.items ≡ public_targets paths (word_at words.now) (map wanted_of wanted.now)) }
+{
+    let mut targets = Vec::new(alloc);
+    for import in wanted {
+        add(&mut targets, public_target(alloc, index, words, import)?)?;
+    }
+    Ok(targets)
+}
+
+/// The files that one file imports publicly.
+fn public_of(
+    alloc: Global,
+    files: &Files,
+    index: &IndexMap<String, u32>,
+    file: usize,
+) -> Result<Vec<u32>, NoMemory>
+    requires { file < length files.now }
+    ensures { IfOk result (λ public. (paths : List (List ℕ))
+        → IsFileIndex index.now paths → (reads : List ReadOf) → AreRead files.now reads
+        → public.items ≡ public_targets paths (λ i. text_of files.now reads (at file i))
+        (wanted_in (read_at reads file).tree)) }
+{
+    let words = Words::new(files, file);
+    let wanted = wanted::imports(alloc, files.tree(file))?;
+    let public = public_targets(alloc, index, &words, &wanted)?;
+    Ok(public)
+}
+
+/// For each file those that it imports publicly.
+fn all_public(
+    alloc: Global,
+    files: &Files,
+    index: &IndexMap<String, u32>,
+) -> Result<Vec<Vec<u32>>, NoMemory>
+    ensures len { IfOk result (λ public. length public.items ≡ length files.now) }
+    ensures each { IfOk result (λ public. (paths : List (List ℕ))
+        → IsFileIndex index.now paths → (reads : List ReadOf) → AreRead files.now reads
+        → Each (λ k v. v.items ≡ public_targets paths (λ i. text_of files.now reads (at k i))
+        (wanted_in (read_at reads k).tree)) public.items) }
+{
+    let mut public = Vec::new(alloc);
+    for file in 0..files.len() {
+        public.push(public_of(alloc, files, index, file)?)?;
+    }
+    Ok(public)
+}
+
+impl Imports {
+    /// The imports of the files. Only want of memory is refused.
+    pub fn new(alloc: Global, files: &Files) -> Result<Imports, NoMemory>
+        ensures { IfOk result (AreImportsOf files.now) }
+    {
+        // Each file has tokens and a tree.
+        are_read(files);
+        let index = files_by_path(alloc, files)?;
+        let public = all_public(alloc, files, &index)?;
+        Ok(Imports {
+            files: index,
+            public,
+        })
+    }
+
+    /// Whether public imports of any number lead from the file with this path to one that is
+    /// marked.
+    fn leads(
+        &self,
+        alloc: Global,
+        files: &Files,
+        path: &str,
+        marks: &[bool],
+    ) -> Result<bool, NoMemory>
+        requires imports { AreImportsOf files.now self.now }
+        requires marks { length marks.now ≡ length files.now }
+        ensures { IfOk result (λ leads. (reads : List ReadOf) → AreRead files.now reads
+            → (leads ≡ true) ↔ LeadsToMarked (link_imports files.now reads)
+            (file_of (paths_of files.now) path.now) marks.now) }
+    {
+        match place_of(&self.files, path) {
+            Some(file) => {
+                let seen = reached(alloc, &self.public, file)?;
+                Ok(share_a_mark(&seen, marks))
+            }
+            None => Ok(false),
+        }
+    }
+}
+
+// ---- the rules
+
+fn add_import_no_public(
+    alloc: Global,
+    found: &mut Vec<Found>,
+    rules: &RuleSet,
+    reading: &Reading,
+    import: &Import,
+) -> Result<(), NoMemory>
+    requires { IsString (text (reading_of reading.now) import.now.path) }
+    ensures { OnOk result (map found_of found.new.items ≡ map found_of found.old.items
+        ++ found_by rules.now.chosen (reading_of reading.now) rule.ImportNoPublic
+        (import_no_public (reading_of reading.now) import.now)) }
+{
+    let rule = Rule::ImportNoPublic;
+    if rules.has(rule) && import.public.is_some() {
+        let path = string_value(alloc, reading.text(import.path))?;
+        add_unless(
+            alloc,
+            found,
+            reading,
+            rule,
+            false,
+            import.keyword,
+            path.as_str(),
+        )?;
+    }
+    Ok(())
+}
+
+fn add_import_used(
+    alloc: Global,
+    found: &mut Vec<Found>,
+    rules: &RuleSet,
+    reading: &Reading,
+    files: &Files,
+    imports: &Imports,
+    marks: &[bool],
+    import: &Import,
+) -> Result<(), NoMemory>
+    requires string { IsString (text (reading_of reading.now) import.now.path) }
+    requires imports { AreImportsOf files.now imports.now }
+    requires marks { is_chosen rules.now.chosen rule.ImportUsed
+        ≡ true → MarksUsed files.now reading.now.file marks.now }
+    ensures { OnOk result ((reads : List ReadOf) → AreRead files.now reads
+        → map found_of found.new.items ≡ map found_of found.old.items
+        ++ found_by rules.now.chosen (reading_of reading.now) rule.ImportUsed
+        (import_used (names_of_files files.now reads) (paths_of files.now)
+        (reading_of reading.now) reading.now.file import.now)) }
+{
+    let rule = Rule::ImportUsed;
+    if rules.has(rule) && import.public.is_none() {
+        let path = string_value(alloc, reading.text(import.path))?;
+        let is_used = imports.leads(alloc, files, path.as_str(), marks)?;
+        add_unless(
+            alloc,
+            found,
+            reading,
+            rule,
+            is_used,
+            import.keyword,
+            path.as_str(),
+        )?;
+    }
+    Ok(())
+}
+
+fn add_import(
+    alloc: Global,
+    found: &mut Vec<Found>,
+    rules: &RuleSet,
+    reading: &Reading,
+    files: &Files,
+    imports: &Imports,
+    marks: &[bool],
+    import: &Import,
+) -> Result<(), NoMemory>
+    requires string { IsString (text (reading_of reading.now) import.now.path) }
+    requires imports { AreImportsOf files.now imports.now }
+    requires marks { is_chosen rules.now.chosen rule.ImportUsed
+        ≡ true → MarksUsed files.now reading.now.file marks.now }
+    ensures { OnOk result ((reads : List ReadOf) → AreRead files.now reads
+        → map found_of found.new.items ≡ map found_of found.old.items
+        ++ import_finds rules.now.chosen (names_of_files files.now reads)
+        (paths_of files.now) (reading_of reading.now) reading.now.file import.now) }
+{
+    add_import_no_public(alloc, found, rules, reading, import)?;
+    add_import_used(alloc, found, rules, reading, files, imports, marks, import)?;
+    Ok(())
+}
+
+fn import(item: &Item) -> Option<&Import>
+    ensures { option_to_list (option_map (λ i. i.now) result) ≡ imports_in (item_tree item.now) }
+{
+    match item {
+        Item::Import(import) => Some(import),
+        _ => None,
+    }
+}
+
+/// The import statements of a file.
+fn import_statements<'a>(alloc: Global, file: &'a File) -> Result<Vec<&'a Import>, NoMemory>
+    ensures { IfOk result (λ imports. map (λ i. i.now) imports.items
+        ≡ imports_in (tree_of_file file.now)) }
+{
+    let mut imports = Vec::new(alloc);
+    for item in &file.items {
+        if let Some(import) = import(item) {
+            imports.push(import)?;
+        }
+    }
+    Ok(imports)
+}
+
+/// The marks of the files that imports of a file are used for, if the rules ask for them.
+fn marks_for(
+    alloc: Global,
+    rules: &RuleSet,
+    files: &Files,
+    link: &Link,
+    file: usize,
+) -> Result<Vec<bool>, NoMemory>
+    requires file { file < length files.now }
+    requires link { IsLinkOf files.now link.now }
+    ensures { IfOk result (λ marks. is_chosen rules.now.chosen rule.ImportUsed
+        ≡ true → MarksUsed files.now file marks.items) }
+{
+    if rules.has(Rule::ImportUsed) {
+        let marks = used_files(alloc, files, link, file)?;
+        Ok(marks)
+    } else {
+        Ok(Vec::new(alloc))
+    }
+}
+
+fn add_statements(
+    alloc: Global,
+    found: &mut Vec<Found>,
+    rules: &RuleSet,
+    reading: &Reading,
+    files: &Files,
+    imports: &Imports,
+    marks: &[bool],
+    statements: &[&Import],
+) -> Result<(), NoMemory>
+    requires strings { All
+        (λ i. IsString (text (reading_of reading.now) i.now.path)) statements.now }
+    requires imports { AreImportsOf files.now imports.now }
+    requires marks { is_chosen rules.now.chosen rule.ImportUsed
+        ≡ true → MarksUsed files.now reading.now.file marks.now }
+    ensures { OnOk result ((reads : List ReadOf) → AreRead files.now reads
+        → map found_of found.new.items ≡ map found_of found.old.items
+        ++ flat_map (import_finds rules.now.chosen (names_of_files files.now reads)
+        (paths_of files.now) (reading_of reading.now) reading.now.file)
+        (map (λ i. i.now) statements.now)) }
+{
+    for import in statements {
+        add_import(alloc, found, rules, reading, files, imports, marks, import)?;
+    }
+    Ok(())
+}
+
+/// Adds what the rules of imports find in the file that is read so. Only want of memory is refused.
+pub fn add_imports(
+    alloc: Global,
+    found: &mut Vec<Found>,
+    rules: &RuleSet,
+    reading: &Reading,
+    imports: &Imports,
+    link: &Link,
+    files: &Files,
+) -> Result<(), NoMemory>
+    requires file { reading.now.file < length files.now }
+    requires reading { (reads : List ReadOf) → AreRead files.now reads
+        → reading_of reading.now ≡ read_of_file files.now reads reading.now.file }
+    requires imports { AreImportsOf files.now imports.now }
+    requires link { IsLinkOf files.now link.now }
+    ensures { OnOk result ((reads : List ReadOf) → AreRead files.now reads
+        → map found_of found.new.items ≡ map found_of found.old.items
+        ++ imports_finds rules.now.chosen (names_of_files files.now reads)
+        (paths_of files.now) (reading_of reading.now) reading.now.file
+        (read_at reads reading.now.file).tree) }
+{
+    // Each file has tokens and a tree.
+    are_read(files);
+    let file = reading.file as usize;
+    let marks = marks_for(alloc, rules, files, link, file)?;
+    let statements = import_statements(alloc, files.tree(file))?;
+    add_statements(
+        alloc,
+        found,
+        rules,
+        reading,
+        files,
+        imports,
+        &marks,
+        &statements,
+    )
+}

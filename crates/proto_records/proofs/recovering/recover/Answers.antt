@@ -1,0 +1,53 @@
+use Rattle.std.proofs.Common.{◌≡◌, ◌⊎◌, List, ℕ, sym, ap, ◌∙◌, subst}
+use Rattle.std.specs.Prelude.{Ok, Option, String, option_map}
+use Rattle.std.specs.Global.{Global, Vec}
+use Rattle.proto_files.specs.GivenFiles.{FileOf, files_of}
+use Rattle.proto_entries.specs.Entries.{ChangeOf}
+use Rattle.proto_store.specs.Stores.{Held, HoldsJournal, with_journal}
+use Rattle.proto_records.specs.Known.{Over}
+use Rattle.proto_records.specs.Restoring.{AreOldFiles, ArePartlyIn, OpenOutcome, with_files}
+use Rattle.proto_records.proofs.Outcomes.{IsOpenAt, all_listed, cut_off, recovered}
+use Rattle.proto_records.proofs.recovering.recover.Goals as goal
+
+pub put_back-requires-clause-listed : goal.put_back-requires-clause-listed
+put_back-requires-clause-listed g c =
+    let old : Option Held = g.S.Store.holds c.args.store.now in
+    let entry : List ChangeOf = c.in-Some.entry in
+    let found : Over old (λ h. AreOldFiles entry h.files (files_of c.as_slice-2.result.now)) =
+    subst (λ (fs : List (String Global × Vec ℕ)). Over old (λ h. AreOldFiles entry h.files (files_of fs))) (sym c.as_slice-2.ensures.value)
+    (subst (λ (z : Option Held). Over z (λ h. AreOldFiles entry h.files (files_of c.in_ok-files.files.items))) c.read_journal.ensures.same c.in_ok-files.ensures.ok) in
+    all_listed old (g.S.Store.holds c.old_files.new.store) entry (files_of c.as_slice-2.result.now) (c.in_ok-files.ensures.same ∙ c.read_journal.ensures.same) found
+
+pub returns-in-Ok-put_back-clause-outcome : goal.returns-in-Ok-put_back-clause-outcome
+returns-in-Ok-put_back-clause-outcome g c =
+    let old : Option Held = g.S.Store.holds c.args.store.now in
+    let entry : List ChangeOf = c.in-Some.entry in
+    let journal : List ℕ = c.as_slice-3.result.now in
+    let olds : List FileOf = files_of c.as_slice-2.result.now in
+    let found : Over old (λ h. AreOldFiles entry h.files olds) =
+    subst (λ (fs : List (String Global × Vec ℕ)). Over old (λ h. AreOldFiles entry h.files (files_of fs))) (sym c.as_slice-2.ensures.value)
+    (subst (λ (z : Option Held). Over z (λ h. AreOldFiles entry h.files (files_of c.in_ok-files.files.items))) c.read_journal.ensures.same c.in_ok-files.ensures.ok) in
+    let opens : IsOpenAt journal entry = subst (λ (t : List ℕ). IsOpenAt t entry) (c.as_slice.ensures.value ∙ sym c.as_slice-3.ensures.value)
+    (subst (λ (o : Option (List ChangeOf)). OpenOutcome c.as_slice.result.now (Ok o)) c.in-Some.is c.in_ok-entry.ensures) in
+    let there : HoldsJournal old journal = subst (λ (t : List ℕ). HoldsJournal old t) (sym c.as_slice-3.ensures.value) c.in-Ok.ensures.bytes in
+    recovered journal c.without_last.result.now entry olds c.journals_grow_and_shrink.ensures.less c.without_last.ensures old (g.S.Store.holds c.put_back.new.store) there opens found
+    (c.in-Ok-put_back.ensures.ok ∙ ap (λ (z : Option Held). option_map (with_journal c.without_last.result.now) (option_map (with_files olds) z)) (c.in_ok-files.ensures.same ∙ c.read_journal.ensures.same))
+
+pub returns-clause-outcome : goal.returns-clause-outcome
+returns-clause-outcome g c =
+    let old : Option Held = g.S.Store.holds c.args.store.now in
+    let new : Option Held = g.S.Store.holds c.put_back.new.store in
+    let entry : List ChangeOf = c.in-Some.entry in
+    let journal : List ℕ = c.as_slice-3.result.now in
+    let short : List ℕ = c.without_last.result.now in
+    let olds : List FileOf = files_of c.as_slice-2.result.now in
+    let found : Over old (λ h. AreOldFiles entry h.files olds) =
+    subst (λ (fs : List (String Global × Vec ℕ)). Over old (λ h. AreOldFiles entry h.files (files_of fs))) (sym c.as_slice-2.ensures.value)
+    (subst (λ (z : Option Held). Over z (λ h. AreOldFiles entry h.files (files_of c.in_ok-files.files.items))) c.read_journal.ensures.same c.in_ok-files.ensures.ok) in
+    let opens : IsOpenAt journal entry = subst (λ (t : List ℕ). IsOpenAt t entry) (c.as_slice.ensures.value ∙ sym c.as_slice-3.ensures.value)
+    (subst (λ (o : Option (List ChangeOf)). OpenOutcome c.as_slice.result.now (Ok o)) c.in-Some.is c.in_ok-entry.ensures) in
+    let there : HoldsJournal old journal = subst (λ (t : List ℕ). HoldsJournal old t) (sym c.as_slice-3.ensures.value) c.in-Ok.ensures.bytes in
+    let cut : ArePartlyIn olds old new ⊎ (new ≡ option_map (with_journal short) (option_map (with_files olds) old)) =
+    subst (λ (z : Option Held). ArePartlyIn olds z new ⊎ (new ≡ option_map (with_journal short) (option_map (with_files olds) z))) (c.in_ok-files.ensures.same ∙ c.read_journal.ensures.same)
+    c.in-Err-Failed-put_back.ensures.err in
+    cut_off journal short entry olds c.journals_grow_and_shrink.ensures.less c.without_last.ensures old new there opens found cut

@@ -1,3 +1,0 @@
-pub mod Answers
-pub mod Whole
-pub use Rattle.proto_desc.specs.Checked

@@ -1,0 +1,46 @@
+//! The change of one file by one splice.
+
+ghost use Rattle.std.specs.Prelude.{◌<◌, length, IfOk};
+ghost use Rattle.proto_text.specs.SourceFacts.{IsSpan};
+ghost use Rattle.proto_files.specs.GivenFiles.{file_at};
+ghost use Rattle.proto_statement_laws.specs.Deletions.{splice};
+ghost use Rattle.proto_statement_edits.specs.Spliced.{IsSpliced};
+
+use proto_entries::{Change, one_splice};
+use proto_faults::NoMemory;
+use proto_files::Files;
+use proto_text::Span;
+use std::alloc::Global;
+
+/// How many bytes a file has at most.
+const MAX_LEN: usize = 1_048_576;
+
+/// The change that puts a text in the place of what stands at the span of a file; none where the
+/// file would have more than 1,048,576 bytes.
+pub fn spliced(
+    alloc: Global,
+    files: &Files,
+    file: u32,
+    span: Span,
+    new: &str,
+) -> Result<Option<Change>, NoMemory>
+    requires file { file < length files.now }
+    requires span { IsSpan (file_at files.now file).bytes span }
+    ensures { IfOk result (λ found. IsSpliced (file_at files.now file)
+        (splice (file_at files.now file).bytes span.start span.end new.now) found) }
+{
+    let place = file as usize;
+    let source = files.source(place);
+    let before = source.as_bytes().len();
+    let old = source.text(span);
+    let kept = before - old.len();
+    if new.len() > MAX_LEN - kept {
+        return Ok(None);
+    }
+    Ok(Some(Change {
+        path: files.path(place).to_string(alloc)?,
+        before: before as u32,
+        after: (kept + new.len()) as u32,
+        splices: one_splice(alloc, span.start, old, new)?,
+    }))
+}

@@ -1,0 +1,123 @@
+-- With the same imports, in whatever order, the same is seen; and the imports of files with those of one file changed (for the crates above).
+use Rattle.std.proofs.Common.{◌≡◌, ◌≢◌, ◌⊎◌, ◌↔◌, ℕ, zero, suc, ◌+◌, ◌<◌, Bool, true, false, ◌&&◌, ◌||◌, ◌==◌, List, [], ◌∷◌, length, get_or, filter, refl, sym, ◌∙◌, ap, subst, inl, inr, arith, slice_set}
+use Rattle.std.specs.List.{All, Contains, list_any}
+use Rattle.std.proofs.lemmas.Bool.{cases_Bool, cases_eq, both_ways, cond-true, cond-false}
+use Rattle.std.proofs.lemmas.List.{get_or_default, get_or-set_same, get_or-set_other}
+use Rattle.std.proofs.lemmas.List.Elements.{Contains-get_or}
+use Rattle.proto_faults.proofs.Lists.{any_from, any_to, contains_cases, contains_head, contains_later}
+use Rattle.proto_meaning.specs.Edits.{with_imports}
+use Rattle.proto_meaning.specs.Marks.{MarksSeen}
+use Rattle.proto_meaning.specs.Names.{Import, Workspace, reaches, sees}
+use Rattle.proto_imports.specs.Importing.{all_imports, import_from}
+use Rattle.proto_imports.specs.declared.import.FileImport.{FileImport}
+use Rattle.proto_imports.proofs.ImportGraph.{import_in, import_of_file}
+
+-- ---- what is seen
+
+or_more : (x y z : Bool) → (y ≡ true → z ≡ true) → (x || y) ≡ true → (x || z) ≡ true
+or_more true y z f h = refl
+or_more false y z f h = f h
+
+and_more : (x y z : Bool) → (y ≡ true → z ≡ true) → (x && y) ≡ true → (x && z) ≡ true
+and_more true y z f h = f h
+and_more false y z f h = h
+
+any_more : (p q : Import → Bool) (xs ys : List Import) → ((i : Import) → Contains xs i → Contains ys i) → ((i : Import) → p i ≡ true → q i ≡ true) → list_any p xs ≡ true → list_any q ys ≡ true
+any_more p q xs ys sub turn h = let x = any_to p xs h in any_from q ys x.0 (sub x.0 x.1) (turn x.0 x.2)
+
+same_test : (a b : Bool) → (a ≡ true → b ≡ true) → (b ≡ true → a ≡ true) → a ≡ b
+same_test true b f g = sym (f refl)
+same_test false true f g = g refl
+same_test false false f g = refl
+
+module _ (w : Workspace) (xs ys : List Import) (sub : (i : Import) → Contains xs i → Contains ys i) where
+  reaches_by : (n f g : ℕ) → reaches xs n f g ≡ true → reaches ys n f g ≡ true
+  reaches_by zero f g h = h
+  reaches_by (suc n) f g h =
+      or_more (f == g) _ _ (any_more (λ i. (i.from == f) && i.is_public && reaches xs n i.to g) (λ i. (i.from == f) && i.is_public && reaches ys n i.to g) xs ys sub (λ i q. and_more ((i.from == f) && i.is_public) _ _ (reaches_by n i.to g) q)) h
+
+  sees_by : (f g : ℕ) → sees (with_imports w xs) f g ≡ true → sees (with_imports w ys) f g ≡ true
+  sees_by f g h = or_more (f == g) _ _ (any_more (λ i. (i.from == f) && reaches xs w.files i.to g) (λ i. (i.from == f) && reaches ys w.files i.to g) xs ys sub (λ i q. and_more (i.from == f) _ _ (reaches_by w.files i.to g) q)) h
+
+-- so marks of the one are marks of the other
+pub same_marks : (w : Workspace) (xs ys : List Import) → ((i : Import) → Contains xs i ↔ Contains ys i) → (f : ℕ) (marks : List Bool) → MarksSeen (with_imports w xs) f marks → MarksSeen (with_imports w ys) f marks
+same_marks w xs ys same f marks h g =
+    h g ∙ same_test (sees (with_imports w xs) f g) (sees (with_imports w ys) f g) (sees_by w xs ys (λ i c. (same i).0 c) f g) (sees_by w ys xs (λ i c. (same i).1 c) f g)
+
+-- ---- the imports of one file changed
+
+-- an import of another file, or one of these
+abbrev pub IsOneOf : List (List FileImport) → ℕ → List FileImport → Import → Type 0
+IsOneOf is k own i = ((i.from ≢ k) × Contains (all_imports 0 is) i) ⊎ ((x : FileImport) × Contains own x × (import_from k x ≡ i))
+
+pub set_imports : (is : List (List FileImport)) (k : ℕ) (own : List FileImport) → k < length is → (i : Import) → Contains (all_imports 0 (slice_set is k own)) i ↔ IsOneOf is k own i
+set_imports is k own l i = (forth, back)
+  where
+    here : get_or (slice_set is k own) k [] ≡ own
+    here = get_or-set_same is k own [] l
+
+    forth : Contains (all_imports 0 (slice_set is k own)) i → IsOneOf is k own i
+    forth c =
+        let r = import_in 0 (slice_set is k own) i c in
+        let z : 0 + r.0 ≡ r.0 = omega arith in
+        elim (cases_eq r.0 k) [
+          | inl e ↦ inr (r.3.0, subst (λ ys. Contains ys r.3.0) here (subst (λ j. Contains (get_or (slice_set is k own) j []) r.3.0) e r.3.1), ap (λ j. import_from j r.3.0) (sym (z ∙ e)) ∙ r.3.2)
+          | inr ne ↦
+              let d : Contains (all_imports 0 is) i = subst (Contains (all_imports 0 is)) r.3.2 (import_of_file 0 r.0 is r.3.0 (subst (λ ys. Contains ys r.3.0) (get_or-set_other is k r.0 own [] ne) r.3.1)) in
+              inl (λ e. ne (sym z ∙ sym r.2 ∙ e), d)
+        ]
+
+    back : IsOneOf is k own i → Contains (all_imports 0 (slice_set is k own)) i
+    back (inl (other, c)) =
+        let r = import_in 0 is i c in
+        let z : 0 + r.0 ≡ r.0 = omega arith in
+        let ne : r.0 ≢ k = λ e. other (r.2 ∙ z ∙ e) in
+        subst (Contains (all_imports 0 (slice_set is k own))) r.3.2
+        (import_of_file 0 r.0 (slice_set is k own) r.3.0 (subst (λ ys. Contains ys r.3.0) (sym (get_or-set_other is k r.0 own [] ne)) r.3.1))
+    back (inr (x, c, e)) =
+        let z : 0 + k ≡ k = omega arith in
+        subst (Contains (all_imports 0 (slice_set is k own))) (ap (λ j. import_from j x) z ∙ e)
+        (import_of_file 0 k (slice_set is k own) x (subst (λ ys. Contains ys x) (sym here) c))
+
+-- an import of a file stands in the file's list
+pub own_import : (is : List (List FileImport)) (k : ℕ) (i : Import) → Contains (all_imports 0 is) i → i.from ≡ k → (x : FileImport) × Contains (get_or is k []) x × (import_from k x ≡ i)
+own_import is k i c e =
+    let r = import_in 0 is i c in
+    let z : 0 + r.0 ≡ r.0 = omega arith in
+    let at_k : r.0 ≡ k = sym z ∙ sym r.2 ∙ e in
+    (r.3.0, subst (λ j. Contains (get_or is j []) r.3.0) at_k r.3.1, ap (λ j. import_from j r.3.0) (sym (z ∙ at_k)) ∙ r.3.2)
+
+pub import_own : (is : List (List FileImport)) (k : ℕ) (x : FileImport) → Contains (get_or is k []) x → Contains (all_imports 0 is) (import_from k x)
+import_own is k x c = let z : 0 + k ≡ k = omega arith in subst (λ j. Contains (all_imports 0 is) (import_from j x)) z (import_of_file 0 k is x c)
+
+-- ---- what passes a test
+
+pub in_filter : {X : Type 0} (p : X → Bool) (xs : List X) (x : X) → Contains (filter p xs) x → Contains xs x × (p x ≡ true)
+in_filter p [] x c = absurd (omega (arith, c.1))
+in_filter p (y ∷ xs) x c = elim (cases_Bool (p y)) [
+  | inl pass ↦ elim (contains_cases y x (filter p xs) (subst (λ z. Contains z x) (cond-true (p y) (y ∷ filter p xs) (filter p xs) pass) c)) [
+    | inl e ↦ (subst (Contains (y ∷ xs)) e (contains_head y xs), ap p (sym e) ∙ pass)
+    | inr d ↦ let r = in_filter p xs x d in (contains_later y x xs r.0, r.1)
+  ]
+  | inr fail ↦ let r = in_filter p xs x (subst (λ z. Contains z x) (cond-false (p y) (y ∷ filter p xs) (filter p xs) fail) c) in (contains_later y x xs r.0, r.1)
+]
+
+pub of_filter : {X : Type 0} (p : X → Bool) (xs : List X) (x : X) → Contains xs x → p x ≡ true → Contains (filter p xs) x
+of_filter p [] x c e = absurd (omega (arith, c.1))
+of_filter p (y ∷ xs) x c e = elim (cases_Bool (p y)) [
+  | inl pass ↦ subst (λ z. Contains z x) (sym (cond-true (p y) (y ∷ filter p xs) (filter p xs) pass)) (elim (contains_cases y x xs c) [
+    | inl same ↦ subst (Contains (y ∷ filter p xs)) same (contains_head y (filter p xs))
+    | inr d ↦ contains_later y x (filter p xs) (of_filter p xs x d e)
+  ])
+  | inr fail ↦ subst (λ z. Contains z x) (sym (cond-false (p y) (y ∷ filter p xs) (filter p xs) fail)) (elim (contains_cases y x xs c) [
+    | inl same ↦ absurd (both_ways (p y) fail (ap p same ∙ e))
+    | inr d ↦ of_filter p xs x d e
+  ])
+]
+
+-- what holds of all holds of those that pass
+pub all_filtered : {X : Type 0} (P : X → Type 0) (p : X → Bool) (xs : List X) → All P xs → All P (filter p xs)
+all_filtered P p xs h = λ k d l. (
+    let c : Contains (filter p xs) (get_or (filter p xs) k d) = Contains-get_or (filter p xs) k d l in
+    let i = (in_filter p xs (get_or (filter p xs) k d) c).0 in
+    subst P (get_or_default xs i.0 (get_or (filter p xs) k d) (get_or (filter p xs) k d) i.1 ∙ i.2) (h i.0 (get_or (filter p xs) k d) i.1))

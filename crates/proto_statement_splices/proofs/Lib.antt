@@ -1,3 +1,0 @@
-pub mod AloneTrees
-mod FieldTrees
-pub mod ImportEnds

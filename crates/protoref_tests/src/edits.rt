@@ -1,0 +1,14 @@
+//! The workspace, all its edits, and their journal.
+
+mod allocations;
+mod calls;
+mod deletions;
+mod entries;
+mod imports;
+mod journal;
+mod lists;
+mod opening;
+mod renames;
+mod rows;
+mod statements;
+mod wrong_rows;
