@@ -3,7 +3,6 @@
 use crate::files_at;
 use proto_desc::Schema;
 use proto_entries::{Change, Refusal, put_all};
-use proto_faults::NoMemory;
 use proto_files::are_read;
 use proto_rename::rename;
 use proto_statement_deleted::laws::numbers_are_read;
@@ -27,27 +26,19 @@ fn read_edit(words: &[String]) -> Option<(Edit<'_>, &[String])> {
     let [command, first, rest @ ..] = words else {
         return None;
     };
-    let first = first.as_str();
-    if command.as_str() == "delete-field" {
+    let (command, first) = (command.as_str(), first.as_str());
+    if command == "delete-field" {
         return Some((Edit::DeleteField { name: first }, rest));
     }
     let [second, rest @ ..] = rest else {
         return None;
     };
-    let second = second.as_str();
-    let edit = match command.as_str() {
-        "rename" => Edit::Rename {
-            name: first,
-            to: second,
-        },
-        "add-import" => Edit::AddImport {
-            file: first,
-            path: second,
-        },
-        "drop-import" => Edit::DropImport {
-            file: first,
-            path: second,
-        },
+    let (name, to) = (first, second.as_str());
+    let (file, path) = (name, to);
+    let edit = match command {
+        "rename" => Edit::Rename { name, to },
+        "add-import" => Edit::AddImport { file, path },
+        "drop-import" => Edit::DropImport { file, path },
         _ => return None,
     };
     Some((edit, rest))
@@ -66,43 +57,8 @@ fn changes_of(alloc: Global, schema: &Schema, edit: Edit) -> Result<Vec<Change>,
     }
 }
 
-// What the clock says before and behind each part.
-#[derive(Clone, Copy)]
-struct Clocked {
-    begun: io::Result<Instant>,
-    asked: io::Result<Instant>,
-    answered: io::Result<Instant>,
-    ended: io::Result<Instant>,
-}
-
-// How many microseconds each part took.
-#[derive(Clone, Copy)]
-struct Times {
-    opening: u128,
-    editing: u128,
-    reopening: u128,
-}
-
-fn micros(from: Instant, to: Instant) -> u128 {
-    to.duration_since(from).as_micros()
-}
-
-fn times_of(clocked: &Clocked) -> io::Result<Times> {
-    let (begun, asked, answered, ended) = (
-        clocked.begun?,
-        clocked.asked?,
-        clocked.answered?,
-        clocked.ended?,
-    );
-    Ok(Times {
-        opening: micros(begun, asked),
-        editing: micros(asked, answered),
-        reopening: micros(answered, ended),
-    })
-}
-
-// Whether what changes leave is opened.
-fn is_opened_with(alloc: Global, schema: &Schema, changes: &[Change]) -> bool {
+// Whether what the changes leave is opened.
+fn opens_with(alloc: Global, schema: &Schema, changes: &[Change]) -> bool {
     match put_all(alloc, schema.files(), changes) {
         Ok(Some(files)) => match Schema::open(alloc, files) {
             Ok(opened) => {
@@ -111,70 +67,52 @@ fn is_opened_with(alloc: Global, schema: &Schema, changes: &[Change]) -> bool {
             }
             Err(_fault) => false,
         },
-        Ok(None) => false,
-        Err(NoMemory) => false,
+        _ => false,
     }
 }
 
-// What an edit came to.
-#[derive(Clone, Copy)]
-enum Outcome {
-    Changed { count: usize, end: &'static str },
-    Refused { number: u32, name: &'static str },
+fn micros(from: Instant, to: Instant) -> u128 {
+    to.duration_since(from).as_micros()
 }
 
-fn outcome_of(alloc: Global, schema: &Schema, answer: &Result<Vec<Change>, Refusal>) -> Outcome {
+// The answer to an edit that is asked at a time, where the opening of the files began at another,
+// and what it leaves.
+fn print_answer<R: Print + Clock + AllocGlobal>(
+    rt: &R,
+    schema: &Schema,
+    answer: &Result<Vec<Change>, Refusal>,
+    begun: Instant,
+    asked: Instant,
+) -> io::Result<()> {
+    let answered = Instant::now(rt)?;
+    let (opening, editing) = (micros(begun, asked), micros(asked, answered));
     match answer {
-        Ok(changes) => Outcome::Changed {
-            count: changes.len(),
-            end: if is_opened_with(alloc, schema, changes) {
+        Ok(changes) => {
+            let end = if opens_with(rt.alloc(), schema, changes) {
                 "opened anew"
             } else {
                 "not opened anew"
-            },
-        },
-        Err(refusal) => Outcome::Refused {
-            number: refusal.number(),
-            name: refusal.name(),
-        },
-    }
-}
-
-fn print_outcome<R: Print>(rt: &R, outcome: Outcome, clocked: &Clocked) -> io::Result<()> {
-    let Times {
-        opening,
-        editing,
-        reopening,
-    } = times_of(clocked)?;
-    match outcome {
-        Outcome::Changed { count, end } => {
+            };
+            let (count, reopening) = (changes.len(), micros(answered, Instant::now(rt)?));
             println!(rt; "{count} files: opened {opening}, edited {editing}, {end} {reopening}")
         }
-        Outcome::Refused { number, name } => {
+        Err(refusal) => {
+            let (number, name) = (refusal.number(), refusal.name());
             println!(rt; "refused {number} {name}: opened {opening}, edited {editing}")
         }
     }
 }
 
-// The edit, and putting its changes and opening what they leave. Nothing that is owned here is so at
-// an early exit.
-fn time_answer<R: Print + Clock + AllocGlobal>(
+// The answer is borrowed by what has early exits.
+fn answer<R: Print + Clock + AllocGlobal>(
     rt: &R,
     schema: &Schema,
     edit: Edit,
-    begun: io::Result<Instant>,
+    begun: Instant,
 ) -> io::Result<()> {
-    let asked = Instant::now(rt);
+    let asked = Instant::now(rt)?;
     let answer = changes_of(rt.alloc(), schema, edit);
-    let answered = Instant::now(rt);
-    let outcome = outcome_of(rt.alloc(), schema, &answer);
-    let clocked = Clocked {
-        begun,
-        asked,
-        answered,
-        ended: Instant::now(rt),
-    };
-    print_outcome(rt, outcome, &clocked)
+    print_answer(rt, schema, &answer, begun, asked)
 }
 
 /// Prints how many files an edit changes, and three times in microseconds: of opening the files, of
@@ -185,16 +123,16 @@ pub(crate) fn time_edit<R: Files + Print + Clock + AllocGlobal>(
     words: &[String],
 ) -> io::Result<()> {
     let Some((edit, paths)) = read_edit(words) else {
-        return rt.println("no edit");
+        return println!(rt; "no edit");
     };
     let given = files_at(rt, paths)?;
-    let begun = Instant::now(rt);
+    let begun = Instant::now(rt)?;
     match Schema::open(rt.alloc(), given) {
         Ok(schema) => {
-            let printed = time_answer(rt, &schema, edit, begun);
+            let printed = answer(rt, &schema, edit, begun);
             schema.release();
             printed
         }
-        Err(_fault) => rt.println("not opened"),
+        Err(_fault) => println!(rt; "not opened"),
     }
 }

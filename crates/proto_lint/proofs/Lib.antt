@@ -1,5 +1,5 @@
-pub mod FileHeads
 mod FileFindings
+mod FileHeads
 mod HeadLists
 mod ImportLists
 mod Linters

@@ -1,4 +1,4 @@
--- The rules by their numbers, and the order of their identifiers.
+-- The rules by their numbers, and the order of their identifiers (for the crates above).
 use Rattle.std.proofs.Common.{◌≡◌, ◌↔◌, ℕ, zero, suc, ◌<◌, ◌≤◌, Bool, true, false, ◌&&◌, List, [], ◌∷◌, length, slice_index_or, slice_get, Some, None, bytes_eq, refl, sym, ap, ◌∙◌, arith}
 use Rattle.std.proofs.lemmas.Cmp.{by_ranked, nat_list_cmp_total, on_total, ranked, tied_itself}
 use Rattle.std.specs.Cmp.{IsTotalOrder}
