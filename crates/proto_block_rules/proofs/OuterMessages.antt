@@ -26,10 +26,7 @@ is_inner context.Method = true
 
 inside_is_inner : (h : Header) → is_inner (inside h) ≡ true
 inside_is_inner (header.Message h) = refl
-inside_is_inner (header.Oneof h) = refl
-inside_is_inner (header.Enum h) = refl
-inside_is_inner (header.Service h) = refl
-inside_is_inner (header.Method s) = refl
+inside_is_inner whole = refl
 
 stays : (c : Context) (k : Kind) → is_inner c ≡ true → after c k ≡ c
 stays context.Start k e = cc

@@ -270,8 +270,7 @@ module _ (scene : Scene) (c d : Option ℕ) (caps : AlikeCaps c d) where
   covered_block (header.Message h) within = covered_message within
   covered_block (header.Oneof h) within = covered_equal (block_flaws two (header.Oneof h) within) (block_flaws one (header.Oneof h) within) (block_flaws two (header.Oneof h) within) refl
   covered_block (header.Enum h) within = covered_enum h.name within
-  covered_block (header.Service h) within = covered_equal (block_flaws two (header.Service h) within) (block_flaws one (header.Service h) within) (block_flaws two (header.Service h) within) refl
-  covered_block (header.Method s) within = covered_equal (block_flaws two (header.Method s) within) (block_flaws one (header.Method s) within) (block_flaws two (header.Method s) within) refl
+  covered_block whole within = covered_equal (block_flaws two whole within) (block_flaws one whole within) (block_flaws two whole within) refl
 
   pub covered_file : (tree : Tree) → Covered (file_flaws two tree) (file_flaws one tree) (file_flaws two tree)
   covered_file tree =

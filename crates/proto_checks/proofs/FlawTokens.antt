@@ -172,47 +172,18 @@ module _ (Here : ℕ → Type 0) where
   fields_here : (oneof : Option ℕ) (s : Statement) → Marks (flat_statement s) → AllByRecursion FieldHere (statement_fields oneof s)
   fields_here oneof (statement.Field f) h = (plain_here oneof f h, tt)
   fields_here oneof (statement.MapField f) h = (map_here f h, tt)
-  fields_here oneof (statement.Syntax s) h = tt
-  fields_here oneof (statement.Import s) h = tt
-  fields_here oneof (statement.Package s) h = tt
-  fields_here oneof (statement.Option s) h = tt
-  fields_here oneof (statement.Reserved s) h = tt
-  fields_here oneof (statement.Extensions s) h = tt
-  fields_here oneof (statement.Value s) h = tt
-  fields_here oneof (statement.EnumReserved s) h = tt
-  fields_here oneof (statement.Method s i) h = tt
-  fields_here oneof (statement.Empty i) h = tt
+  fields_here oneof whole h = tt
 
   option_here : (s : Statement) → Marks (flat_statement s) → Options_here (statement_options s)
   option_here (statement.Option o) h = (h.1.0, tt)
-  option_here (statement.Field f) h = tt
-  option_here (statement.MapField f) h = tt
-  option_here (statement.Syntax s) h = tt
-  option_here (statement.Import s) h = tt
-  option_here (statement.Package s) h = tt
-  option_here (statement.Reserved s) h = tt
-  option_here (statement.Extensions s) h = tt
-  option_here (statement.Value s) h = tt
-  option_here (statement.EnumReserved s) h = tt
-  option_here (statement.Method s i) h = tt
-  option_here (statement.Empty i) h = tt
+  option_here whole h = tt
 
   abbrev Value_here : Value → Type 0
   Value_here v = Marks (flat_value v)
 
   values_here : (s : Statement) → Marks (flat_statement s) → AllByRecursion Value_here (statement_values s)
   values_here (statement.Value v) h = (h, tt)
-  values_here (statement.Option o) h = tt
-  values_here (statement.Field f) h = tt
-  values_here (statement.MapField f) h = tt
-  values_here (statement.Syntax s) h = tt
-  values_here (statement.Import s) h = tt
-  values_here (statement.Package s) h = tt
-  values_here (statement.Reserved s) h = tt
-  values_here (statement.Extensions s) h = tt
-  values_here (statement.EnumReserved s) h = tt
-  values_here (statement.Method s i) h = tt
-  values_here (statement.Empty i) h = tt
+  values_here whole h = tt
 
   value_parts : (v : Value) → Value_here v → Here v.name × (Here (first_of_signed v.number) × Options_here (settings_of v.settings))
   value_parts v h =
@@ -263,59 +234,21 @@ module _ (Here : ℕ → Type 0) where
       both (λ x. Here x.first) (ranges_of r.list) [] (started (ranges_of r.list) (ranges_listed flat_number r.list (left (flat_reserved_list flat_number r.list) (one_mark class.Semicolon r.semicolon) h.1))) tt
   closed_here (statement.Extensions e) h =
       all_started (separated e.ranges) (separated_here class.Comma (flat_range flat_number) e.ranges (left (flat_separated class.Comma (flat_range flat_number) e.ranges) (one_mark class.Semicolon e.semicolon) h.1))
-  closed_here (statement.Option o) h = tt
-  closed_here (statement.Field f) h = tt
-  closed_here (statement.MapField f) h = tt
-  closed_here (statement.Syntax s) h = tt
-  closed_here (statement.Import s) h = tt
-  closed_here (statement.Package s) h = tt
-  closed_here (statement.Value s) h = tt
-  closed_here (statement.EnumReserved s) h = tt
-  closed_here (statement.Method s i) h = tt
-  closed_here (statement.Empty i) h = tt
+  closed_here whole h = tt
 
   enum_ranges_here : (s : Statement) → Marks (flat_statement s) → Signed_starts (enum_ranges s)
   enum_ranges_here (statement.EnumReserved r) h =
       signed_started (ranges_of r.list) (ranges_listed flat_signed r.list (left (flat_reserved_list flat_signed r.list) (one_mark class.Semicolon r.semicolon) h.1))
-  enum_ranges_here (statement.Reserved s) h = tt
-  enum_ranges_here (statement.Extensions s) h = tt
-  enum_ranges_here (statement.Option o) h = tt
-  enum_ranges_here (statement.Field f) h = tt
-  enum_ranges_here (statement.MapField f) h = tt
-  enum_ranges_here (statement.Syntax s) h = tt
-  enum_ranges_here (statement.Import s) h = tt
-  enum_ranges_here (statement.Package s) h = tt
-  enum_ranges_here (statement.Value s) h = tt
-  enum_ranges_here (statement.Method s i) h = tt
-  enum_ranges_here (statement.Empty i) h = tt
+  enum_ranges_here whole h = tt
 
   reserved_here : (s : Statement) → Marks (flat_statement s) → All_here (reserved_names s)
   reserved_here (statement.Reserved r) h = names_listed flat_number r.list (left (flat_reserved_list flat_number r.list) (one_mark class.Semicolon r.semicolon) h.1)
   reserved_here (statement.EnumReserved r) h = names_listed flat_signed r.list (left (flat_reserved_list flat_signed r.list) (one_mark class.Semicolon r.semicolon) h.1)
-  reserved_here (statement.Extensions s) h = tt
-  reserved_here (statement.Option o) h = tt
-  reserved_here (statement.Field f) h = tt
-  reserved_here (statement.MapField f) h = tt
-  reserved_here (statement.Syntax s) h = tt
-  reserved_here (statement.Import s) h = tt
-  reserved_here (statement.Package s) h = tt
-  reserved_here (statement.Value s) h = tt
-  reserved_here (statement.Method s i) h = tt
-  reserved_here (statement.Empty i) h = tt
+  reserved_here whole h = tt
 
   extensions_here : (s : Statement) → Marks (flat_statement s) → All_here (extension_words s)
   extensions_here (statement.Extensions e) h = (h.0, tt)
-  extensions_here (statement.Reserved s) h = tt
-  extensions_here (statement.EnumReserved s) h = tt
-  extensions_here (statement.Option o) h = tt
-  extensions_here (statement.Field f) h = tt
-  extensions_here (statement.MapField f) h = tt
-  extensions_here (statement.Syntax s) h = tt
-  extensions_here (statement.Import s) h = tt
-  extensions_here (statement.Package s) h = tt
-  extensions_here (statement.Value s) h = tt
-  extensions_here (statement.Method s i) h = tt
-  extensions_here (statement.Empty i) h = tt
+  extensions_here whole h = tt
 
   -- ---- the parts of a tree
 
@@ -358,10 +291,7 @@ module _ (Here : ℕ → Type 0) where
       both FieldHere (flat_map (statement_fields (Some n)) (statements within)) (fields_from (suc n) rest)
       (parts_here FieldHere (statement_fields (Some n)) (fields_here (Some n)) within (block_here (header.Oneof h) i within j rest m).of_within)
       (all_fields_here (suc n) rest (rest_here (header.Oneof h) i within j rest m))
-  all_fields_here n (Block (header.Message h) i within j rest) m = all_fields_here n rest (rest_here (header.Message h) i within j rest m)
-  all_fields_here n (Block (header.Enum h) i within j rest) m = all_fields_here n rest (rest_here (header.Enum h) i within j rest m)
-  all_fields_here n (Block (header.Service h) i within j rest) m = all_fields_here n rest (rest_here (header.Service h) i within j rest m)
-  all_fields_here n (Block (header.Method s) i within j rest) m = all_fields_here n rest (rest_here (header.Method s) i within j rest m)
+  all_fields_here n (Block whole i within j rest) m = all_fields_here n rest (rest_here whole i within j rest m)
 
   -- ---- flaws
 

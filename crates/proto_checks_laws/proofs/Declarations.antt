@@ -104,24 +104,15 @@ no_blocks c inner none (Block h i within j rest) w = absurd (none h w.0)
 
 none_in_oneof : (h : Header) → allows context.Oneof (header_kind h) ≡ true → ⊥
 none_in_oneof (header.Message h) e = differ e
-none_in_oneof (header.Oneof h) e = differ e
-none_in_oneof (header.Enum h) e = differ e
-none_in_oneof (header.Service h) e = differ e
-none_in_oneof (header.Method s) e = differ e
+none_in_oneof whole e = differ e
 
 none_in_enum : (h : Header) → allows context.Enum (header_kind h) ≡ true → ⊥
 none_in_enum (header.Message h) e = differ e
-none_in_enum (header.Oneof h) e = differ e
-none_in_enum (header.Enum h) e = differ e
-none_in_enum (header.Service h) e = differ e
-none_in_enum (header.Method s) e = differ e
+none_in_enum whole e = differ e
 
 none_in_method : (h : Header) → allows context.Method (header_kind h) ≡ true → ⊥
 none_in_method (header.Message h) e = differ e
-none_in_method (header.Oneof h) e = differ e
-none_in_method (header.Enum h) e = differ e
-none_in_method (header.Service h) e = differ e
-none_in_method (header.Method s) e = differ e
+none_in_method whole e = differ e
 
 -- ---- fields and values of one block
 
@@ -186,8 +177,7 @@ field_declared path n (Block (header.Message h) i within j rest) w f c =
     declared_behind path (placed path (message h.name (members_in within))) (all_placed path (members_in rest)) f (field_declared path n rest w.2 f c)
 field_declared path n (Block (header.Enum h) i within j rest) w f c =
     declared_behind path (placed path (enum h.name (picked value_names no_names within))) (all_placed path (members_in rest)) f (field_declared path n rest w.2 f c)
-field_declared path n (Block (header.Service h) i within j rest) w f c = field_declared path n rest w.2 f c
-field_declared path n (Block (header.Method s) i within j rest) w f c = field_declared path n rest w.2 f c
+field_declared path n (Block whole i within j rest) w f c = field_declared path n rest w.2 f c
 
 -- ---- the blocks of a message
 
@@ -273,8 +263,7 @@ module _ (declared : List Placed) where
         both Block_is (blocks_in within) (blocks_in rest) (nothing (blocks_in within) (no_blocks context.Enum in_enum none_in_enum within w.1))
             (members_are path rest w.2 (aft mine (all_placed path (members_in rest)) i)),
       )
-  members_are path (Block (header.Service h) opens within closes rest) w i = absurd (differ w.0)
-  members_are path (Block (header.Method s) opens within closes rest) w i = absurd (differ w.0)
+  members_are path (Block whole opens within closes rest) w i = absurd (differ w.0)
 
   -- ---- the blocks of a service
 
@@ -295,10 +284,7 @@ module _ (declared : List Placed) where
       both Block_is (blocks_in within) (blocks_in rest) (nothing (blocks_in within) (no_blocks context.Method in_method none_in_method within w.1))
           (methods_are rest w.2 (λ i c. m i (contains_later s.name i (picked method_names block_names rest) c))),
     )
-    methods_are (Block (header.Message h) opens within closes rest) w m = absurd (differ w.0)
-    methods_are (Block (header.Oneof h) opens within closes rest) w m = absurd (differ w.0)
-    methods_are (Block (header.Enum h) opens within closes rest) w m = absurd (differ w.0)
-    methods_are (Block (header.Service h) opens within closes rest) w m = absurd (differ w.0)
+    methods_are (Block whole opens within closes rest) w m = absurd (differ w.0)
 
   -- ---- the blocks of a file
 
@@ -398,8 +384,7 @@ fields_are_declared tree ls spells b f cb cf = by b.header (blocks_are_declared 
     by (header.Message h) d = (d.0 ++ Token h.name ∷ [], d.2 f cf)
     by (header.Oneof h) d = (d.0, d.2 f cf)
     by (header.Enum h) d = absurd (none_in (fields_in b.within) f d.3 cf)
-    by (header.Service h) d = absurd (none_in (fields_in b.within) f d.2 cf)
-    by (header.Method s) d = absurd (none_in (fields_in b.within) f d.2 cf)
+    by whole d = absurd (none_in (fields_in b.within) f d.2 cf)
 
 pub values_are_declared : ValuesAreDeclared
 values_are_declared tree ls spells b v cb cv = by b.header refl (blocks_are_declared tree ls spells b cb)
@@ -407,7 +392,4 @@ values_are_declared tree ls spells b v cb cv = by b.header refl (blocks_are_decl
     by : (k : Header) → b.header ≡ k → IsDeclared (file_placed (items_in tree)) k b.within
         → (h : Heading) × (path : List (Source ℕ)) × (b.header ≡ header.Enum h) × Contains (file_placed (items_in tree)) (place path (Token h.name) Enum) × Contains (file_placed (items_in tree)) (place path (Token v.name) Value)
     by (header.Enum h) e d = (h, d.0, e, d.1, d.2 v cv)
-    by (header.Message h) e d = absurd (none_in (values_in b.within) v d.3 cv)
-    by (header.Oneof h) e d = absurd (none_in (values_in b.within) v d.3 cv)
-    by (header.Service h) e d = absurd (none_in (values_in b.within) v d.3 cv)
-    by (header.Method s) e d = absurd (none_in (values_in b.within) v d.3 cv)
+    by whole e d = absurd (none_in (values_in b.within) v d.3 cv)

@@ -111,10 +111,7 @@ fields_rise k (Block (header.Oneof h) i inner j rest) n num =
     let fs : List FieldOf = flat_map (statement_fields (Some k)) (statements inner) in
     within (fs ++ fields_from (suc k) rest) s.a (s.r + length (flat rest)) n (n + length (flat (Block (header.Oneof h) i inner j rest))) s.begins (omega (arith, s.all))
     (append fs (fields_from (suc k) rest) s.a (s.a + length (flat inner)) s.r (s.r + length (flat rest)) s.gap (statements_rise (Some k) inner s.a s.inner) (fields_rise (suc k) rest s.r s.behind))
-fields_rise k (Block (header.Message h) i inner j rest) n num = behind_block (fields_from k rest) (header.Message h) i inner j rest n num (λ c m. fields_rise k rest c m)
-fields_rise k (Block (header.Enum h) i inner j rest) n num = behind_block (fields_from k rest) (header.Enum h) i inner j rest n num (λ c m. fields_rise k rest c m)
-fields_rise k (Block (header.Service h) i inner j rest) n num = behind_block (fields_from k rest) (header.Service h) i inner j rest n num (λ c m. fields_rise k rest c m)
-fields_rise k (Block (header.Method h) i inner j rest) n num = behind_block (fields_from k rest) (header.Method h) i inner j rest n num (λ c m. fields_rise k rest c m)
+fields_rise k (Block whole i inner j rest) n num = behind_block (fields_from k rest) whole i inner j rest n num (λ c m. fields_rise k rest c m)
 
 -- ---- each block's tokens are numbered
 

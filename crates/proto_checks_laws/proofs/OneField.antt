@@ -127,10 +127,7 @@ field_statement n (Block (header.Oneof h) i within j rest) f c = elim (Contains-
       record { s = r.0; there = Contains-append_left (all_in within) (all_in rest) r.0 (statements_in within r.0 r.1); oneof = Some n; field = r.2 }
   | inr d ↦ let r = behind_block within rest f (field_statement (suc n) rest f d) in record { s = r.0; there = r.1; oneof = r.2.0; field = r.2.1 }
 ]
-field_statement n (Block (header.Message h) i within j rest) f c = let r = behind_block within rest f (field_statement n rest f c) in record { s = r.0; there = r.1; oneof = r.2.0; field = r.2.1 }
-field_statement n (Block (header.Enum h) i within j rest) f c = let r = behind_block within rest f (field_statement n rest f c) in record { s = r.0; there = r.1; oneof = r.2.0; field = r.2.1 }
-field_statement n (Block (header.Service h) i within j rest) f c = let r = behind_block within rest f (field_statement n rest f c) in record { s = r.0; there = r.1; oneof = r.2.0; field = r.2.1 }
-field_statement n (Block (header.Method h) i within j rest) f c = let r = behind_block within rest f (field_statement n rest f c) in record { s = r.0; there = r.1; oneof = r.2.0; field = r.2.1 }
+field_statement n (Block whole i within j rest) f c = let r = behind_block within rest f (field_statement n rest f c) in record { s = r.0; there = r.1; oneof = r.2.0; field = r.2.1 }
 
 -- ---- its name and options
 

@@ -316,10 +316,7 @@ module _ (tree : Tree) where
       both FieldHas (flat_map (statement_fields (Some n)) (statements within)) (fields_from (suc n) rest)
       (parts_have FieldHas (statement_fields (Some n)) (fields_have (Some n)) within (within_run (header.Oneof h) i within j rest r))
       (all_fields_have (suc n) rest (rest_run (header.Oneof h) i within j rest r))
-  all_fields_have n (Block (header.Message h) i within j rest) r = all_fields_have n rest (rest_run (header.Message h) i within j rest r)
-  all_fields_have n (Block (header.Enum h) i within j rest) r = all_fields_have n rest (rest_run (header.Enum h) i within j rest r)
-  all_fields_have n (Block (header.Service h) i within j rest) r = all_fields_have n rest (rest_run (header.Service h) i within j rest r)
-  all_fields_have n (Block (header.Method s) i within j rest) r = all_fields_have n rest (rest_run (header.Method s) i within j rest r)
+  all_fields_have n (Block whole i within j rest) r = all_fields_have n rest (rest_run whole i within j rest r)
 
   -- ---- what sentences ask
 
@@ -372,9 +369,7 @@ module _ (tree : Tree) where
         both Asked (flat_map (value_tokens scene) vs) (flat_map (range_tokens (λ (s : Signed). s.number)) rs)
         (flattened ValueHas Asked (value_tokens scene) value_asked vs (parts_have ValueHas statement_values values_have within r))
         (flattened SignedHas Asked (range_tokens (λ (s : Signed). s.number)) (λ x. of_role is_number refl (range_tokens (λ (s : Signed). s.number) x)) rs (parts_have SignedHas enum_ranges enum_ranges_have within r))
-    header_asked (header.Oneof h) within r = tt
-    header_asked (header.Service h) within r = tt
-    header_asked (header.Method s) within r = tt
+    header_asked whole within r = tt
 
     block_asked : (b : BlockOf) → BlockRun b → AreAsked (block_tokens scene b)
     block_asked b r =

@@ -20,38 +20,26 @@ pub enums_joined : (scene : Scene) (t u : Tree) → enums_described scene (joine
 enums_joined scene End u = refl
 enums_joined scene (Leaf s rest) u = enums_joined scene rest u
 enums_joined scene (Block (header.Enum h) i within j rest) u = ap (λ (ds : List EnumDesc). enum_described scene h.name within ∷ ds) (enums_joined scene rest u)
-enums_joined scene (Block (header.Message h) i within j rest) u = enums_joined scene rest u
-enums_joined scene (Block (header.Oneof h) i within j rest) u = enums_joined scene rest u
-enums_joined scene (Block (header.Service h) i within j rest) u = enums_joined scene rest u
-enums_joined scene (Block (header.Method s) i within j rest) u = enums_joined scene rest u
+enums_joined scene (Block whole i within j rest) u = enums_joined scene rest u
 
 pub oneofs_joined : (scene : Scene) (t u : Tree) → oneof_names scene (joined t u) ≡ oneof_names scene t ++ oneof_names scene u
 oneofs_joined scene End u = refl
 oneofs_joined scene (Leaf s rest) u = oneofs_joined scene rest u
 oneofs_joined scene (Block (header.Oneof h) i within j rest) u = ap (λ (names : List (List ℕ)). text scene h.name ∷ names) (oneofs_joined scene rest u)
-oneofs_joined scene (Block (header.Message h) i within j rest) u = oneofs_joined scene rest u
-oneofs_joined scene (Block (header.Enum h) i within j rest) u = oneofs_joined scene rest u
-oneofs_joined scene (Block (header.Service h) i within j rest) u = oneofs_joined scene rest u
-oneofs_joined scene (Block (header.Method s) i within j rest) u = oneofs_joined scene rest u
+oneofs_joined scene (Block whole i within j rest) u = oneofs_joined scene rest u
 
 pub methods_joined : (scene : Scene) (t u : Tree) → methods_described scene (joined t u) ≡ methods_described scene t ++ methods_described scene u
 methods_joined scene End u = refl
 methods_joined scene (Leaf (statement.Method s i) rest) u = ap (λ (ds : List MethodDesc). method_described scene s [] ∷ ds) (methods_joined scene rest u)
 methods_joined scene (Leaf s rest) u = methods_joined scene rest u
 methods_joined scene (Block (header.Method s) i within j rest) u = ap (λ (ds : List MethodDesc). method_described scene s (options_in within) ∷ ds) (methods_joined scene rest u)
-methods_joined scene (Block (header.Oneof h) i within j rest) u = methods_joined scene rest u
-methods_joined scene (Block (header.Message h) i within j rest) u = methods_joined scene rest u
-methods_joined scene (Block (header.Enum h) i within j rest) u = methods_joined scene rest u
-methods_joined scene (Block (header.Service h) i within j rest) u = methods_joined scene rest u
+methods_joined scene (Block whole i within j rest) u = methods_joined scene rest u
 
 pub services_joined : (scene : Scene) (t u : Tree) → services_described scene (joined t u) ≡ services_described scene t ++ services_described scene u
 services_joined scene End u = refl
 services_joined scene (Leaf s rest) u = services_joined scene rest u
 services_joined scene (Block (header.Service h) i within j rest) u = ap (λ (ds : List ServiceDesc). service_described scene h.name within ∷ ds) (services_joined scene rest u)
-services_joined scene (Block (header.Message h) i within j rest) u = services_joined scene rest u
-services_joined scene (Block (header.Oneof h) i within j rest) u = services_joined scene rest u
-services_joined scene (Block (header.Enum h) i within j rest) u = services_joined scene rest u
-services_joined scene (Block (header.Method s) i within j rest) u = services_joined scene rest u
+services_joined scene (Block whole i within j rest) u = services_joined scene rest u
 
 -- what is described of items, with one item more
 pub described_turn : {A D : Type 0} (described : Tree → List D) (view : A → Tree) → ((t u : Tree) → described (joined t u) ≡ described t ++ described u)
@@ -96,10 +84,7 @@ messages_joined scene full (Leaf (statement.MapField f) rest) u = ap (λ ms. Mes
 messages_joined scene full (Leaf s rest) u = messages_joined scene full rest u
 messages_joined scene full (Block (header.Message h) i within j rest) u =
     ap (λ ms. Message (message_described scene (below full (text scene h.name)) h.name within) (messages_described scene (below full (text scene h.name)) within) ms) (messages_joined scene full rest u)
-messages_joined scene full (Block (header.Oneof h) i within j rest) u = messages_joined scene full rest u
-messages_joined scene full (Block (header.Enum h) i within j rest) u = messages_joined scene full rest u
-messages_joined scene full (Block (header.Service h) i within j rest) u = messages_joined scene full rest u
-messages_joined scene full (Block (header.Method s) i within j rest) u = messages_joined scene full rest u
+messages_joined scene full (Block whole i within j rest) u = messages_joined scene full rest u
 
 pub and_then_assoc : (a b c : Messages) → and_then (and_then a b) c ≡ and_then a (and_then b c)
 and_then_assoc NoMessages b c = refl

@@ -30,17 +30,7 @@ wanted_as i = record { path = i.path; is_public = is_some i.public }
 
 same_statement : (s : Statement) → names.statement_imports s ≡ map wanted_as (statement_imports s)
 same_statement (statement.Syntax x) = refl
-same_statement (statement.Import x) = refl
-same_statement (statement.Package x) = refl
-same_statement (statement.Option x) = refl
-same_statement (statement.Field x) = refl
-same_statement (statement.MapField x) = refl
-same_statement (statement.Reserved x) = refl
-same_statement (statement.Extensions x) = refl
-same_statement (statement.Value x) = refl
-same_statement (statement.EnumReserved x) = refl
-same_statement (statement.Method x e) = refl
-same_statement (statement.Empty x) = refl
+same_statement whole = refl
 
 same_imports : (t : Tree) → names.imports_in t ≡ map wanted_as (imports_in t)
 same_imports End = refl

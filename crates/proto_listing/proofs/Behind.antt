@@ -17,10 +17,7 @@ imports_joined (Block h i within j rest) u = imports_joined rest u
 
 block_package : (h : Header) (within : Tree) (is : Items) → package_of (file_block h within is) ≡ package_of is
 block_package (header.Message h) within is = refl
-block_package (header.Enum h) within is = refl
-block_package (header.Service h) within is = refl
-block_package (header.Oneof h) within is = refl
-block_package (header.Method s) within is = refl
+block_package whole within is = refl
 
 -- a package further on
 pub package_behind : (t u : Tree) → package_of (items_in t) ≡ [] → package_of (items_in (joined t u)) ≡ package_of (items_in u)
@@ -57,8 +54,7 @@ members_joined path (Leaf s rest) u = members_joined path rest u
 members_joined path (Block (header.Message h) i within j rest) u = front_placed path (message h.name (members_in within)) (members_in (joined rest u)) (all_placed path (members_in rest)) (all_placed path (members_in u)) (members_joined path rest u)
 members_joined path (Block (header.Oneof h) i within j rest) u = front_placed path (oneof h.name (picked field_names no_names within)) (members_in (joined rest u)) (all_placed path (members_in rest)) (all_placed path (members_in u)) (members_joined path rest u)
 members_joined path (Block (header.Enum h) i within j rest) u = front_placed path (enum h.name (picked value_names no_names within)) (members_in (joined rest u)) (all_placed path (members_in rest)) (all_placed path (members_in u)) (members_joined path rest u)
-members_joined path (Block (header.Service h) i within j rest) u = members_joined path rest u
-members_joined path (Block (header.Method s) i within j rest) u = members_joined path rest u
+members_joined path (Block whole i within j rest) u = members_joined path rest u
 
 front_below : (path : List (Source ℕ)) (m : Member) (is : Items) (a b : List Placed) → items_below path is ≡ a ++ b → items_below path (item m is) ≡ (placed path m ++ a) ++ b
 front_below path m is a b e = ap (λ ps. placed path m ++ ps) e ∙ sym (append_assoc (placed path m) a b)
@@ -70,8 +66,7 @@ items_joined path (Leaf s rest) u = items_joined path rest u
 items_joined path (Block (header.Message h) i within j rest) u = front_below path (message h.name (members_in within)) (items_in (joined rest u)) (items_below path (items_in rest)) (items_below path (items_in u)) (items_joined path rest u)
 items_joined path (Block (header.Enum h) i within j rest) u = front_below path (enum h.name (picked value_names no_names within)) (items_in (joined rest u)) (items_below path (items_in rest)) (items_below path (items_in u)) (items_joined path rest u)
 items_joined path (Block (header.Service h) i within j rest) u = front_below path (service h.name (picked method_names block_names within)) (items_in (joined rest u)) (items_below path (items_in rest)) (items_below path (items_in u)) (items_joined path rest u)
-items_joined path (Block (header.Oneof h) i within j rest) u = items_joined path rest u
-items_joined path (Block (header.Method s) i within j rest) u = items_joined path rest u
+items_joined path (Block whole i within j rest) u = items_joined path rest u
 
 -- ---- references
 
@@ -92,8 +87,7 @@ member_uses_joined path (Leaf s rest) u = front_used (statement_uses path s) (me
 member_uses_joined path (Block (header.Service h) i within j rest) u = member_uses_joined path rest u
 member_uses_joined path (Block (header.Message h) i within j rest) u = front_used (of_block path (header.Message h) within) (member_uses path (joined rest u)) (member_uses path rest) (member_uses path u) (member_uses_joined path rest u)
 member_uses_joined path (Block (header.Oneof h) i within j rest) u = front_used (of_block path (header.Oneof h) within) (member_uses path (joined rest u)) (member_uses path rest) (member_uses path u) (member_uses_joined path rest u)
-member_uses_joined path (Block (header.Enum h) i within j rest) u = member_uses_joined path rest u
-member_uses_joined path (Block (header.Method s) i within j rest) u = member_uses_joined path rest u
+member_uses_joined path (Block whole i within j rest) u = member_uses_joined path rest u
 
 pub item_uses_joined : (path : List (Source ℕ)) (t u : Tree) → item_uses path (joined t u) ≡ item_uses path t ++ item_uses path u
 item_uses_joined path End u = refl
@@ -101,5 +95,4 @@ item_uses_joined path (Leaf s rest) u = item_uses_joined path rest u
 item_uses_joined path (Block (header.Oneof h) i within j rest) u = item_uses_joined path rest u
 item_uses_joined path (Block (header.Message h) i within j rest) u = front_used (of_block path (header.Message h) within) (item_uses path (joined rest u)) (item_uses path rest) (item_uses path u) (item_uses_joined path rest u)
 item_uses_joined path (Block (header.Service h) i within j rest) u = front_used (of_block path (header.Service h) within) (item_uses path (joined rest u)) (item_uses path rest) (item_uses path u) (item_uses_joined path rest u)
-item_uses_joined path (Block (header.Enum h) i within j rest) u = item_uses_joined path rest u
-item_uses_joined path (Block (header.Method s) i within j rest) u = item_uses_joined path rest u
+item_uses_joined path (Block whole i within j rest) u = item_uses_joined path rest u

@@ -224,8 +224,7 @@ block_span (header.Oneof h) within inner rest n a b mid hi num ea inside' eb spa
 block_span (header.Enum h) within inner rest n a b mid hi num ea inside' eb span em l behind =
     let r = heading_at class.Enum h n a num ea in
     (mid, l, omega (arith, ea, eb, em), (r.low, omega (arith, r.high, eb, em), lies_all a (a + length (flat within)) h.name mid (picked value_names no_names within) (picked_within value_names no_names value_gives no_gives within a inside') r.high (omega (arith, eb, em))), behind)
-block_span (header.Service h) within inner rest n a b mid hi num ea inside' eb span em l behind = span_within rest mid hi n hi (omega (arith, ea, eb, em)) (omega arith) behind
-block_span (header.Method h) within inner rest n a b mid hi num ea inside' eb span em l behind = span_within rest mid hi n hi (omega (arith, ea, eb, em)) (omega arith) behind
+block_span whole within inner rest n a b mid hi num ea inside' eb span em l behind = span_within rest mid hi n hi (omega (arith, ea, eb, em)) (omega arith) behind
 
 pub members_span : (t : Tree) (n hi : ℕ) → IsNumbered n (flat t) → hi ≡ n + length (flat t) → AllSpan n hi (members_in t)
 members_span End n hi num e = omega (arith, e)
@@ -278,10 +277,7 @@ no_package End w = refl
 no_package (Leaf (statement.Package p) rest) w = absurd (true≢false (sym w.0))
 no_package (Leaf _ rest) w = no_package rest w.1
 no_package (Block (header.Message h) i within j rest) w = no_package rest w.2
-no_package (Block (header.Oneof h) i within j rest) w = no_package rest w.2
-no_package (Block (header.Enum h) i within j rest) w = no_package rest w.2
-no_package (Block (header.Service h) i within j rest) w = no_package rest w.2
-no_package (Block (header.Method h) i within j rest) w = no_package rest w.2
+no_package (Block whole i within j rest) w = no_package rest w.2
 
 items_within : (is : Items) (lo hi lo' hi' : ℕ) → lo' ≤ lo → hi ≤ hi' → ItemsSpan lo hi is → ItemsSpan lo' hi' is
 items_within no_items lo hi lo' hi' a b s = omega (arith, a, b, s)
@@ -303,8 +299,7 @@ file_block_span (header.Enum h) within rest n a b mid hi num ea inside' eb em l 
 file_block_span (header.Service h) within rest n a b mid hi num ea inside' eb em l behind =
     let r = heading_at class.Service h n a num ea in
     (mid, l, omega (arith, ea, eb, em), (r.low, omega (arith, r.high, eb, em), lies_all a (a + length (flat within)) h.name mid (picked method_names block_names within) (picked_within method_names block_names method_gives block_gives within a inside') r.high (omega (arith, eb, em))), behind)
-file_block_span (header.Oneof h) within rest n a b mid hi num ea inside' eb em l behind = items_within rest mid hi n hi (omega (arith, ea, eb, em)) (omega arith) behind
-file_block_span (header.Method h) within rest n a b mid hi num ea inside' eb em l behind = items_within rest mid hi n hi (omega (arith, ea, eb, em)) (omega arith) behind
+file_block_span whole within rest n a b mid hi num ea inside' eb em l behind = items_within rest mid hi n hi (omega (arith, ea, eb, em)) (omega arith) behind
 
 pub items_span : (t : Tree) (c : Context) (n hi : ℕ) → IsWellFormed c t → IsNumbered n (flat t) → hi ≡ n + length (flat t) → ItemsSpan n hi (items_in t)
 items_span End c n hi w num e = omega (arith, e)
@@ -366,8 +361,7 @@ block_more : (h : Header) (inner : Members) (within : Tree) (path : List (Source
 block_more (header.Message h) inner within path ms p c = Contains-append_right (placed path (message h.name inner)) (all_placed path ms) p c
 block_more (header.Oneof h) inner within path ms p c = Contains-append_right (placed path (oneof h.name (picked field_names no_names within))) (all_placed path ms) p c
 block_more (header.Enum h) inner within path ms p c = Contains-append_right (placed path (enum h.name (picked value_names no_names within))) (all_placed path ms) p c
-block_more (header.Service h) inner within path ms p c = c
-block_more (header.Method s) inner within path ms p c = c
+block_more whole inner within path ms p c = c
 
 -- what is used in a message, given what is used in what it holds
 message_scoped : (t : ℕ) (inner rest : Members) (path : List (Source ℕ)) (u : Used ℕ) → Scoped (path ++ Token t ∷ []) (all_placed (path ++ Token t ∷ []) inner) u → Scoped path (placed path (message t inner) ++ all_placed path rest) u
@@ -397,8 +391,7 @@ members_scoped (Block (header.Oneof h) i within j rest) path u c = elim (Contain
   | inr b ↦ scoped_more path (all_placed path (members_in rest)) (all_placed path (members_in (Block (header.Oneof h) i within j rest))) u (block_more (header.Oneof h) (members_in within) within path (members_in rest)) (members_scoped rest path u b)
 ]
 members_scoped (Block (header.Enum h) i within j rest) path u c = scoped_more path (all_placed path (members_in rest)) (all_placed path (members_in (Block (header.Enum h) i within j rest))) u (block_more (header.Enum h) (members_in within) within path (members_in rest)) (members_scoped rest path u c)
-members_scoped (Block (header.Service h) i within j rest) path u c = members_scoped rest path u c
-members_scoped (Block (header.Method s) i within j rest) path u c = members_scoped rest path u c
+members_scoped (Block whole i within j rest) path u c = members_scoped rest path u c
 
 file_more : (s : Statement) (path : List (Source ℕ)) (is : Items) (p : Placed) → Contains (items_placed path is) p → Contains (items_placed path (file_statement s is)) p
 file_more (statement.Package q) path is p c = Contains-append_right (prefixes [] (dotted q.name)) (items_placed path is) p c
@@ -408,8 +401,7 @@ file_block_more : (h : Header) (within : Tree) (path : List (Source ℕ)) (is : 
 file_block_more (header.Message h) within path is p c = Contains-append_right (placed path (message h.name (members_in within))) (items_placed path is) p c
 file_block_more (header.Enum h) within path is p c = Contains-append_right (placed path (enum h.name (picked value_names no_names within))) (items_placed path is) p c
 file_block_more (header.Service h) within path is p c = Contains-append_right (placed path (service h.name (picked method_names block_names within))) (items_placed path is) p c
-file_block_more (header.Oneof h) within path is p c = c
-file_block_more (header.Method s) within path is p c = c
+file_block_more whole within path is p c = c
 
 message_item : (t : ℕ) (inner : Members) (rest : Items) (path : List (Source ℕ)) (u : Used ℕ) → Scoped (path ++ Token t ∷ []) (all_placed (path ++ Token t ∷ []) inner) u → Scoped path (placed path (message t inner) ++ items_placed path rest) u
 message_item t inner rest path u s =
@@ -436,8 +428,7 @@ items_scoped (Block (header.Service h) i within j rest) path u c = elim (Contain
   | inr b ↦ scoped_more path (items_placed path (items_in rest)) (items_placed path (items_in (Block (header.Service h) i within j rest))) u (file_block_more (header.Service h) within path (items_in rest)) (items_scoped rest path u b)
 ]
 items_scoped (Block (header.Enum h) i within j rest) path u c = scoped_more path (items_placed path (items_in rest)) (items_placed path (items_in (Block (header.Enum h) i within j rest))) u (file_block_more (header.Enum h) within path (items_in rest)) (items_scoped rest path u c)
-items_scoped (Block (header.Oneof h) i within j rest) path u c = items_scoped rest path u c
-items_scoped (Block (header.Method s) i within j rest) path u c = items_scoped rest path u c
+items_scoped (Block whole i within j rest) path u c = items_scoped rest path u c
 
 -- ---- a file
 

@@ -192,10 +192,8 @@ module _ (W R S : ℕ → Type 0) where
       block_step W R S Climbs climbs_law (header.Enum h) i within j rest n hi (place path (Token h.name) Enum ∷ inside) (all_placed path (members_in rest)) a e
       (λ x y head le inner f. first_climbs path Enum refl h.name n x y inside (heading_at W R S class.Enum h n x head le) (names_climb path Value refl names x y (picked_rise value_names no_names values_rise none_rise within x y inner f)))
       (λ c b f. members_climb rest path c hi b f)
-  members_climb (Block (header.Service h) i within j rest) path n hi a e =
-      block_step W R S Climbs climbs_law (header.Service h) i within j rest n hi [] (all_placed path (members_in rest)) a e (λ x y head le inner f. omega (arith, le, f)) (λ c b f. members_climb rest path c hi b f)
-  members_climb (Block (header.Method s) i within j rest) path n hi a e =
-      block_step W R S Climbs climbs_law (header.Method s) i within j rest n hi [] (all_placed path (members_in rest)) a e (λ x y head le inner f. omega (arith, le, f)) (λ c b f. members_climb rest path c hi b f)
+  members_climb (Block whole i within j rest) path n hi a e =
+      block_step W R S Climbs climbs_law whole i within j rest n hi [] (all_placed path (members_in rest)) a e (λ x y head le inner f. omega (arith, le, f)) (λ c b f. members_climb rest path c hi b f)
 
   -- a statement of a file declares a package at most
   statement_below : (path : List (Source ℕ)) (s : Statement) (is : Items) → items_below path is ≡ items_below path (file_statement s is)
@@ -224,10 +222,8 @@ module _ (W R S : ℕ → Type 0) where
       block_step W R S Climbs climbs_law (header.Service h) i within j rest n hi (place path (Token h.name) Service ∷ inside) (items_below path (items_in rest)) a e
       (λ x y head le inner f. first_climbs path Service refl h.name n x y inside (heading_at W R S class.Service h n x head le) (names_climb (path ++ Token h.name ∷ []) Method refl names x y (picked_rise method_names block_names methods_rise blocks_rise within x y inner f)))
       (λ c b f. items_climb rest path c hi b f)
-  items_climb (Block (header.Oneof h) i within j rest) path n hi a e =
-      block_step W R S Climbs climbs_law (header.Oneof h) i within j rest n hi [] (items_below path (items_in rest)) a e (λ x y head le inner f. omega (arith, le, f)) (λ c b f. items_climb rest path c hi b f)
-  items_climb (Block (header.Method s) i within j rest) path n hi a e =
-      block_step W R S Climbs climbs_law (header.Method s) i within j rest n hi [] (items_below path (items_in rest)) a e (λ x y head le inner f. omega (arith, le, f)) (λ c b f. items_climb rest path c hi b f)
+  items_climb (Block whole i within j rest) path n hi a e =
+      block_step W R S Climbs climbs_law whole i within j rest n hi [] (items_below path (items_in rest)) a e (λ x y head le inner f. omega (arith, le, f)) (λ c b f. items_climb rest path c hi b f)
 
   -- ---- the package
 
@@ -262,10 +258,7 @@ module _ (W R S : ℕ → Type 0) where
 
       by : (h : Header) → AllByRecursion W (package_of (items_in rest)) → AllByRecursion W (package_of (file_block h within (items_in rest)))
       by (header.Message g) more = more
-      by (header.Oneof g) more = more
-      by (header.Enum g) more = more
-      by (header.Service g) more = more
-      by (header.Method g) more = more
+      by whole more = more
 
   -- the token that names it is a word's
   abbrev pub IsWorded : Placed → Type 0

@@ -268,12 +268,8 @@ module _ (W R S : ℕ → Type 0) where
   members_rise (Block (header.Oneof h) i within j rest) scope n hi a e =
       block_step W R S Uses uses_law (header.Oneof h) i within j rest n hi (flat_uses scope within) (member_uses scope rest) a e
       (inside (header.Oneof h) within (flat_uses scope within) (flat_rise within scope) n) (λ c b f. members_rise rest scope c hi b f)
-  members_rise (Block (header.Enum h) i within j rest) scope n hi a e =
-      block_step W R S Uses uses_law (header.Enum h) i within j rest n hi [] (member_uses scope rest) a e (nothing (header.Enum h) within n) (λ c b f. members_rise rest scope c hi b f)
-  members_rise (Block (header.Service h) i within j rest) scope n hi a e =
-      block_step W R S Uses uses_law (header.Service h) i within j rest n hi [] (member_uses scope rest) a e (nothing (header.Service h) within n) (λ c b f. members_rise rest scope c hi b f)
-  members_rise (Block (header.Method s) i within j rest) scope n hi a e =
-      block_step W R S Uses uses_law (header.Method s) i within j rest n hi [] (member_uses scope rest) a e (nothing (header.Method s) within n) (λ c b f. members_rise rest scope c hi b f)
+  members_rise (Block whole i within j rest) scope n hi a e =
+      block_step W R S Uses uses_law whole i within j rest n hi [] (member_uses scope rest) a e (nothing whole within n) (λ c b f. members_rise rest scope c hi b f)
 
   pub items_rise : (t : Tree) (scope : List (Source ℕ)) (n hi : ℕ) → Are W R S n (flat t) → hi ≡ n + length (flat t) → Uses n hi (item_uses scope t)
   items_rise End scope n hi a e = omega (arith, e)

@@ -68,24 +68,15 @@ find_none p (y ∷ xs) x c h e = elim (cases_Bool (p y)) [
 
 value_of_holder : (token : ℕ) (h : Header) (within : Tree) → holds_value token h within ≡ true → has_value token (values_in within) ≡ true
 value_of_holder token (header.Enum h) within e = e
-value_of_holder token (header.Message h) within e = absurd cc
-value_of_holder token (header.Oneof h) within e = absurd cc
-value_of_holder token (header.Service h) within e = absurd cc
-value_of_holder token (header.Method s) within e = absurd cc
+value_of_holder token whole within e = absurd cc
 
 enum_holder : (n token : ℕ) (h : Header) (within : Tree) → is_enum_at n h ≡ true → has_value token (values_in within) ≡ true → (holds_value token h within ≡ true) × (may_hold h ≡ true)
 enum_holder n token (header.Enum h) within q e = (e, refl)
-enum_holder n token (header.Message h) within q e = absurd cc
-enum_holder n token (header.Oneof h) within q e = absurd cc
-enum_holder n token (header.Service h) within q e = absurd cc
-enum_holder n token (header.Method s) within q e = absurd cc
+enum_holder n token whole within q e = absurd cc
 
 enum_token : (n : ℕ) (h : Header) → is_enum_at n h ≡ true → name_token h ≡ n
 enum_token n (header.Enum h) e = eqb-true h.name n e
-enum_token n (header.Message h) e = absurd cc
-enum_token n (header.Oneof h) e = absurd cc
-enum_token n (header.Service h) e = absurd cc
-enum_token n (header.Method s) e = absurd cc
+enum_token n whole e = absurd cc
 
 module _ (files : List FileOf) (reads : List ReadOf) (are : AreRead files reads) (a : Aim) (t : Target) (h : IsAimedAt files reads a t) (tree : Tree) (of_file : IsTreeOf (file_at files a.file).bytes tree) where
   inside : a.file < length files

@@ -72,8 +72,7 @@ pub member_to : (h : Header) (within : Tree) (token : ℕ) → has_member token 
 member_to (header.Message h) within token e = (inl (from_field (fields_in within) token e), refl)
 member_to (header.Oneof h) within token e = (inl (from_field (fields_in within) token e), refl)
 member_to (header.Enum h) within token e = (inr (from_value (values_in within) token e), refl)
-member_to (header.Service h) within token e = absurd cc
-member_to (header.Method s) within token e = absurd cc
+member_to whole within token e = absurd cc
 
 pub member_from : (ps : List Placed) (h : Header) (within : Tree) (token : ℕ) → IsDeclared ps h within → HasMember within token → has_member token h within ≡ true
 member_from ps (header.Message h) within token d (inl c) = field_there (fields_in within) token c
@@ -92,9 +91,7 @@ member_from ps (header.Method s) within token d (inr c) = absurd (none_there (va
 pub field_to : (h : Header) (within : Tree) (f : FieldOf) → Contains (fields_by h within) f → Contains (fields_in within) f
 field_to (header.Message h) within f c = c
 field_to (header.Oneof h) within f c = c
-field_to (header.Enum h) within f c = absurd (omega (arith, c.1))
-field_to (header.Service h) within f c = absurd (omega (arith, c.1))
-field_to (header.Method s) within f c = absurd (omega (arith, c.1))
+field_to whole within f c = absurd (omega (arith, c.1))
 
 none_here : (fs : List FieldOf) (f : FieldOf) → fs ≡ [] → Contains fs f → ⊥
 none_here fs f e c = let d : Contains {X = FieldOf} [] f = subst (λ z. Contains z f) e c in omega (arith, d.1)
@@ -103,8 +100,7 @@ pub field_from : (ps : List Placed) (h : Header) (within : Tree) (f : FieldOf) �
 field_from ps (header.Message h) within f d c = (c, refl)
 field_from ps (header.Oneof h) within f d c = (c, refl)
 field_from ps (header.Enum h) within f d c = absurd (none_here (fields_in within) f d.3 c)
-field_from ps (header.Service h) within f d c = absurd (none_here (fields_in within) f d.2 c)
-field_from ps (header.Method s) within f d c = absurd (none_here (fields_in within) f d.2 c)
+field_from ps whole within f d c = absurd (none_here (fields_in within) f d.2 c)
 
 -- ---- blocks of a file that was read
 

@@ -46,10 +46,7 @@ fields_joined n (Block (header.Oneof h) i within j rest) u =
     let here : List FieldOf = flat_map (statement_fields (Some n)) (statements within) in
     ap (λ fs. here ++ fs) (fields_joined (suc n) rest u) ∙ sym (append_assoc here (fields_from (suc n) rest) (fields_from (suc n + oneof_count rest) u))
     ∙ ap (λ (k : ℕ). (here ++ fields_from (suc n) rest) ++ fields_from k u) (omega arith)
-fields_joined n (Block (header.Message h) i within j rest) u = fields_joined n rest u
-fields_joined n (Block (header.Enum h) i within j rest) u = fields_joined n rest u
-fields_joined n (Block (header.Service h) i within j rest) u = fields_joined n rest u
-fields_joined n (Block (header.Method s) i within j rest) u = fields_joined n rest u
+fields_joined n (Block whole i within j rest) u = fields_joined n rest u
 
 -- the fields of one member more
 pub fields_turn : (ms : List Member) (i n k : ℕ) (m : Member) (found next whole : List FieldOf) → i < length ms → m ≡ get_or ms i m → k ≡ oneof_count (member_tree m)

@@ -74,10 +74,7 @@ flat_filter {X} {Y} p f (x ∷ xs) h = go (p x) refl (flat_filter p f xs h)
 
 no_fields : (h : Header) (within : Tree) → may_hold h ≡ false → fields_of_block h within ≡ []
 no_fields (header.Message h) within e = absurd cc
-no_fields (header.Oneof h) within e = refl
-no_fields (header.Enum h) within e = refl
-no_fields (header.Service h) within e = refl
-no_fields (header.Method s) within e = refl
+no_fields whole within e = refl
 
 -- ---- names by their texts
 

@@ -256,9 +256,7 @@ module _ (files : List FileOf) (reads : List ReadOf) (name to : List ℕ) (t : T
       block_clean : (h : Header) → ((g : Heading) → h ≡ header.Message g → (f : FieldOf) → Contains (fields_in b.within) f → default_flaws new f ≡ []) → flaws_of_block old h b.within ≡ [] → flaws_of_block new h b.within ≡ []
       block_clean (header.Message h) defaults e = message_clean (defaults h refl) e
       block_clean (header.Enum h) defaults e = enum_clean e
-      block_clean (header.Oneof h) defaults e = refl
-      block_clean (header.Service h) defaults e = refl
-      block_clean (header.Method s) defaults e = refl
+      block_clean whole defaults e = refl
 
     file_clean : DefaultsFit after seen → file_flaws new tree ≡ []
     file_clean fit =

@@ -95,8 +95,7 @@ field_declared path n (Block (header.Message h) opens within closes rest) w f c 
     placing_behind path (placed path (message h.name (members_in within))) (all_placed path (members_in rest)) f (field_declared path n rest w.2 f c)
 field_declared path n (Block (header.Enum h) opens within closes rest) w f c =
     placing_behind path (placed path (enum h.name (picked value_names no_names within))) (all_placed path (members_in rest)) f (field_declared path n rest w.2 f c)
-field_declared path n (Block (header.Service h) opens within closes rest) w f c = field_declared path n rest w.2 f c
-field_declared path n (Block (header.Method s) opens within closes rest) w f c = field_declared path n rest w.2 f c
+field_declared path n (Block whole opens within closes rest) w f c = field_declared path n rest w.2 f c
 
 -- a map field is one of the fields
 map_field_there : (n : ℕ) (t : Tree) (f : MapField) → Contains (statements t) (statement.MapField f) → Contains (fields_from n t) (field_of_map f)
@@ -107,10 +106,7 @@ map_field_there n (Leaf s rest) f c = elim (contains_cases s (statement.MapField
 ]
 map_field_there n (Block (header.Oneof h) opens within closes rest) f c =
     Contains-append_right (flat_map (statement_fields (Some n)) (statements within)) (fields_from (suc n) rest) (field_of_map f) (map_field_there (suc n) rest f c)
-map_field_there n (Block (header.Message h) opens within closes rest) f c = map_field_there n rest f c
-map_field_there n (Block (header.Enum h) opens within closes rest) f c = map_field_there n rest f c
-map_field_there n (Block (header.Service h) opens within closes rest) f c = map_field_there n rest f c
-map_field_there n (Block (header.Method s) opens within closes rest) f c = map_field_there n rest f c
+map_field_there n (Block whole opens within closes rest) f c = map_field_there n rest f c
 
 -- ---- where items of a file stand
 
@@ -273,10 +269,7 @@ module _ (e : Renaming) (taken : Taken) (named : ℕ → Bool) (a b : Scene) (di
     },
     methods_turn path rest (λ i c. m i (contains_later s.name i (picked method_names block_names rest) c)) (rest_there (header.Method s) opens within closes rest r),
   )
-  methods_turn path (Block (header.Message h) opens within closes rest) m r = methods_turn path rest m (rest_there (header.Message h) opens within closes rest r)
-  methods_turn path (Block (header.Oneof h) opens within closes rest) m r = methods_turn path rest m (rest_there (header.Oneof h) opens within closes rest r)
-  methods_turn path (Block (header.Enum h) opens within closes rest) m r = methods_turn path rest m (rest_there (header.Enum h) opens within closes rest r)
-  methods_turn path (Block (header.Service h) opens within closes rest) m r = methods_turn path rest m (rest_there (header.Service h) opens within closes rest r)
+  methods_turn path (Block whole opens within closes rest) m r = methods_turn path rest m (rest_there whole opens within closes rest r)
 
   -- ---- messages
 

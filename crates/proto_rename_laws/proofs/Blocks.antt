@@ -170,10 +170,7 @@ one_block (Block k i within j rest) n b d v w h cb cd cv cw e =
 
 enum_stands : (n m : ℕ) (h : Header) → Numbered n (flat_header h) → is_enum_at m h ≡ true → (n ≤ m) × (m < n + length (flat_header h))
 enum_stands n m (header.Enum h) x e = (let a = eqb-true h.name m e in let b = x.1.0 in (omega (arith, a, b), omega (arith, a, b)))
-enum_stands n m (header.Message h) x e = absurd cc
-enum_stands n m (header.Oneof h) x e = absurd cc
-enum_stands n m (header.Service h) x e = absurd cc
-enum_stands n m (header.Method s) x e = absurd cc
+enum_stands n m whole x e = absurd cc
 
 enums_stand : (t : Tree) (n m : ℕ) (b : BlockOf) → Numbered n (flat t) → Contains (blocks_in t) b → is_enum_at m b.header ≡ true → (n ≤ m) × (m < n + length (flat t))
 enums_stand End n m b h cb e = absurd (omega (arith, cb.1))

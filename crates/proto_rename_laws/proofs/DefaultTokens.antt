@@ -47,10 +47,7 @@ word_of_constant (constant.Text j) w c = absurd (omega (arith, c.1))
 
 of_block : (h : Header) (within : Tree) (f : FieldOf) → Contains (fields_of_block h within) f → Contains (fields_in within) f
 of_block (header.Message h) within f c = c
-of_block (header.Oneof h) within f c = absurd (omega (arith, c.1))
-of_block (header.Enum h) within f c = absurd (omega (arith, c.1))
-of_block (header.Service h) within f c = absurd (omega (arith, c.1))
-of_block (header.Method s) within f c = absurd (omega (arith, c.1))
+of_block whole within f c = absurd (omega (arith, c.1))
 
 module _ (files : List FileOf) (reads : List ReadOf) (enum : Option (List (List ℕ))) (old : List ℕ) where
   in_file : (n : ℕ) (tree : Tree) (w : ℕ) → Contains (flat_map (renamed_default files reads enum old n) (fields_of_file tree)) w → IsDefaultOf files reads enum old tree (at n w)

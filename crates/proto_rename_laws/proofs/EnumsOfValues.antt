@@ -142,8 +142,7 @@ in_members (Block (header.Oneof h) i within j rest) path p k c =
 in_members (Block (header.Enum h) i within j rest) path p k c =
     either (beside path h.name Enum Value (picked value_names no_names within)) (all_placed path (members_in rest)) (Block (header.Enum h) i within j rest) rest p (λ b x. later (header.Enum h) i within j rest b x)
     (λ d. of_enum path h within p k d i j rest) (in_members rest path p k) c
-in_members (Block (header.Service h) i within j rest) path p k c = wider _ _ rest _ p (λ q x. x) (λ b x. later (header.Service h) i within j rest b x) (in_members rest path p k c)
-in_members (Block (header.Method s) i within j rest) path p k c = wider _ _ rest _ p (λ q x. x) (λ b x. later (header.Method s) i within j rest b x) (in_members rest path p k c)
+in_members (Block whole i within j rest) path p k c = wider _ _ rest _ p (λ q x. x) (λ b x. later whole i within j rest b x) (in_members rest path p k c)
 
 in_package : (path : List (Source ℕ)) (s : Statement) (is : Items) (t : Tree) (p : Placed) → p.kind ≡ Value → (Contains (items_placed path is) p → EnumHas (items_placed path is) t p) → Contains (items_placed path (file_statement s is)) p → EnumHas (items_placed path (file_statement s is)) t p
 in_package path (statement.Package x) is t p k more c = elim (Contains-append_cases (prefixes [] (dotted x.name)) (items_placed path is) p c) [
@@ -176,5 +175,4 @@ in_items (Block (header.Service h) i within j rest) path p k c =
 
         worse : Method ≡ Value → ⊥
         worse e = cc
-in_items (Block (header.Oneof h) i within j rest) path p k c = wider _ _ rest _ p (λ q x. x) (λ b x. later (header.Oneof h) i within j rest b x) (in_items rest path p k c)
-in_items (Block (header.Method s) i within j rest) path p k c = wider _ _ rest _ p (λ q x. x) (λ b x. later (header.Method s) i within j rest b x) (in_items rest path p k c)
+in_items (Block whole i within j rest) path p k c = wider _ _ rest _ p (λ q x. x) (λ b x. later whole i within j rest b x) (in_items rest path p k c)

@@ -42,10 +42,7 @@ place_last x (Given w ∷ above) i = place_last x above i
 -- the name of an enum's block
 pub enum_name : (token : ℕ) (h : Header) → is_enum_at token h ≡ true → (n : ℕ) × (n ≡ token) × ((other : ℕ) → is_enum_at other h ≡ true → n ≡ other)
 enum_name token (header.Enum h) e = (h.name, eqb-true h.name token e, λ other q. eqb-true h.name other q)
-enum_name token (header.Message h) e = absurd cc
-enum_name token (header.Oneof h) e = absurd cc
-enum_name token (header.Service h) e = absurd cc
-enum_name token (header.Method s) e = absurd cc
+enum_name token whole e = absurd cc
 
 module _ (files : List FileOf) (reads : List ReadOf) (r : AreRead files reads) (ok : IsLinked (names_of_files files reads)) where
   -- two declarations of one name are one, or packages

@@ -489,10 +489,7 @@ module _ (files : List FileOf) (reads : List ReadOf) (r : AreRead files reads) w
 
           by : (h : Header) → IsDeclared (file_placed (items_in (read_at reads k).tree)) h b.within → v.name ≡ u.name
           by (header.Enum h) d = of_path d.0 (d.2 v cv) (d.2 u cu)
-          by (header.Message h) d = absurd (none (values_in b.within) v d.3 cv)
-          by (header.Oneof h) d = absurd (none (values_in b.within) v d.3 cv)
-          by (header.Service h) d = absurd (none (values_in b.within) v d.3 cv)
-          by (header.Method s) d = absurd (none (values_in b.within) v d.3 cv)
+          by whole d = absurd (none (values_in b.within) v d.3 cv)
 
       value_apart : (d : Declared At) (v : ℕ) → HasValue files reads d v → t.enum ≡ Some (name_of (text_of files reads) entry_name d.path) → text_of files reads (at (place_of d).file v) ≡ text_of files reads t.token → at (place_of d).file v ≡ t.token
       value_apart d v has en same = by t.enum en named.enum_is

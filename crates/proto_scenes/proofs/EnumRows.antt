@@ -39,10 +39,7 @@ find_filter p q h (x ∷ xs) = turn p q x xs (h x) (find_filter p q h xs) (q x) 
 
 is_an_enum : (token : ℕ) (h : Header) → is_enum_at token h ≡ true → is_enum h ≡ true
 is_an_enum token (header.Enum h) e = refl
-is_an_enum token (header.Message h) e = e
-is_an_enum token (header.Oneof h) e = e
-is_an_enum token (header.Service h) e = e
-is_an_enum token (header.Method s) e = e
+is_an_enum token whole e = e
 
 module _ (lexemes : List Lexeme) (proto3 : Bool) where
   abbrev here : BlockOf → EnumOf

@@ -86,16 +86,7 @@ field_apart None (field_type.Reference r) more = words_apart r.dot r.words more
 begins_apart : (s : Statement) (name number : ℕ) → IsFieldOf s name number → BeginsApart (flat_statement s)
 begins_apart (statement.Field f) name number is = field_apart f.label f.kind _
 begins_apart (statement.MapField f) name number is = record { first = mark (want.One class.Map) f.keyword; rest = _; parts = refl; apart = λ h. cc }
-begins_apart (statement.Syntax s) name number is = absurd is
-begins_apart (statement.Import i) name number is = absurd is
-begins_apart (statement.Package p) name number is = absurd is
-begins_apart (statement.Option o) name number is = absurd is
-begins_apart (statement.Reserved r) name number is = absurd is
-begins_apart (statement.Extensions x) name number is = absurd is
-begins_apart (statement.Value v) name number is = absurd is
-begins_apart (statement.EnumReserved r) name number is = absurd is
-begins_apart (statement.Method s i) name number is = absurd is
-begins_apart (statement.Empty i) name number is = absurd is
+begins_apart whole name number is = absurd is
 
 -- ---- the two deletions
 

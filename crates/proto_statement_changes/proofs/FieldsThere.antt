@@ -169,8 +169,7 @@ in_members (Block (header.Enum h) i within j rest) path p c f = elim (contains_c
     | inr b ↦ past_block (header.Enum h) i within j rest p (in_members rest path p b f)
   ]
 ]
-in_members (Block (header.Service h) i within j rest) path p c f = past_block (header.Service h) i within j rest p (in_members rest path p c f)
-in_members (Block (header.Method s) i within j rest) path p c f = past_block (header.Method s) i within j rest p (in_members rest path p c f)
+in_members (Block whole i within j rest) path p c f = past_block whole i within j rest p (in_members rest path p c f)
 
 -- ---- a file
 
@@ -211,8 +210,7 @@ in_file (Block (header.Service h) i within j rest) path p c f = elim (contains_c
     | inr b ↦ block_there (header.Service h) i within j rest p (in_file rest path p b f)
   ]
 ]
-in_file (Block (header.Oneof h) i within j rest) path p c f = block_there (header.Oneof h) i within j rest p (in_file rest path p c f)
-in_file (Block (header.Method s) i within j rest) path p c f = block_there (header.Method s) i within j rest p (in_file rest path p c f)
+in_file (Block whole i within j rest) path p c f = block_there whole i within j rest p (in_file rest path p c f)
 
 pub fields_are_there : FieldsAreThere
 fields_are_there files reads file p within c f =
@@ -230,16 +228,7 @@ fields_are_there files reads file p within c f =
 same_number : (s : Statement) (name number other : ℕ) → IsFieldOf s name number → IsFieldOf s name other → number ≡ other
 same_number (statement.Field f) name number other a b = sym a.1 ∙ b.1
 same_number (statement.MapField f) name number other a b = sym a.1 ∙ b.1
-same_number (statement.Syntax s) name number other a b = absurd a
-same_number (statement.Import i) name number other a b = absurd a
-same_number (statement.Package p) name number other a b = absurd a
-same_number (statement.Option o) name number other a b = absurd a
-same_number (statement.Reserved r) name number other a b = absurd a
-same_number (statement.Extensions x) name number other a b = absurd a
-same_number (statement.Value v) name number other a b = absurd a
-same_number (statement.EnumReserved r) name number other a b = absurd a
-same_number (statement.Method s i) name number other a b = absurd a
-same_number (statement.Empty i) name number other a b = absurd a
+same_number whole name number other a b = absurd a
 
 abbrev made : ℕ → Statement → Option ℕ → ℕ → ℕ → FieldAt
 made file s o name number = record { file = file; statement = s; oneof = o; name = name; number = number }

@@ -59,10 +59,7 @@ module _ (g : Move) (apart : (i j : ℕ) → g i ≡ g j → i ≡ j) (without l
 
   same_header : (h : Header) → is_enum_at (g token) (move_header g h) ≡ is_enum_at token h
   same_header (header.Enum h) = same_test h.name token
-  same_header (header.Message h) = refl
-  same_header (header.Oneof h) = refl
-  same_header (header.Service h) = refl
-  same_header (header.Method s) = refl
+  same_header whole = refl
 
   same_word : (i : ℕ) → word_at lexemes (g i) ≡ word_at without i
   same_word i = same_words without lexemes i (g i) (stays i)

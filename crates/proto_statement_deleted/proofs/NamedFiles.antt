@@ -31,10 +31,7 @@ leaf_package h _ x t e = e
 
 block_package : (h : Move) (y : Header) (i : ℕ) (w w' : Tree) (j : ℕ) (x t : Tree) → package_of (items_in t) ≡ map h (package_of (items_in x)) → package_of (items_in (Block (move_header h y) (h i) w' (h j) t)) ≡ map h (package_of (items_in (Block y i w j x)))
 block_package h (header.Message y) i w w' j x t e = e
-block_package h (header.Enum y) i w w' j x t e = e
-block_package h (header.Service y) i w w' j x t e = e
-block_package h (header.Oneof y) i w w' j x t e = e
-block_package h (header.Method y) i w w' j x t e = e
+block_package h whole i w w' j x t e = e
 
 -- ---- what one item of a file declares
 
@@ -61,8 +58,7 @@ block_split path (header.Message y) i within j x = ap (λ (z : List Placed). z +
 block_split path (header.Enum y) i within j x = ap (λ (z : List Placed). z ++ items_placed path (items_in x)) (sym (append-nil (beside path y.name kind.Enum kind.Value (picked value_names no_names within))))
 block_split path (header.Service y) i within j x =
     ap (λ (z : List Placed). z ++ items_placed path (items_in x)) (sym (append-nil (place path (Token y.name) kind.Service ∷ map (λ m. place (path ++ Token y.name ∷ []) (Token m) kind.Method) (picked method_names block_names within))))
-block_split path (header.Oneof y) i within j x = refl
-block_split path (header.Method y) i within j x = refl
+block_split path whole i within j x = refl
 
 block_item : (h : Move) (path : List (Source ℕ)) (y : Header) (i : ℕ) (within : Tree) (j : ℕ) → OneItem h path (λ x. Block y i within j x) (λ t. Block (move_header h y) (h i) (move_tree h within) (h j) t)
 block_item h path y i within j = record {

@@ -69,8 +69,7 @@ block_first : (path : List (Source ℕ)) (h : Header) (i : ℕ) (within : Tree) 
 block_first path (header.Message h) i within j rest = ap (λ (z : List Placed). place path (Token h.name) kind.Message ∷ z) (sym (append_assoc (all_placed (path ++ Token h.name ∷ []) (members_in within)) [] (all_placed path (members_in rest))))
 block_first path (header.Oneof h) i within j rest = sym (append_assoc (beside path h.name kind.Oneof kind.Field (picked field_names no_names within)) [] (all_placed path (members_in rest)))
 block_first path (header.Enum h) i within j rest = sym (append_assoc (beside path h.name kind.Enum kind.Value (picked value_names no_names within)) [] (all_placed path (members_in rest)))
-block_first path (header.Service h) i within j rest = refl
-block_first path (header.Method s) i within j rest = refl
+block_first path whole i within j rest = refl
 
 -- ---- behind an item
 

@@ -63,10 +63,7 @@ module _ (w : WrittenField) where
   -- behind a block
   behind : (y : Header) (i : ℕ) (within : Tree) (j : ℕ) (rest : Tree) (f : FieldOf) → ((n : ℕ) → Contains (fields_from n rest) f) → (n : ℕ) → Contains (fields_from n (Block y i within j rest)) f
   behind (header.Oneof h) i within j rest f c n = Contains-append_right (flat_map (statement_fields (Some n)) (statements within)) (fields_from (suc n) rest) f (c (suc n))
-  behind (header.Message h) i within j rest f c n = c n
-  behind (header.Enum h) i within j rest f c n = c n
-  behind (header.Service h) i within j rest f c n = c n
-  behind (header.Method s) i within j rest f c n = c n
+  behind whole i within j rest f c n = c n
 
   in_members : (t : Tree) → StandsIn (statement_of w) t → (n : ℕ) → Contains (fields_from n t) (field_of None w)
   in_members _ (First rest) n = first_of_message w rest n
@@ -134,10 +131,7 @@ module _ (w : WrittenField) where
     where
       one_behind : (y : Header) (i : ℕ) (within : Tree) (j : ℕ) (rest : Tree) → IsOne rest → IsOne (Block y i within j rest)
       one_behind (header.Oneof h) i within j rest one n = let f = one (suc n) in (f.0, Contains-append_right (flat_map (statement_fields (Some n)) (statements within)) (fields_from (suc n) rest) f.0 f.1, f.2)
-      one_behind (header.Message h) i within j rest one n = one n
-      one_behind (header.Enum h) i within j rest one n = one n
-      one_behind (header.Service h) i within j rest one n = one n
-      one_behind (header.Method s) i within j rest one n = one n
+      one_behind whole i within j rest one n = one n
 
 start_no : context.Start ≡ context.Message → ⊥
 start_no h = cc

@@ -76,10 +76,7 @@ in_oneof context.Method h = absurd cc
 -- and has no block
 no_block : (k : Header) → allows context.Oneof (header_kind k) ≡ true → ⊥
 no_block (header.Message h) e = cc
-no_block (header.Oneof h) e = cc
-no_block (header.Enum h) e = cc
-no_block (header.Service h) e = cc
-no_block (header.Method h) e = cc
+no_block whole e = cc
 
 -- and no map field
 no_map : (f : MapField) (t : Tree) → StandsIn (statement.MapField f) t → IsWellFormed context.Oneof t → ⊥

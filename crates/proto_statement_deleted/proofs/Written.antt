@@ -14,13 +14,4 @@ pub record IsWritten (s : Statement) (name number : ℕ) : Type 0 where
 pub written : (s : Statement) (name number : ℕ) → IsFieldOf s name number → IsWritten s name number
 written (statement.Field f) name number is = record { field = Plain f; same = refl; named = is.0; numbered = is.1 }
 written (statement.MapField f) name number is = record { field = OfMap f; same = refl; named = is.0; numbered = is.1 }
-written (statement.Syntax s) name number is = absurd is
-written (statement.Import i) name number is = absurd is
-written (statement.Package p) name number is = absurd is
-written (statement.Option o) name number is = absurd is
-written (statement.Reserved r) name number is = absurd is
-written (statement.Extensions x) name number is = absurd is
-written (statement.Value v) name number is = absurd is
-written (statement.EnumReserved r) name number is = absurd is
-written (statement.Method s i) name number is = absurd is
-written (statement.Empty i) name number is = absurd is
+written whole name number is = absurd is

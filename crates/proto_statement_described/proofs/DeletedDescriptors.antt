@@ -54,10 +54,7 @@ leaf_package h _ x t e = e
 
 block_package : (h : Move) (y : Header) (i : ℕ) (w w' : Tree) (j : ℕ) (x t : Tree) → package_of (items_in t) ≡ map h (package_of (items_in x)) → package_of (items_in (Block (move_header h y) (h i) w' (h j) t)) ≡ map h (package_of (items_in (Block y i w j x)))
 block_package h (header.Message y) i w w' j x t e = e
-block_package h (header.Enum y) i w w' j x t e = e
-block_package h (header.Service y) i w w' j x t e = e
-block_package h (header.Oneof y) i w w' j x t e = e
-block_package h (header.Method y) i w w' j x t e = e
+block_package h whole i w w' j x t e = e
 
 paths : (g : Move) (a b : Scene) → IsMovedScene g a b → (ws vs : List Wanted) → vs ≡ map (move_wanted g) ws → map (λ (w : Wanted). value b w.path) vs ≡ map (λ (w : Wanted). value a w.path) ws
 paths g a b all ws vs e = ap (map (λ (w : Wanted). value b w.path)) e ∙ maps_kept (move_wanted g) (λ (w : Wanted). value a w.path) (λ (w : Wanted). value b w.path) (λ w. all.same.strings w.path) ws
@@ -90,40 +87,28 @@ module _ (g k : Move) (middle old new : Scene) (to_old : IsMovedScene g middle o
   old_enums _ _ _ (AtOneof h fd i x t j rest same some at) = enums_same g middle old to_old rest
   old_enums _ _ _ (PastLeaf a x t u sw) = old_enums x t u sw
   old_enums _ _ _ (PastBlock (header.Enum h) i within j x t u sw) = ap₂ (λ (e : EnumDesc) (es : List EnumDesc). e ∷ es) (enum_same g middle old to_old h.name within) (old_enums x t u sw)
-  old_enums _ _ _ (PastBlock (header.Message h) i within j x t u sw) = old_enums x t u sw
-  old_enums _ _ _ (PastBlock (header.Oneof h) i within j x t u sw) = old_enums x t u sw
-  old_enums _ _ _ (PastBlock (header.Service h) i within j x t u sw) = old_enums x t u sw
-  old_enums _ _ _ (PastBlock (header.Method h) i within j x t u sw) = old_enums x t u sw
+  old_enums _ _ _ (PastBlock whole i within j x t u sw) = old_enums x t u sw
 
   new_enums : (x t u : Tree) → IsDeletedRight g k aim res x t u → enums_described new u ≡ enums_described middle x
   new_enums _ _ _ (AtField rest) = enums_same k middle new to_new rest
   new_enums _ _ _ (AtOneof h fd i x t j rest same some at) = enums_same k middle new to_new rest
   new_enums _ _ _ (PastLeaf a x t u sw) = new_enums x t u sw
   new_enums _ _ _ (PastBlock (header.Enum h) i within j x t u sw) = ap₂ (λ (e : EnumDesc) (es : List EnumDesc). e ∷ es) (enum_same k middle new to_new h.name within) (new_enums x t u sw)
-  new_enums _ _ _ (PastBlock (header.Message h) i within j x t u sw) = new_enums x t u sw
-  new_enums _ _ _ (PastBlock (header.Oneof h) i within j x t u sw) = new_enums x t u sw
-  new_enums _ _ _ (PastBlock (header.Service h) i within j x t u sw) = new_enums x t u sw
-  new_enums _ _ _ (PastBlock (header.Method h) i within j x t u sw) = new_enums x t u sw
+  new_enums _ _ _ (PastBlock whole i within j x t u sw) = new_enums x t u sw
 
   old_oneofs : (x t u : Tree) → IsDeletedRight g k aim res x t u → oneof_names old t ≡ oneof_names middle x
   old_oneofs _ _ _ (AtField rest) = oneofs_same g middle old to_old rest
   old_oneofs _ _ _ (AtOneof h fd i x t j rest same some at) = ap₂ (λ (n : List ℕ) (ns : List (List ℕ)). n ∷ ns) (to_old.same.texts h.name) (oneofs_same g middle old to_old rest)
   old_oneofs _ _ _ (PastLeaf a x t u sw) = old_oneofs x t u sw
   old_oneofs _ _ _ (PastBlock (header.Oneof h) i within j x t u sw) = ap₂ (λ (n : List ℕ) (ns : List (List ℕ)). n ∷ ns) (to_old.same.texts h.name) (old_oneofs x t u sw)
-  old_oneofs _ _ _ (PastBlock (header.Message h) i within j x t u sw) = old_oneofs x t u sw
-  old_oneofs _ _ _ (PastBlock (header.Enum h) i within j x t u sw) = old_oneofs x t u sw
-  old_oneofs _ _ _ (PastBlock (header.Service h) i within j x t u sw) = old_oneofs x t u sw
-  old_oneofs _ _ _ (PastBlock (header.Method h) i within j x t u sw) = old_oneofs x t u sw
+  old_oneofs _ _ _ (PastBlock whole i within j x t u sw) = old_oneofs x t u sw
 
   new_oneofs : (x t u : Tree) → IsDeletedRight g k aim res x t u → oneof_names new u ≡ oneof_names middle x
   new_oneofs _ _ _ (AtField rest) = oneofs_same k middle new to_new rest
   new_oneofs _ _ _ (AtOneof h fd i x t j rest same some at) = ap₂ (λ (n : List ℕ) (ns : List (List ℕ)). n ∷ ns) (to_new.same.texts h.name) (oneofs_same k middle new to_new rest)
   new_oneofs _ _ _ (PastLeaf a x t u sw) = new_oneofs x t u sw
   new_oneofs _ _ _ (PastBlock (header.Oneof h) i within j x t u sw) = ap₂ (λ (n : List ℕ) (ns : List (List ℕ)). n ∷ ns) (to_new.same.texts h.name) (new_oneofs x t u sw)
-  new_oneofs _ _ _ (PastBlock (header.Message h) i within j x t u sw) = new_oneofs x t u sw
-  new_oneofs _ _ _ (PastBlock (header.Enum h) i within j x t u sw) = new_oneofs x t u sw
-  new_oneofs _ _ _ (PastBlock (header.Service h) i within j x t u sw) = new_oneofs x t u sw
-  new_oneofs _ _ _ (PastBlock (header.Method h) i within j x t u sw) = new_oneofs x t u sw
+  new_oneofs _ _ _ (PastBlock whole i within j x t u sw) = new_oneofs x t u sw
 
   -- a message that is moved, and moved elsewhere
   message_over : (full : List ℕ) (h : ℕ) (within : Tree) (rest : Messages)
@@ -153,10 +138,7 @@ module _ (g k : Move) (middle old new : Scene) (to_old : IsMovedScene g middle o
   entries_stay (Leaf _ rest) ms = entries_stay rest ms
   entries_stay (Block (header.Message h) i within j rest) NoMessages = refl
   entries_stay (Block (header.Message h) i within j rest) (Message m nested more) = ap (Message m nested) (entries_stay rest more)
-  entries_stay (Block (header.Oneof h) i within j rest) ms = entries_stay rest ms
-  entries_stay (Block (header.Enum h) i within j rest) ms = entries_stay rest ms
-  entries_stay (Block (header.Service h) i within j rest) ms = entries_stay rest ms
-  entries_stay (Block (header.Method h) i within j rest) ms = entries_stay rest ms
+  entries_stay (Block whole i within j rest) ms = entries_stay rest ms
 
   entry_at : (full : List ℕ) (w : WrittenField) (rest : Tree) → name_of w ≡ token
       → messages_described new full (move_tree k rest) ≡ without_entry token (Leaf (statement_of w) (move_tree g rest)) (messages_described old full (Leaf (statement_of w) (move_tree g rest)))
@@ -170,17 +152,7 @@ module _ (g k : Move) (middle old new : Scene) (to_old : IsMovedScene g middle o
   entry_behind full (statement.MapField f) t u e =
       ap₂ (λ (m : MessageDesc) (ms : Messages). Message m NoMessages ms) (entry_over f) e
       ∙ sym (cond-false (g f.name == token) (messages_described old full t) (Message (entry_described old (move_map_field g f)) NoMessages (without_entry token t (messages_described old full t))) (fresh f.name))
-  entry_behind full (statement.Field f) t u e = e
-  entry_behind full (statement.Syntax f) t u e = e
-  entry_behind full (statement.Import f) t u e = e
-  entry_behind full (statement.Package f) t u e = e
-  entry_behind full (statement.Option f) t u e = e
-  entry_behind full (statement.Reserved f) t u e = e
-  entry_behind full (statement.Extensions f) t u e = e
-  entry_behind full (statement.Value f) t u e = e
-  entry_behind full (statement.EnumReserved f) t u e = e
-  entry_behind full (statement.Method f i) t u e = e
-  entry_behind full (statement.Empty f) t u e = e
+  entry_behind full whole t u e = e
 
   nested : (full : List ℕ) (x t u : Tree) → IsDeletedRight g k aim res x t u → messages_described new full u ≡ without_entry token t (messages_described old full t)
   nested full _ _ _ (AtField rest) = entry_at full aim rest refl
@@ -189,10 +161,7 @@ module _ (g k : Move) (middle old new : Scene) (to_old : IsMovedScene g middle o
   nested full _ _ _ (PastBlock (header.Message h) i within j x t u sw) =
       message_over full h.name within (messages_described new full u)
       ∙ ap (Message (message_described old (below full (text old (g h.name))) (g h.name) (move_tree g within)) (messages_described old (below full (text old (g h.name))) (move_tree g within))) (nested full x t u sw)
-  nested full _ _ _ (PastBlock (header.Oneof h) i within j x t u sw) = nested full x t u sw
-  nested full _ _ _ (PastBlock (header.Enum h) i within j x t u sw) = nested full x t u sw
-  nested full _ _ _ (PastBlock (header.Service h) i within j x t u sw) = nested full x t u sw
-  nested full _ _ _ (PastBlock (header.Method h) i within j x t u sw) = nested full x t u sw
+  nested full _ _ _ (PastBlock whole i within j x t u sw) = nested full x t u sw
 
   -- ---- the message
 
@@ -291,10 +260,7 @@ module _ (g k : Move) (middle old new : Scene) (to_old : IsMovedScene g middle o
   outer_enums _ _ _ (BehindBlock (header.Enum h) i within j x t u sw) =
       let r = outer_enums x t u sw in
       (ap₂ (λ (e : EnumDesc) (es : List EnumDesc). e ∷ es) (enum_same g middle old to_old h.name within) r.0, ap₂ (λ (e : EnumDesc) (es : List EnumDesc). e ∷ es) (enum_same k middle new to_new h.name within) r.1)
-  outer_enums _ _ _ (BehindBlock (header.Message h) i within j x t u sw) = outer_enums x t u sw
-  outer_enums _ _ _ (BehindBlock (header.Oneof h) i within j x t u sw) = outer_enums x t u sw
-  outer_enums _ _ _ (BehindBlock (header.Service h) i within j x t u sw) = outer_enums x t u sw
-  outer_enums _ _ _ (BehindBlock (header.Method h) i within j x t u sw) = outer_enums x t u sw
+  outer_enums _ _ _ (BehindBlock whole i within j x t u sw) = outer_enums x t u sw
 
   outer_oneofs : (x t u : Tree) → IsDeletedIn g k aim res x t u → (oneof_names old t ≡ oneof_names middle x) × (oneof_names new u ≡ oneof_names middle x)
   outer_oneofs _ _ _ (InMessage h i x t u j rest sw) = (oneofs_same g middle old to_old rest, oneofs_same k middle new to_new rest)
@@ -303,10 +269,7 @@ module _ (g k : Move) (middle old new : Scene) (to_old : IsMovedScene g middle o
   outer_oneofs _ _ _ (BehindBlock (header.Oneof h) i within j x t u sw) =
       let r = outer_oneofs x t u sw in
       (ap₂ (λ (n : List ℕ) (ns : List (List ℕ)). n ∷ ns) (to_old.same.texts h.name) r.0, ap₂ (λ (n : List ℕ) (ns : List (List ℕ)). n ∷ ns) (to_new.same.texts h.name) r.1)
-  outer_oneofs _ _ _ (BehindBlock (header.Message h) i within j x t u sw) = outer_oneofs x t u sw
-  outer_oneofs _ _ _ (BehindBlock (header.Enum h) i within j x t u sw) = outer_oneofs x t u sw
-  outer_oneofs _ _ _ (BehindBlock (header.Service h) i within j x t u sw) = outer_oneofs x t u sw
-  outer_oneofs _ _ _ (BehindBlock (header.Method h) i within j x t u sw) = outer_oneofs x t u sw
+  outer_oneofs _ _ _ (BehindBlock whole i within j x t u sw) = outer_oneofs x t u sw
 
   -- the message around is the same
   around : (full : List ℕ) (h : ℕ) (x t u : Tree) → IsDeletedIn g k aim res x t u → message_described old full (g h) t ≡ message_described new full (k h) u
@@ -348,10 +311,7 @@ module _ (g k : Move) (middle old new : Scene) (to_old : IsMovedScene g middle o
   messages_stay (Block (header.Message h) i within j rest) NoMessages = refl
   messages_stay (Block (header.Message h) i within j rest) (Message m inner more) =
       past (move_tree g within) (none_in g token fresh within) m inner (mapped_messages token (move_tree g rest) more) ∙ ap₂ (Message m) (messages_stay within inner) (messages_stay rest more)
-  messages_stay (Block (header.Oneof h) i within j rest) ms = messages_stay rest ms
-  messages_stay (Block (header.Enum h) i within j rest) ms = messages_stay rest ms
-  messages_stay (Block (header.Service h) i within j rest) ms = messages_stay rest ms
-  messages_stay (Block (header.Method h) i within j rest) ms = messages_stay rest ms
+  messages_stay (Block whole i within j rest) ms = messages_stay rest ms
 
   messages_at : (full : List ℕ) (x t u : Tree) → IsDeletedIn g k aim res x t u → messages_described new full u ≡ mapped_messages token t (messages_described old full t)
   messages_at full _ _ _ (InMessage h i x t u j rest sw) =
@@ -372,26 +332,13 @@ module _ (g k : Move) (middle old new : Scene) (to_old : IsMovedScene g middle o
       leaf : (a : Statement) → messages_described new full u ≡ mapped_messages token t (messages_described old full t)
           → messages_described new full (Leaf (move_statement k a) u) ≡ mapped_messages token (Leaf (move_statement g a) t) (messages_described old full (Leaf (move_statement g a) t))
       leaf (statement.MapField f) e = ap₂ (λ (m : MessageDesc) (ms : Messages). Message m NoMessages ms) (entry_over f) e
-      leaf (statement.Field f) e = e
-      leaf (statement.Syntax f) e = e
-      leaf (statement.Import f) e = e
-      leaf (statement.Package f) e = e
-      leaf (statement.Option f) e = e
-      leaf (statement.Reserved f) e = e
-      leaf (statement.Extensions f) e = e
-      leaf (statement.Value f) e = e
-      leaf (statement.EnumReserved f) e = e
-      leaf (statement.Method f i) e = e
-      leaf (statement.Empty f) e = e
+      leaf whole e = e
   messages_at full _ _ _ (BehindBlock (header.Message h) i within j x t u sw) =
       let inner : List ℕ = below full (text old (g h.name)) in
       message_over full h.name within (messages_described new full u)
       ∙ ap₂ (λ (ms ns : Messages). Message (message_described old inner (g h.name) (move_tree g within)) ms ns) (sym (messages_stay within (messages_described old inner (move_tree g within)))) (messages_at full x t u sw)
       ∙ sym (past (move_tree g within) (none_in g token fresh within) (message_described old inner (g h.name) (move_tree g within)) (messages_described old inner (move_tree g within)) (mapped_messages token t (messages_described old full t)))
-  messages_at full _ _ _ (BehindBlock (header.Oneof h) i within j x t u sw) = messages_at full x t u sw
-  messages_at full _ _ _ (BehindBlock (header.Enum h) i within j x t u sw) = messages_at full x t u sw
-  messages_at full _ _ _ (BehindBlock (header.Service h) i within j x t u sw) = messages_at full x t u sw
-  messages_at full _ _ _ (BehindBlock (header.Method h) i within j x t u sw) = messages_at full x t u sw
+  messages_at full _ _ _ (BehindBlock whole i within j x t u sw) = messages_at full x t u sw
 
   services_less : (x t u : Tree) (sw : IsDeletedIn g k aim res x t u) → (services_described old t ≡ services_described middle x) × (services_described new u ≡ services_described middle x)
   services_less _ _ _ (InMessage h i x t u j rest sw) = (services_same g middle old to_old rest, services_same k middle new to_new rest)
@@ -400,10 +347,7 @@ module _ (g k : Move) (middle old new : Scene) (to_old : IsMovedScene g middle o
   services_less _ _ _ (BehindBlock (header.Service h) i within j x t u sw) =
       let r = services_less x t u sw in
       (ap₂ (λ (e : ServiceDesc) (es : List ServiceDesc). e ∷ es) (service_same g middle old to_old h.name within) r.0, ap₂ (λ (e : ServiceDesc) (es : List ServiceDesc). e ∷ es) (service_same k middle new to_new h.name within) r.1)
-  services_less _ _ _ (BehindBlock (header.Message h) i within j x t u sw) = services_less x t u sw
-  services_less _ _ _ (BehindBlock (header.Oneof h) i within j x t u sw) = services_less x t u sw
-  services_less _ _ _ (BehindBlock (header.Enum h) i within j x t u sw) = services_less x t u sw
-  services_less _ _ _ (BehindBlock (header.Method h) i within j x t u sw) = services_less x t u sw
+  services_less _ _ _ (BehindBlock whole i within j x t u sw) = services_less x t u sw
 
   packages_less : (x t u : Tree) → IsDeletedIn g k aim res x t u → (package_of (items_in t) ≡ map g (package_of (items_in x))) × (package_of (items_in u) ≡ map k (package_of (items_in x)))
   packages_less _ _ _ (InMessage h i x t u j rest sw) = (package_moved g rest, package_moved k rest)

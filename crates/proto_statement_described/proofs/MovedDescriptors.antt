@@ -185,10 +185,7 @@ module _ (g : Move) (a b : Scene) (all : IsMovedScene g a b) where
   enums_same End = refl
   enums_same (Leaf s rest) = enums_same rest
   enums_same (Block (header.Enum h) i within j rest) = ap₂ (λ (e : EnumDesc) (es : List EnumDesc). e ∷ es) (enum_same h.name within) (enums_same rest)
-  enums_same (Block (header.Message h) i within j rest) = enums_same rest
-  enums_same (Block (header.Oneof h) i within j rest) = enums_same rest
-  enums_same (Block (header.Service h) i within j rest) = enums_same rest
-  enums_same (Block (header.Method h) i within j rest) = enums_same rest
+  enums_same (Block whole i within j rest) = enums_same rest
 
   -- ---- messages
 
@@ -196,10 +193,7 @@ module _ (g : Move) (a b : Scene) (all : IsMovedScene g a b) where
   oneofs_same End = refl
   oneofs_same (Leaf s rest) = oneofs_same rest
   oneofs_same (Block (header.Oneof h) i within j rest) = ap₂ (λ (n : List ℕ) (ns : List (List ℕ)). n ∷ ns) (all.same.texts h.name) (oneofs_same rest)
-  oneofs_same (Block (header.Message h) i within j rest) = oneofs_same rest
-  oneofs_same (Block (header.Enum h) i within j rest) = oneofs_same rest
-  oneofs_same (Block (header.Service h) i within j rest) = oneofs_same rest
-  oneofs_same (Block (header.Method h) i within j rest) = oneofs_same rest
+  oneofs_same (Block whole i within j rest) = oneofs_same rest
 
   pub message_same : (full : List ℕ) (name : ℕ) (x : Tree) → message_described b full (g name) (move_tree g x) ≡ message_described a full name x
   message_same full name x =
@@ -239,10 +233,7 @@ module _ (g : Move) (a b : Scene) (all : IsMovedScene g a b) where
   messages_same full (Block (header.Message h) i within j rest) =
       ap₂ (λ (n : List ℕ) (ms : Messages). Message (message_described b (below full n) (g h.name) (move_tree g within)) (messages_described b (below full n) (move_tree g within)) ms) (all.same.texts h.name) (messages_same full rest)
       ∙ ap₂ (λ (m : MessageDesc) (ms : Messages). Message m ms (messages_described a full rest)) (message_same (below full (text a h.name)) h.name within) (messages_same (below full (text a h.name)) within)
-  messages_same full (Block (header.Oneof h) i within j rest) = messages_same full rest
-  messages_same full (Block (header.Enum h) i within j rest) = messages_same full rest
-  messages_same full (Block (header.Service h) i within j rest) = messages_same full rest
-  messages_same full (Block (header.Method h) i within j rest) = messages_same full rest
+  messages_same full (Block whole i within j rest) = messages_same full rest
 
   -- ---- services
 
@@ -267,10 +258,7 @@ module _ (g : Move) (a b : Scene) (all : IsMovedScene g a b) where
   methods_same (Leaf (statement.Method s i) rest) = ap₂ (λ (m : MethodDesc) (ms : List MethodDesc). m ∷ ms) (method_same s [] [] refl) (methods_same rest)
   methods_same (Leaf _ rest) = methods_same rest
   methods_same (Block (header.Method s) i within j rest) = ap₂ (λ (m : MethodDesc) (ms : List MethodDesc). m ∷ ms) (method_same s (options_in within) (options_in (move_tree g within)) (options_moved g within)) (methods_same rest)
-  methods_same (Block (header.Message h) i within j rest) = methods_same rest
-  methods_same (Block (header.Oneof h) i within j rest) = methods_same rest
-  methods_same (Block (header.Enum h) i within j rest) = methods_same rest
-  methods_same (Block (header.Service h) i within j rest) = methods_same rest
+  methods_same (Block whole i within j rest) = methods_same rest
 
   pub service_same : (name : ℕ) (x : Tree) → service_described b (g name) (move_tree g x) ≡ service_described a name x
   service_same name x =
@@ -281,10 +269,7 @@ module _ (g : Move) (a b : Scene) (all : IsMovedScene g a b) where
   services_same End = refl
   services_same (Leaf s rest) = services_same rest
   services_same (Block (header.Service h) i within j rest) = ap₂ (λ (m : ServiceDesc) (ms : List ServiceDesc). m ∷ ms) (service_same h.name within) (services_same rest)
-  services_same (Block (header.Message h) i within j rest) = services_same rest
-  services_same (Block (header.Oneof h) i within j rest) = services_same rest
-  services_same (Block (header.Enum h) i within j rest) = services_same rest
-  services_same (Block (header.Method h) i within j rest) = services_same rest
+  services_same (Block whole i within j rest) = services_same rest
 
 -- ---- imports are in none of these
 
@@ -294,30 +279,21 @@ no_messages a full (Leaf (statement.Import i) rest) = no_messages a full rest
 no_messages a full (Leaf (statement.MapField f) rest) = ap (Message (entry_described a f) NoMessages) (no_messages a full rest)
 no_messages a full (Leaf _ rest) = no_messages a full rest
 no_messages a full (Block (header.Message h) i within j rest) = ap (Message (message_described a (below full (text a h.name)) h.name within) (messages_described a (below full (text a h.name)) within)) (no_messages a full rest)
-no_messages a full (Block (header.Oneof h) i within j rest) = no_messages a full rest
-no_messages a full (Block (header.Enum h) i within j rest) = no_messages a full rest
-no_messages a full (Block (header.Service h) i within j rest) = no_messages a full rest
-no_messages a full (Block (header.Method h) i within j rest) = no_messages a full rest
+no_messages a full (Block whole i within j rest) = no_messages a full rest
 
 no_enums : (a : Scene) (x : Tree) → enums_described a (without_imports x) ≡ enums_described a x
 no_enums a End = refl
 no_enums a (Leaf (statement.Import i) rest) = no_enums a rest
 no_enums a (Leaf _ rest) = no_enums a rest
 no_enums a (Block (header.Enum h) i within j rest) = ap (λ (es : List EnumDesc). enum_described a h.name within ∷ es) (no_enums a rest)
-no_enums a (Block (header.Message h) i within j rest) = no_enums a rest
-no_enums a (Block (header.Oneof h) i within j rest) = no_enums a rest
-no_enums a (Block (header.Service h) i within j rest) = no_enums a rest
-no_enums a (Block (header.Method h) i within j rest) = no_enums a rest
+no_enums a (Block whole i within j rest) = no_enums a rest
 
 no_services : (a : Scene) (x : Tree) → services_described a (without_imports x) ≡ services_described a x
 no_services a End = refl
 no_services a (Leaf (statement.Import i) rest) = no_services a rest
 no_services a (Leaf _ rest) = no_services a rest
 no_services a (Block (header.Service h) i within j rest) = ap (λ (es : List ServiceDesc). service_described a h.name within ∷ es) (no_services a rest)
-no_services a (Block (header.Message h) i within j rest) = no_services a rest
-no_services a (Block (header.Oneof h) i within j rest) = no_services a rest
-no_services a (Block (header.Enum h) i within j rest) = no_services a rest
-no_services a (Block (header.Method h) i within j rest) = no_services a rest
+no_services a (Block whole i within j rest) = no_services a rest
 
 no_package : (x : Tree) → package_of (items_in (without_imports x)) ≡ package_of (items_in x)
 no_package End = refl
@@ -325,10 +301,7 @@ no_package (Leaf (statement.Import i) rest) = no_package rest
 no_package (Leaf (statement.Package p) rest) = refl
 no_package (Leaf _ rest) = no_package rest
 no_package (Block (header.Message h) i within j rest) = no_package rest
-no_package (Block (header.Oneof h) i within j rest) = no_package rest
-no_package (Block (header.Enum h) i within j rest) = no_package rest
-no_package (Block (header.Service h) i within j rest) = no_package rest
-no_package (Block (header.Method h) i within j rest) = no_package rest
+no_package (Block whole i within j rest) = no_package rest
 
 pub dotted_moved : (g : Move) (d : Separated ℕ) → dotted (move_separated g g d) ≡ map g (dotted d)
 dotted_moved g d = ap (λ (z : List ℕ). g d.first ∷ z) (go d.rest)
@@ -342,10 +315,7 @@ package_moved g End = refl
 package_moved g (Leaf (statement.Package p) rest) = dotted_moved g p.name
 package_moved g (Leaf _ rest) = package_moved g rest
 package_moved g (Block (header.Message h) i within j rest) = package_moved g rest
-package_moved g (Block (header.Oneof h) i within j rest) = package_moved g rest
-package_moved g (Block (header.Enum h) i within j rest) = package_moved g rest
-package_moved g (Block (header.Service h) i within j rest) = package_moved g rest
-package_moved g (Block (header.Method h) i within j rest) = package_moved g rest
+package_moved g (Block whole i within j rest) = package_moved g rest
 
 pub package_same : (g : Move) (a b : Scene) → IsMovedScene g a b → (ts us : List ℕ) → us ≡ map g ts → package_named b us ≡ package_named a ts
 package_same g a b all ts us e = ap (package_named b) e ∙ go ts

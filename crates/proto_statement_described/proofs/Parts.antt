@@ -123,10 +123,7 @@ module _ (g k : Move) (aim : WrittenField) (res : Reservation) where
   old_fields n _ _ _ (PastBlock (header.Oneof h) i within j x t u sw) =
       let r = old_fields (suc n) x t u sw in
       (r.0, behind_with (move_field_of g) _ _ _ (flat_map (statement_fields (Some n)) (statements within)) (flat_map (statement_fields (Some n)) (statements (move_tree g within))) (read_moved g (move_field_of g) (statement_fields (Some n)) (record { moves = statement_fields_moved g (Some n) }) within) r.1)
-  old_fields n _ _ _ (PastBlock (header.Message h) i within j x t u sw) = old_fields n x t u sw
-  old_fields n _ _ _ (PastBlock (header.Enum h) i within j x t u sw) = old_fields n x t u sw
-  old_fields n _ _ _ (PastBlock (header.Service h) i within j x t u sw) = old_fields n x t u sw
-  old_fields n _ _ _ (PastBlock (header.Method h) i within j x t u sw) = old_fields n x t u sw
+  old_fields n _ _ _ (PastBlock whole i within j x t u sw) = old_fields n x t u sw
 
   pub new_fields : (n : ℕ) (x t u : Tree) → IsDeletedRight g k aim res x t u → fields_from n u ≡ map (move_field_of k) (fields_from n x)
   new_fields n _ _ _ (AtField rest) = fields_moved k n rest
@@ -137,10 +134,7 @@ module _ (g k : Move) (aim : WrittenField) (res : Reservation) where
   new_fields n _ _ _ (PastBlock (header.Oneof h) i within j x t u sw) =
       ap₂ (λ y z. y ++ z) (read_moved k (move_field_of k) (statement_fields (Some n)) (record { moves = statement_fields_moved k (Some n) }) within) (new_fields (suc n) x t u sw)
       ∙ sym (map-append (move_field_of k) (flat_map (statement_fields (Some n)) (statements within)) (fields_from (suc n) x))
-  new_fields n _ _ _ (PastBlock (header.Message h) i within j x t u sw) = new_fields n x t u sw
-  new_fields n _ _ _ (PastBlock (header.Enum h) i within j x t u sw) = new_fields n x t u sw
-  new_fields n _ _ _ (PastBlock (header.Service h) i within j x t u sw) = new_fields n x t u sw
-  new_fields n _ _ _ (PastBlock (header.Method h) i within j x t u sw) = new_fields n x t u sw
+  new_fields n _ _ _ (PastBlock whole i within j x t u sw) = new_fields n x t u sw
 
   -- ---- further out nothing is seen of it
 
@@ -157,7 +151,4 @@ module _ (g k : Move) (aim : WrittenField) (res : Reservation) where
   outer_fields n _ _ _ (BehindBlock (header.Oneof h) i within j x t u sw) =
       let r = outer_fields (suc n) x t u sw in
       (ap (λ z. flat_map (statement_fields (Some n)) (statements (move_tree g within)) ++ z) r.0, ap (λ z. flat_map (statement_fields (Some n)) (statements (move_tree k within)) ++ z) r.1)
-  outer_fields n _ _ _ (BehindBlock (header.Message h) i within j x t u sw) = outer_fields n x t u sw
-  outer_fields n _ _ _ (BehindBlock (header.Enum h) i within j x t u sw) = outer_fields n x t u sw
-  outer_fields n _ _ _ (BehindBlock (header.Service h) i within j x t u sw) = outer_fields n x t u sw
-  outer_fields n _ _ _ (BehindBlock (header.Method h) i within j x t u sw) = outer_fields n x t u sw
+  outer_fields n _ _ _ (BehindBlock whole i within j x t u sw) = outer_fields n x t u sw

@@ -113,7 +113,4 @@ module _ (g : Move) (token : ℕ) (fresh : (i : ℕ) → (g i == token) ≡ fals
         before = cond-false (declare token (statements (move_tree g within))) [] (statements_before token t) (none_right within) ∙ p.before;
         new = p.new;
       }
-  parted k res aim is _ _ _ (PastBlock (header.Message h) i within j x t u sw) = let p = parted k res aim is x t u sw in record { front = p.front; back = p.back; all = p.all; before = p.before; new = p.new }
-  parted k res aim is _ _ _ (PastBlock (header.Enum h) i within j x t u sw) = let p = parted k res aim is x t u sw in record { front = p.front; back = p.back; all = p.all; before = p.before; new = p.new }
-  parted k res aim is _ _ _ (PastBlock (header.Service h) i within j x t u sw) = let p = parted k res aim is x t u sw in record { front = p.front; back = p.back; all = p.all; before = p.before; new = p.new }
-  parted k res aim is _ _ _ (PastBlock (header.Method h) i within j x t u sw) = let p = parted k res aim is x t u sw in record { front = p.front; back = p.back; all = p.all; before = p.before; new = p.new }
+  parted k res aim is _ _ _ (PastBlock whole i within j x t u sw) = let p = parted k res aim is x t u sw in record { front = p.front; back = p.back; all = p.all; before = p.before; new = p.new }

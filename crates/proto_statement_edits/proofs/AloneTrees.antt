@@ -33,9 +33,7 @@ alone_joined name (Block (header.Message h) i within j rest) u =
     ap (λ b. alone_in name within || b) (alone_joined name rest u) ∙ sym (or_assoc (alone_in name within) (alone_in name rest) (alone_in name u))
 alone_joined name (Block (header.Oneof h) i within j rest) u =
     ap (λ b. is_only name (fields_in within) || b) (alone_joined name rest u) ∙ sym (or_assoc (is_only name (fields_in within)) (alone_in name rest) (alone_in name u))
-alone_joined name (Block (header.Enum h) i within j rest) u = alone_joined name rest u
-alone_joined name (Block (header.Service h) i within j rest) u = alone_joined name rest u
-alone_joined name (Block (header.Method s) i within j rest) u = alone_joined name rest u
+alone_joined name (Block whole i within j rest) u = alone_joined name rest u
 
 pub alone_message : (name : ℕ) (m : Braced Member) → alone_in name (message_tree m) ≡ alone_in name (trees member_tree m.members.items)
 alone_message name m = or_none (alone_in name (trees member_tree m.members.items))
@@ -89,9 +87,7 @@ alone_holds name (Block (header.Oneof h) i within j rest) e = elim (or_cases (is
       record { h = h; b = own; block = contains_head own (blocks_in within ++ blocks_in rest); oneof = refl; only = only_names name (fields_in within) x }
   | inr x ↦ later name rest (Block (header.Oneof h) i within j rest) (behind_block (header.Oneof h) i within j rest) (alone_holds name rest x)
 ]
-alone_holds name (Block (header.Enum h) i within j rest) e = later name rest (Block (header.Enum h) i within j rest) (behind_block (header.Enum h) i within j rest) (alone_holds name rest e)
-alone_holds name (Block (header.Service h) i within j rest) e = later name rest (Block (header.Service h) i within j rest) (behind_block (header.Service h) i within j rest) (alone_holds name rest e)
-alone_holds name (Block (header.Method s) i within j rest) e = later name rest (Block (header.Method s) i within j rest) (behind_block (header.Method s) i within j rest) (alone_holds name rest e)
+alone_holds name (Block whole i within j rest) e = later name rest (Block whole i within j rest) (behind_block whole i within j rest) (alone_holds name rest e)
 
 -- ---- only messages have oneofs
 
@@ -102,28 +98,19 @@ none_in_oneof : (t : Tree) → IsWellFormed context.Oneof t → (b : BlockOf) �
 none_in_oneof End fine b c o e = absurd (omega (arith, c.1))
 none_in_oneof (Leaf s rest) fine b c o e = none_in_oneof rest fine.1 b c o e
 none_in_oneof (Block (header.Message h) i within j rest) fine b c o e = absurd (both_ways false refl fine.0)
-none_in_oneof (Block (header.Oneof h) i within j rest) fine b c o e = absurd (both_ways false refl fine.0)
-none_in_oneof (Block (header.Enum h) i within j rest) fine b c o e = absurd (both_ways false refl fine.0)
-none_in_oneof (Block (header.Service h) i within j rest) fine b c o e = absurd (both_ways false refl fine.0)
-none_in_oneof (Block (header.Method s) i within j rest) fine b c o e = absurd (both_ways false refl fine.0)
+none_in_oneof (Block whole i within j rest) fine b c o e = absurd (both_ways false refl fine.0)
 
 none_in_enum : (t : Tree) → IsWellFormed context.Enum t → (b : BlockOf) → Contains (blocks_in t) b → (o : Heading) → b.header ≡ header.Oneof o → ⊥
 none_in_enum End fine b c o e = absurd (omega (arith, c.1))
 none_in_enum (Leaf s rest) fine b c o e = none_in_enum rest fine.1 b c o e
 none_in_enum (Block (header.Message h) i within j rest) fine b c o e = absurd (both_ways false refl fine.0)
-none_in_enum (Block (header.Oneof h) i within j rest) fine b c o e = absurd (both_ways false refl fine.0)
-none_in_enum (Block (header.Enum h) i within j rest) fine b c o e = absurd (both_ways false refl fine.0)
-none_in_enum (Block (header.Service h) i within j rest) fine b c o e = absurd (both_ways false refl fine.0)
-none_in_enum (Block (header.Method s) i within j rest) fine b c o e = absurd (both_ways false refl fine.0)
+none_in_enum (Block whole i within j rest) fine b c o e = absurd (both_ways false refl fine.0)
 
 none_in_method : (t : Tree) → IsWellFormed context.Method t → (b : BlockOf) → Contains (blocks_in t) b → (o : Heading) → b.header ≡ header.Oneof o → ⊥
 none_in_method End fine b c o e = absurd (omega (arith, c.1))
 none_in_method (Leaf s rest) fine b c o e = none_in_method rest fine.1 b c o e
 none_in_method (Block (header.Message h) i within j rest) fine b c o e = absurd (both_ways false refl fine.0)
-none_in_method (Block (header.Oneof h) i within j rest) fine b c o e = absurd (both_ways false refl fine.0)
-none_in_method (Block (header.Enum h) i within j rest) fine b c o e = absurd (both_ways false refl fine.0)
-none_in_method (Block (header.Service h) i within j rest) fine b c o e = absurd (both_ways false refl fine.0)
-none_in_method (Block (header.Method s) i within j rest) fine b c o e = absurd (both_ways false refl fine.0)
+none_in_method (Block whole i within j rest) fine b c o e = absurd (both_ways false refl fine.0)
 
 none_in_service : (t : Tree) → IsWellFormed context.Service t → (b : BlockOf) → Contains (blocks_in t) b → (o : Heading) → b.header ≡ header.Oneof o → ⊥
 none_in_service End fine b c o e = absurd (omega (arith, c.1))

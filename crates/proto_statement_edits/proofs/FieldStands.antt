@@ -96,9 +96,7 @@ found_in name (Block (header.Oneof k) i within j rest) a h = elim (or_some (fiel
       (inr (subst (λ o. StandsAt a.statement o (Block (header.Oneof k) i within j rest)) (sym x.1.close_is) (InOneof k i within j rest x.0)), x.1.field))
   | inr e ↦ (let x = found_in name rest a e in (past_block a (header.Oneof k) i within j rest x.0, x.1))
 ]
-found_in name (Block (header.Enum k) i within j rest) a h = let x = found_in name rest a h in (past_block a (header.Enum k) i within j rest x.0, x.1)
-found_in name (Block (header.Service k) i within j rest) a h = let x = found_in name rest a h in (past_block a (header.Service k) i within j rest x.0, x.1)
-found_in name (Block (header.Method k) i within j rest) a h = let x = found_in name rest a h in (past_block a (header.Method k) i within j rest x.0, x.1)
+found_in name (Block whole i within j rest) a h = let x = found_in name rest a h in (past_block a whole i within j rest x.0, x.1)
 
 -- ---- a file has no field right in it
 
@@ -176,9 +174,7 @@ stands_found name t a w h = let x = found_in name t a h in (by x.1 x.0, x.1)
 rest_none : (name : ℕ) (h : Header) (i : ℕ) (within : Tree) (j : ℕ) (rest : Tree) → field_in name (Block h i within j rest) ≡ None → field_in name rest ≡ None
 rest_none name (header.Message k) i within j rest h = (or_none (field_in name within) (field_in name rest) h).1
 rest_none name (header.Oneof k) i within j rest h = (or_none (field_among name (Some j) within) (field_in name rest) h).1
-rest_none name (header.Enum k) i within j rest h = h
-rest_none name (header.Service k) i within j rest h = h
-rest_none name (header.Method k) i within j rest h = h
+rest_none name whole i within j rest h = h
 
 not_here : (name number : ℕ) (close : Option ℕ) (s : Statement) → IsFieldOf s name number → field_if name close s ≡ None → ⊥
 not_here name number close s f h = none-some (record { statement = s; close = close }) (sym h ∙ cond-true (has_name name s) (Some (record { statement = s; close = close })) None (field_named name number s f))

@@ -59,9 +59,7 @@ field_joined name (Block (header.Message h) i within j rest) u =
 field_joined name (Block (header.Oneof h) i within j rest) u =
     let own = field_among name (Some j) within in
     ap (or_else own) (field_joined name rest u) ∙ sym (or_else_assoc own (field_in name rest) (field_in name u))
-field_joined name (Block (header.Enum h) i within j rest) u = field_joined name rest u
-field_joined name (Block (header.Service h) i within j rest) u = field_joined name rest u
-field_joined name (Block (header.Method s) i within j rest) u = field_joined name rest u
+field_joined name (Block whole i within j rest) u = field_joined name rest u
 
 -- the first of two, by what is told of it
 or_here : (a b : Option FieldAt) (p : FieldPlace) → Some p ≡ option_map place_of a → Some p ≡ option_map place_of (or_else a b)

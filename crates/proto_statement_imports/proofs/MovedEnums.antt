@@ -37,10 +37,7 @@ module _ (files : List FileOf) (reads : List ReadOf) (after : List FileOf) (seen
 
   is_enum_moved : (t : ℕ) (k : Header) → is_enum_at (g t) (move_header g k) ≡ is_enum_at t k
   is_enum_moved t (header.Enum x) = same_test x.name t
-  is_enum_moved t (header.Message x) = refl
-  is_enum_moved t (header.Oneof x) = refl
-  is_enum_moved t (header.Service x) = refl
-  is_enum_moved t (header.Method s) = refl
+  is_enum_moved t whole = refl
 
   starts_moved : (vs : List Value) → starts_past_zero (word_at (lexemes_of after seen place)) (map (move_value g) vs) ≡ starts_past_zero (word_at (lexemes_of files reads place)) vs
   starts_moved [] = refl

@@ -81,20 +81,11 @@ no_syntax (statement.Field f) e h = no_field f.label h
     no_field : (label : Option ℕ) → field_kind label ≡ kind.Syntax → ⊥
     no_field None e = cc
     no_field (Some i) e = cc
-no_syntax (statement.MapField f) e h = cc
-no_syntax (statement.Reserved r) e h = cc
-no_syntax (statement.Extensions x) e h = cc
-no_syntax (statement.Value v) e h = cc
-no_syntax (statement.EnumReserved r) e h = cc
-no_syntax (statement.Method s i) e h = cc
-no_syntax (statement.Empty i) e h = cc
+no_syntax whole e h = cc
 
 header_no_syntax : (k : Header) → header_kind k ≡ kind.Syntax → ⊥
 header_no_syntax (header.Message h) e = cc
-header_no_syntax (header.Oneof h) e = cc
-header_no_syntax (header.Enum h) e = cc
-header_no_syntax (header.Service h) e = cc
-header_no_syntax (header.Method h) e = cc
+header_no_syntax whole e = cc
 
 pub file_from_start : (t : Tree) → last_by behind_syntax t ≡ None → IsWellFormed context.Start t → IsWellFormed context.File t
 file_from_start End e h = tt

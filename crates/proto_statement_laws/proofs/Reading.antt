@@ -50,13 +50,7 @@ at_home (statement.Import i) = refl
 at_home (statement.Package p) = refl
 at_home (statement.Option o) = refl
 at_home (statement.Field f) = label_at_home f.label
-at_home (statement.MapField f) = refl
-at_home (statement.Reserved r) = refl
-at_home (statement.Extensions e) = refl
-at_home (statement.Value v) = refl
-at_home (statement.EnumReserved r) = refl
-at_home (statement.Method s i) = refl
-at_home (statement.Empty i) = refl
+at_home whole = refl
 
 pub calm_tree : (t : Tree) → AreStatements t → (text : List Classed) → Fit (flat t) text → Calm is_brace text
 calm_tree End are text h = subst (Calm is_brace) (no_text text h) tt

@@ -103,16 +103,7 @@ name_mark (statement.MapField f) name number is =
     let greater : Mark = mark (want.One class.Greater) f.close in
     subst (λ (n : ℕ). Contains (flat_statement (statement.MapField f)) (mark want.Name n)) is.0
     (Contains-append_right front (flat_type f.value ++ (greater ∷ m ∷ tail)) m (Contains-append_right (flat_type f.value) (greater ∷ m ∷ tail) m (contains_later greater m (m ∷ tail) (contains_head m tail))))
-name_mark (statement.Syntax s) name number is = absurd is
-name_mark (statement.Import i) name number is = absurd is
-name_mark (statement.Package p) name number is = absurd is
-name_mark (statement.Option o) name number is = absurd is
-name_mark (statement.Reserved r) name number is = absurd is
-name_mark (statement.Extensions x) name number is = absurd is
-name_mark (statement.Value v) name number is = absurd is
-name_mark (statement.EnumReserved r) name number is = absurd is
-name_mark (statement.Method s i) name number is = absurd is
-name_mark (statement.Empty i) name number is = absurd is
+name_mark whole name number is = absurd is
 
 pub fields_stand_once : FieldsStandOnce
 fields_stand_once text tokens t s x o p name number other reads h k is_s is_x = elim (at_at t h k) [

@@ -93,8 +93,7 @@ module _ (g : Move) where
   members_moved path (Block (header.Enum h) i within j rest) =
       ap₂ (λ (y z : List Placed). y ++ z) (beside_moved path h.name kind.Enum kind.Value (picked value_names no_names within) _ (values_picked within)) (members_moved path rest)
       ∙ sym (map_append (move_placed g) (beside path h.name kind.Enum kind.Value (picked value_names no_names within)) (all_placed path (members_in rest)))
-  members_moved path (Block (header.Service h) i within j rest) = members_moved path rest
-  members_moved path (Block (header.Method s) i within j rest) = members_moved path rest
+  members_moved path (Block whole i within j rest) = members_moved path rest
 
   -- ---- uses
 
@@ -148,8 +147,7 @@ module _ (g : Move) where
   block_moved scope (header.Message h) inner inner' x e = e
   block_moved scope (header.Oneof h) inner inner' x e = flat_uses_moved scope x
   block_moved scope (header.Service h) inner inner' x e = ap (λ p. flat_uses p (move_tree g x)) (sym (path_more scope (Token h.name))) ∙ flat_uses_moved (scope ++ Token h.name ∷ []) x
-  block_moved scope (header.Enum h) inner inner' x e = refl
-  block_moved scope (header.Method s) inner inner' x e = refl
+  block_moved scope whole inner inner' x e = refl
 
   pub both_moved : (a b c d : List (Used ℕ)) → c ≡ map (shifted_used g) a → d ≡ map (shifted_used g) b → c ++ d ≡ map (shifted_used g) (a ++ b)
   both_moved a b c d e f = ap₂ (λ (y z : List (Used ℕ)). y ++ z) e f ∙ sym (map_append (shifted_used g) a b)
@@ -161,8 +159,7 @@ module _ (g : Move) where
   member_uses_moved scope (Block (header.Message h) i within j rest) =
       both_moved (member_uses (scope ++ Token h.name ∷ []) within) (member_uses scope rest) _ _ (ap (λ p. member_uses p (move_tree g within)) (sym (path_more scope (Token h.name))) ∙ member_uses_moved (scope ++ Token h.name ∷ []) within) (member_uses_moved scope rest)
   member_uses_moved scope (Block (header.Oneof h) i within j rest) = both_moved (flat_uses scope within) (member_uses scope rest) _ _ (flat_uses_moved scope within) (member_uses_moved scope rest)
-  member_uses_moved scope (Block (header.Enum h) i within j rest) = member_uses_moved scope rest
-  member_uses_moved scope (Block (header.Method s) i within j rest) = member_uses_moved scope rest
+  member_uses_moved scope (Block whole i within j rest) = member_uses_moved scope rest
 
   pub item_uses_moved : (scope : List (Source ℕ)) (x : Tree) → item_uses (path_of scope) (move_tree g x) ≡ map (shifted_used g) (item_uses scope x)
   item_uses_moved scope End = refl
@@ -172,8 +169,7 @@ module _ (g : Move) where
       both_moved (member_uses (scope ++ Token h.name ∷ []) within) (item_uses scope rest) _ _ (ap (λ p. member_uses p (move_tree g within)) (sym (path_more scope (Token h.name))) ∙ member_uses_moved (scope ++ Token h.name ∷ []) within) (item_uses_moved scope rest)
   item_uses_moved scope (Block (header.Service h) i within j rest) =
       both_moved (flat_uses (scope ++ Token h.name ∷ []) within) (item_uses scope rest) _ _ (ap (λ p. flat_uses p (move_tree g within)) (sym (path_more scope (Token h.name))) ∙ flat_uses_moved (scope ++ Token h.name ∷ []) within) (item_uses_moved scope rest)
-  item_uses_moved scope (Block (header.Enum h) i within j rest) = item_uses_moved scope rest
-  item_uses_moved scope (Block (header.Method s) i within j rest) = item_uses_moved scope rest
+  item_uses_moved scope (Block whole i within j rest) = item_uses_moved scope rest
 
   -- ---- the items of a file
 
@@ -196,10 +192,7 @@ module _ (g : Move) where
   package_moved (Leaf (statement.Method s i) rest) = package_moved rest
   package_moved (Leaf (statement.Empty i) rest) = package_moved rest
   package_moved (Block (header.Message h) i within j rest) = package_moved rest
-  package_moved (Block (header.Enum h) i within j rest) = package_moved rest
-  package_moved (Block (header.Service h) i within j rest) = package_moved rest
-  package_moved (Block (header.Oneof h) i within j rest) = package_moved rest
-  package_moved (Block (header.Method s) i within j rest) = package_moved rest
+  package_moved (Block whole i within j rest) = package_moved rest
 
   -- ---- what the items of a file place
 
@@ -225,8 +218,7 @@ module _ (g : Move) where
   items_moved path (Block (header.Service h) i within j rest) =
       both_placed (place path (Token h.name) kind.Service ∷ map (λ i. place (path ++ Token h.name ∷ []) (Token i) kind.Method) (picked method_names block_names within)) (items_placed path (items_in rest)) _ _
       (ap (λ (z : List Placed). place (path_of path) (Token (g h.name)) kind.Service ∷ z) (methods_placed path h.name (picked method_names block_names within) _ (methods_picked within))) (items_moved path rest)
-  items_moved path (Block (header.Oneof h) i within j rest) = items_moved path rest
-  items_moved path (Block (header.Method s) i within j rest) = items_moved path rest
+  items_moved path (Block whole i within j rest) = items_moved path rest
 
   -- ---- imports
 

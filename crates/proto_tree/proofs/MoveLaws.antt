@@ -216,27 +216,15 @@ module _ (g : Move) where
   kind_moved (statement.Package p) = refl
   kind_moved (statement.Option o) = refl
   kind_moved (statement.Field f) = label_kind f.label
-  kind_moved (statement.MapField f) = refl
-  kind_moved (statement.Reserved r) = refl
-  kind_moved (statement.Extensions e) = refl
-  kind_moved (statement.Value v) = refl
-  kind_moved (statement.EnumReserved r) = refl
-  kind_moved (statement.Method s i) = refl
-  kind_moved (statement.Empty i) = refl
+  kind_moved whole = refl
 
   pub header_kind_moved : (h : Header) → header_kind (move_header g h) ≡ header_kind h
   header_kind_moved (header.Message h) = refl
-  header_kind_moved (header.Oneof h) = refl
-  header_kind_moved (header.Enum h) = refl
-  header_kind_moved (header.Service h) = refl
-  header_kind_moved (header.Method s) = refl
+  header_kind_moved whole = refl
 
   pub inside_moved : (h : Header) → inside (move_header g h) ≡ inside h
   inside_moved (header.Message h) = refl
-  inside_moved (header.Oneof h) = refl
-  inside_moved (header.Enum h) = refl
-  inside_moved (header.Service h) = refl
-  inside_moved (header.Method s) = refl
+  inside_moved whole = refl
 
   pub well_formed_moved : (c : Context) (t : Tree) → IsWellFormed c t → IsWellFormed c (move_tree g t)
   well_formed_moved c End h = tt

@@ -208,8 +208,7 @@ pub no_other_in_message : (h : Header) → ((x : Heading) → h ≡ header.Messa
 no_other_in_message (header.Message h) a b c = absurd (a h refl)
 no_other_in_message (header.Oneof h) a b c = absurd (b h refl)
 no_other_in_message (header.Enum h) a b c = absurd (c h refl)
-no_other_in_message (header.Service h) a b c = refl
-no_other_in_message (header.Method s) a b c = refl
+no_other_in_message whole a b c = refl
 
 -- ---- a file
 

@@ -53,10 +53,7 @@ last_inner (Block h i within j rest) c e = ap (λ d. last_of d rest) (after_inne
 
 pub inside_inner : (h : Header) → allows (inside h) kind.Close ≡ true
 inside_inner (header.Message h) = refl
-inside_inner (header.Oneof h) = refl
-inside_inner (header.Enum h) = refl
-inside_inner (header.Service h) = refl
-inside_inner (header.Method s) = refl
+inside_inner whole = refl
 
 after_outer : (c : Context) (k : Kind) → allows c kind.Close ≡ false → allows (after c k) kind.Close ≡ false
 after_outer context.Start kind.Package e = refl
