@@ -8,7 +8,7 @@ use Rattle.proto_tree.specs.declared.piece.Statement.{Statement}
 use Rattle.proto_tree.specs.declared.piece.Statement.TheVariants as statement
 use Rattle.proto_tree.specs.Tree.{Tree}
 use Rattle.proto_parts.specs.Numbers.{number_of}
-use Rattle.proto_parts.specs.Options.{truth_of}
+use Rattle.proto_parts.specs.Options.{truth_of, is_true}
 use Rattle.proto_parts.specs.Parts.{fields_in, statements, values_in}
 use Rattle.proto_case.specs.Cases.{is_lower_snake, is_pascal, is_upper_snake, upper}
 use Rattle.proto_rules.specs.declared.rule.Rule.TheVariants as rule
@@ -71,11 +71,6 @@ first_not_zero r scope (v ∷ vs) = unless_word r (λ w. is_zero r v) scope v.na
 -- ENUM_FIRST_VALUE_ZERO: the first value of an enum, if its number is not 0
 abbrev pub enum_first_value_zero : Reading → Text → Tree → List Named
 enum_first_value_zero r scope within = first_not_zero r scope (values_in within)
-
--- there is a truth value, and it is true
-abbrev pub is_true : Option Bool → Bool
-is_true None = false
-is_true (Some b) = b
 
 -- a statement `option allow_alias = true`, at its `option`, with the enum's full name
 abbrev pub allowed_alias : Reading → Text → Statement → List Named

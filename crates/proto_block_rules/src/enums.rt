@@ -5,14 +5,14 @@ ghost use Rattle.std.specs.List.{ends_with, starts_with};
 ghost use Rattle.std.specs.Str.{bytes_eq};
 ghost use Rattle.std.specs.String.{string_bytes};
 ghost use Rattle.proto_tree.specs.File.{enum_item_tree, trees};
-ghost use Rattle.proto_parts.specs.Options.{truth_of};
+ghost use Rattle.proto_parts.specs.Options.{truth_of, is_true};
 ghost use Rattle.proto_parts.specs.Parts.{statements, values_in};
 ghost use Rattle.proto_case.specs.Cases.{is_upper_snake};
 ghost use Rattle.proto_rules.specs.declared.rule.Rule.TheVariants as rule;
 ghost use Rattle.proto_findings.specs.Placed.{found_at, found_by, unless_word};
 ghost use Rattle.proto_findings.specs.Readings.{reading_of, text};
 ghost use Rattle.proto_findings.specs.Views.{found_of};
-ghost use Rattle.proto_block_rules.specs.NameRules.{allowed_alias, enum_finds, enum_first_value_zero, enum_no_allow_alias, enum_value_prefix, enum_value_upper_snake_case, enum_zero_value_suffix, is_true, is_zero, value_prefix};
+ghost use Rattle.proto_block_rules.specs.NameRules.{allowed_alias, enum_finds, enum_first_value_zero, enum_no_allow_alias, enum_value_prefix, enum_value_upper_snake_case, enum_zero_value_suffix, is_zero, value_prefix};
 
 use crate::names::add_name;
 use proto_case::{is_pascal, is_upper_snake, upper};

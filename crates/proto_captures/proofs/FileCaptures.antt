@@ -4,6 +4,7 @@ use Rattle.std.specs.Prelude.{option_map}
 use Rattle.std.specs.List.{AllPairs, Contains}
 use Rattle.std.proofs.lemmas.Bool.{and_from, and_parts, not-true, not_from_false}
 use Rattle.std.proofs.lemmas.List.Elements.{Contains-append_left, Contains-append_right}
+use Rattle.proto_faults.specs.Texts.{or_nothing}
 use Rattle.proto_case.specs.Camel.{entry_name}
 use Rattle.proto_case.proofs.EntryNames.{entry_differs}
 use Rattle.proto_faults.proofs.Lists.{contains_map}
@@ -36,7 +37,7 @@ use Rattle.proto_rename_laws.proofs.NoLinkFault.{files_are_linked, files_are_wov
 use Rattle.proto_imports.proofs.PlainNames.{name_in}
 use Rattle.proto_imports.specs.Links.{used_named}
 use Rattle.proto_captures.specs.Capturing.{captures_use, captures_words}
-use Rattle.proto_captures.specs.FirstCaptured.{AreNewNames, IsFirstIn, IsRenameOf, captures_by, first_of, or_nothing}
+use Rattle.proto_captures.specs.FirstCaptured.{AreNewNames, IsFirstIn, IsRenameOf, captures_by, first_of}
 use Rattle.proto_captures.specs.NewTexts.{NewTexts, entry_words}
 use Rattle.proto_captures.proofs.ByTexts.{texts_for}
 use Rattle.proto_captures.proofs.CapturedWords.{back, forth}

@@ -3,6 +3,7 @@ use Rattle.std.proofs.Common.{◌≡◌, ◌↔◌, ℕ, ◌+◌, ◌<◌, Bool,
 use Rattle.std.specs.Prelude.{option_map}
 use Rattle.std.specs.List.{AllPairs, Contains}
 use Rattle.std.proofs.lemmas.Bool.{and_from, and_parts, not-true, not_from_false}
+use Rattle.proto_faults.specs.Texts.{or_nothing}
 use Rattle.proto_case.specs.Camel.{entry_name}
 use Rattle.proto_faults.proofs.Lists.{contains_map}
 use Rattle.proto_text.specs.Texts.{words}
@@ -29,7 +30,7 @@ use Rattle.proto_rename_laws.specs.Captures.{HasScope}
 use Rattle.proto_rename_laws.proofs.NoLinkFault.{files_are_linked, files_are_woven}
 use Rattle.proto_imports.proofs.PlainNames.{name_in}
 use Rattle.proto_imports.specs.Links.{used_named}
-use Rattle.proto_captures.specs.FirstCaptured.{first_of, or_nothing}
+use Rattle.proto_captures.specs.FirstCaptured.{first_of}
 use Rattle.proto_captures.specs.Overtaking.{IsFirstOvertaken, Overtakes, SeesMarked, TellsPackages, overtakes_by, overtakes_use, overtakes_words}
 use Rattle.proto_captures.proofs.FileCaptures.{use_there}
 use Rattle.proto_captures.proofs.FirstOnes.{none_passes, one_passes}

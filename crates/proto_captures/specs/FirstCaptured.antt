@@ -1,7 +1,7 @@
 -- The first reference that a rename captures.
 use Rattle.std.specs.Prelude.{◌≡◌, ℕ, ◌<◌, Bool, if◌then◌else◌, List, [], ◌∷◌, Option, Some, None}
 use Rattle.std.specs.List.{Contains}
-use Rattle.proto_faults.specs.Texts.{Text}
+use Rattle.proto_faults.specs.Texts.{Text, or_nothing}
 use Rattle.proto_files.specs.Faults.{HasNoFault}
 use Rattle.proto_files.specs.FilesRead.{ReadOf, AreRead}
 use Rattle.proto_files.specs.GivenFiles.{FileOf}
@@ -57,11 +57,6 @@ pub record IsRenameOf
 abbrev pub AreNewNames : List FileOf → List ReadOf → Target → Text → NewTexts → Type 0
 AreNewNames files reads t to n = n ≡ texts_by (joined (target (name_map files reads t to)))
     (text_of files reads t.token) t.is_map to
-
--- the text, where there is one
-abbrev pub or_nothing : Option Text → Text
-or_nothing None = []
-or_nothing (Some text) = text
 
 -- of a reference, by what the link says that it means
 abbrev pub captures_by : LinkOf → ℕ → NewTexts → (ℕ → Text) → List Listed → Use → Meant → Bool

@@ -3,7 +3,7 @@
 use Rattle.std.specs.Prelude.{◌≡◌, ◌↔◌, ℕ, ◌-◌, ◌<◌, length, Bool, true, false, not, ◌&&◌, if◌then◌else◌, List, [], ◌∷◌, map, get_or, Option, Some, None, is_some, slice_index_or}
 use Rattle.std.specs.List.{Contains, find}
 use Rattle.std.specs.Str.{bytes_eq}
-use Rattle.proto_faults.specs.Texts.{Text}
+use Rattle.proto_faults.specs.Texts.{Text, or_nothing}
 use Rattle.proto_case.specs.Camel.{entry_name}
 use Rattle.proto_files.specs.FilesRead.{ReadOf, AreRead, read_at}
 use Rattle.proto_files.specs.GivenFiles.{FileOf}
@@ -25,7 +25,6 @@ use Rattle.proto_names.specs.Linking.{LinkOf, NameOf, text_at}
 use Rattle.proto_names.specs.declared.references.Meant.{Meant}
 use Rattle.proto_imports.specs.Links.{used_named}
 use Rattle.proto_captures.specs.Capturing.{bytes_before, is_cons, shown_from}
-use Rattle.proto_captures.specs.FirstCaptured.{or_nothing}
 use Rattle.proto_captures.specs.ShownTexts.{below, first_fits}
 
 -- ---- by names

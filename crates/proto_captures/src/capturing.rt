@@ -2,8 +2,8 @@
 //! what it finds on the way to its hit.
 
 ghost use Rattle.std.specs.Prelude.{◌≡◌, ◌<◌, ◌≤◌, ◌&&◌, ℕ, nat_le, [], length, get_or, map, IfOk, OnOk, string_bytes};
+ghost use Rattle.proto_faults.specs.Texts.{or_nothing};
 ghost use Rattle.proto_captures.specs.Capturing.{bytes_before, captures_use, first_now, shown_from, stands_first};
-ghost use Rattle.proto_captures.specs.FirstCaptured.{or_nothing};
 ghost use Rattle.proto_captures.specs.NewTexts.{texts_of};
 ghost use Rattle.proto_captures.specs.ShownTexts.{shown_below};
 ghost use Rattle.proto_listing.specs.Listing.{needs};

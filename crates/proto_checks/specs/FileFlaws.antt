@@ -10,7 +10,7 @@ use Rattle.proto_tree.specs.declared.piece.Header.{Header}
 use Rattle.proto_tree.specs.declared.piece.Header.TheVariants as header
 use Rattle.proto_tree.specs.Tree.{Tree}
 use Rattle.proto_parts.specs.JsonNames.{json_name_of}
-use Rattle.proto_parts.specs.Options.{is_named, is_one_of, truth_of}
+use Rattle.proto_parts.specs.Options.{is_named, is_one_of, truth_of, is_true}
 use Rattle.proto_parts.specs.Parts.{FieldOf, OptionOf, statements, fields_in, values_in, closed_ranges, enum_ranges, reserved_names_in, extension_words, options_in, settings_of, blocks_in}
 use Rattle.proto_parts.specs.Scenes.{Scene, text, value}
 use Rattle.proto_parts.specs.declared.options.Element.TheVariants as element
@@ -69,11 +69,6 @@ message_flaws scene within =
     ++ option_flaws scene element.Message (options_in within)))))
 
 -- ---- enums
-
--- there is a truth value, and it is true
-abbrev pub is_true : Option Bool → Bool
-is_true None = false
-is_true (Some b) = b
 
 -- some option of an enum is `allow_alias = true`: any counts, also beside another one
 abbrev pub allows_alias : Scene → List OptionOf → Bool

@@ -3,13 +3,13 @@
 ghost use Rattle.std.specs.Prelude.{◌≡◌, ◌++◌, ◌&&◌, [], codes, if◌then◌else◌, flat_map, map, IfOk, OnOk};
 ghost use Rattle.proto_faults.specs.declared.fault.FaultKind.TheVariants as kind;
 ghost use Rattle.proto_tree.specs.File.{enum_item_tree, trees};
-ghost use Rattle.proto_parts.specs.Options.{is_named, truth_of};
+ghost use Rattle.proto_parts.specs.Options.{is_named, truth_of, is_true};
 ghost use Rattle.proto_parts.specs.Parts.{enum_ranges, options_in, reserved_names_in, statements, values_in};
 ghost use Rattle.proto_parts.specs.Scenes.{text};
 ghost use Rattle.proto_parts.specs.Views.{option_of};
 ghost use Rattle.proto_numbers.specs.Flaws.{marked};
 ghost use Rattle.proto_numbers.specs.NumberFlaws.{broken_ranges, enum_range_of, is_value_number, least_value, most_value, number_of_value, outside, overlaps, repeated_numbers, reserved_numbers};
-ghost use Rattle.proto_checks.specs.FileFlaws.{allows_alias, enum_flaws, first_value_flaws, is_true, name_flaws, value_number_flaws, value_option_flaws};
+ghost use Rattle.proto_checks.specs.FileFlaws.{allows_alias, enum_flaws, first_value_flaws, name_flaws, value_number_flaws, value_option_flaws};
 
 use crate::names::add_name_flaws;
 use crate::options::add_option_flaws;

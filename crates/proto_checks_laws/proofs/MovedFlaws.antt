@@ -22,7 +22,7 @@ use Rattle.proto_tree.specs.Moved.{Move, move_constant, move_header, move_option
 use Rattle.proto_tree.specs.Tree.{Tree}
 use Rattle.proto_tree.specs.References.{first_of}
 use Rattle.proto_parts.specs.Numbers.{number_of}
-use Rattle.proto_parts.specs.Options.{fits_kind, idempotency_levels, is_allowed, is_named, is_one_of, is_text, is_word_of, optimize_modes, text_of, truth_named, value_kind_of, word_of}
+use Rattle.proto_parts.specs.Options.{fits_kind, idempotency_levels, is_allowed, is_named, is_one_of, is_text, is_word_of, optimize_modes, text_of, truth_named, value_kind_of, word_of, is_true}
 use Rattle.proto_parts.specs.Parts.{FieldOf, OptionOf, blocks_in, closed_ranges, enum_ranges, extension_words, fields_in, options_in, reserved_names_in, settings_of, statements, values_in}
 use Rattle.proto_parts.specs.Scenes.{Scene, number_at, signed_at, text, up_to, value}
 use Rattle.proto_parts.specs.declared.options.Element.{Element}
@@ -37,7 +37,7 @@ use Rattle.proto_numbers.specs.NumberFlaws.{bound_of, broken_ranges, end_of, enu
 use Rattle.proto_parts.specs.Labels.{is_label}
 use Rattle.proto_checks.specs.FieldFlaws.{default_flaws, enum_of_type, field_flaws, holds_number, is_default_of, is_of_proto2, is_packable_type, is_past_zero, is_scalar_default, is_unpackable, is_value_of, lacks_label, map_key_flaws, may_be_packed, may_default, no_map_keys, option_flaws, required_flaws, type_flaws, type_token, wrong_default}
 use Rattle.proto_parts.specs.JsonNames.{json_name_of, written_or}
-use Rattle.proto_checks.specs.FileFlaws.{allows_alias, block_flaws, enum_flaws, file_flaws, first_value_flaws, is_empty, is_true, json_clashes, message_flaws, name_flaws, value_number_flaws, value_option_flaws}
+use Rattle.proto_checks.specs.FileFlaws.{allows_alias, block_flaws, enum_flaws, file_flaws, first_value_flaws, is_empty, json_clashes, message_flaws, name_flaws, value_number_flaws, value_option_flaws}
 use Rattle.proto_checks_laws.specs.Imports.{ImportsMoveFlaws, IsMoved, moved}
 use Rattle.proto_checks_laws.proofs.MovedParts.{any_kept, closed_ranges_moved, empty_kept, enum_ranges_moved, extension_words_moved, fields_moved, file_blocks_moved, file_options_moved, find_moved, flat_kept, flat_moved, maps_kept, maps_moved, move_block_of, move_field_of, move_option_of, none_kept, options_moved, reserved_names_moved, settings_moved, some_kept, statements_moved, values_moved}
 use Rattle.proto_checks.proofs.OptionNames.{earlier_map}

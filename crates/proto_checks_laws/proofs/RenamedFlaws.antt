@@ -22,7 +22,7 @@ use Rattle.proto_tree.specs.declared.tree.Value.{Value}
 use Rattle.proto_tree.specs.Tree.{Tree}
 use Rattle.proto_faults.proofs.Lists.{word_from_same}
 use Rattle.proto_parts.specs.Numbers.{number_of}
-use Rattle.proto_parts.specs.Options.{fits_kind, idempotency_levels, is_allowed, is_named, is_word_of, optimize_modes, truth_named, truth_of, value_kind_of, word_of}
+use Rattle.proto_parts.specs.Options.{fits_kind, idempotency_levels, is_allowed, is_named, is_word_of, optimize_modes, truth_named, truth_of, value_kind_of, word_of, is_true}
 use Rattle.proto_parts.specs.Parts.{BlockOf, FieldOf, OptionOf, blocks_in, closed_ranges, enum_ranges, extension_words, fields_in, options_in, reserved_names_in, settings_of, statements, values_in}
 use Rattle.proto_parts.specs.Scenes.{EnumOf, Scene, enum_meant, number_at, signed_at, text, up_to, value}
 use Rattle.proto_parts.specs.declared.options.Element.{Element}
@@ -37,7 +37,7 @@ use Rattle.proto_numbers.specs.NumberFlaws.{bound_of, broken_ranges, end_of, enu
 use Rattle.proto_parts.specs.Labels.{is_label}
 use Rattle.proto_checks.specs.FieldFlaws.{default_flaws, enum_of_type, field_flaws, is_packable_type, is_unpackable, map_key_flaws, may_default, no_map_keys, option_flaws, required_flaws, type_flaws, type_token, wrong_default}
 use Rattle.proto_parts.specs.JsonNames.{json_name_of}
-use Rattle.proto_checks.specs.FileFlaws.{block_flaws, enum_flaws, file_flaws, first_value_flaws, is_true, json_clashes, message_flaws, name_flaws, value_number_flaws, value_option_flaws}
+use Rattle.proto_checks.specs.FileFlaws.{block_flaws, enum_flaws, file_flaws, first_value_flaws, json_clashes, message_flaws, name_flaws, value_number_flaws, value_option_flaws}
 use Rattle.proto_checks_laws.specs.Renamed.{DifferInNames, NamesDecideThreeKinds, SameButValues, asked_tokens, block_tokens, but_names, constant_tokens, end_tokens, enum_tokens, field_tokens, header_tokens, is_of_names, message_tokens, option_tokens, range_tokens, scalar_tokens, up_to_tokens, value_tokens}
 use Rattle.proto_checks.proofs.FlawTokens.{aft, fore}
 

@@ -3,7 +3,7 @@
 use Rattle.std.specs.Prelude.{ℕ, suc, ◌+◌, ℤ, pos, negsuc, nat_abs, ◌^◌, ◌-◌, Bool, true, false, ◌&&◌, ◌||◌, if◌then◌else◌, List, [], ◌∷◌, ◌++◌, map, flat_map, Option, Some, None, option_map, is_some, codes}
 use Rattle.std.specs.Fmt.{signed_decimal}
 use Rattle.std.specs.Str.{bytes_eq}
-use Rattle.proto_faults.specs.Texts.{Text, Path}
+use Rattle.proto_faults.specs.Texts.{Text, Path, or_nothing}
 use Rattle.proto_tree.specs.declared.tree.Constant.{Constant}
 use Rattle.proto_tree.specs.declared.tree.Constant.TheVariants as constant
 use Rattle.proto_tree.specs.declared.tree.FieldType.{FieldType as WrittenType}
@@ -274,11 +274,6 @@ messages_described scene full (Block h opens within closes rest) =
     messages_described scene full rest
 
 -- ---- services
-
--- a name, and the empty text where there is none
-abbrev pub or_nothing : Option Text → Text
-or_nothing None = []
-or_nothing (Some name) = name
 
 -- the full name that a reference means, behind a dot
 abbrev pub type_text : Scene → Reference → Text

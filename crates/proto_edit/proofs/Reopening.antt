@@ -2,6 +2,7 @@
 use Rattle.std.proofs.Common.{List, length, refl, sym, subst, inl, inr}
 use Rattle.std.specs.Prelude.{Some, None}
 use Rattle.std.proofs.lemmas.Bool.{cases_lt}
+use Rattle.proto_faults.specs.Texts.{text_limit}
 use Rattle.proto_faults.specs.declared.fault.FaultKind.TheVariants as kind
 use Rattle.proto_files.specs.Faults.{FaultAt, IsLeastFault}
 use Rattle.proto_files.specs.GivenFiles.{FileOf}
@@ -16,7 +17,7 @@ use Rattle.proto_edit.proofs.GivenAgain.{opens_again, sorted_again}
 
 -- no file of what compiles is too large
 are_short : (w : List FileOf) → AreCompiled w → AreShortFiles w
-are_short w has g k = elim (cases_lt 1048576 (length g.bytes)) [
+are_short w has g k = elim (cases_lt text_limit (length g.bytes)) [
   | inl lt ↦ absurd (has.clean (at g.path 0 kind.TooLarge) (of_read (at g.path 0 kind.TooLarge) (inl (g, k, refl, (refl, lt)))))
   | inr le ↦ le
 ]

@@ -4,6 +4,7 @@ use Rattle.std.specs.Prelude.{sum_by}
 use Rattle.std.specs.String.{string_bytes}
 use Rattle.std.proofs.lemmas.List.{take_more}
 use Rattle.std.proofs.lemmas.List.Sums.{sum_by-cons, sum_by_push, sum_by-take-le}
+use Rattle.proto_faults.specs.Texts.{text_limit}
 use Rattle.proto_text.specs.declared.splice.Splice.{Splice}
 use Rattle.proto_text.specs.Edits.{Edit, AreShort}
 use Rattle.proto_text.specs.Splicing.{edit_of, edits}
@@ -14,22 +15,22 @@ old_of s = length (string_bytes s.old)
 abbrev pub new_of : Splice → ℕ
 new_of s = length (string_bytes s.new)
 
-old_fits : (to from : ℕ) (ss : List Splice) → from ≤ 1048576 → AreShort to from (edits ss) → from + sum_by old_of ss ≤ 1048576
+old_fits : (to from : ℕ) (ss : List Splice) → from ≤ text_limit → AreShort to from (edits ss) → from + sum_by old_of ss ≤ text_limit
 old_fits to from [] le h = omega (arith, le)
 old_fits to from (s ∷ ss) le h =
     let more = old_fits ((to + (s.at - from)) + length (string_bytes s.new)) (s.at + length (string_bytes s.old)) ss h.1 h.3 in
     omega (arith, h.0, more, sum_by-cons old_of s ss)
 
-new_fits : (to from : ℕ) (ss : List Splice) → to ≤ 1048576 → AreShort to from (edits ss) → to + sum_by new_of ss ≤ 1048576
+new_fits : (to from : ℕ) (ss : List Splice) → to ≤ text_limit → AreShort to from (edits ss) → to + sum_by new_of ss ≤ text_limit
 new_fits to from [] le h = omega (arith, le)
 new_fits to from (s ∷ ss) le h =
     let more = new_fits ((to + (s.at - from)) + length (string_bytes s.new)) (s.at + length (string_bytes s.old)) ss h.2 h.3 in
     omega (arith, h.0, more, sum_by-cons new_of s ss)
 
-pub old_sum_fits : (ss : List Splice) → AreShort 0 0 (edits ss) → sum_by old_of ss ≤ 1048576
+pub old_sum_fits : (ss : List Splice) → AreShort 0 0 (edits ss) → sum_by old_of ss ≤ text_limit
 old_sum_fits ss h = let r = old_fits 0 0 ss (omega arith) h in omega (arith, r)
 
-pub new_sum_fits : (ss : List Splice) → AreShort 0 0 (edits ss) → sum_by new_of ss ≤ 1048576
+pub new_sum_fits : (ss : List Splice) → AreShort 0 0 (edits ss) → sum_by new_of ss ≤ text_limit
 new_sum_fits ss h = let r = new_fits 0 0 ss (omega arith) h in omega (arith, r)
 
 -- one summand more

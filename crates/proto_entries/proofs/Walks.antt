@@ -6,6 +6,7 @@ use Rattle.std.specs.String.{string_bytes}
 use Rattle.std.specs.List.{Contains}
 use Rattle.std.proofs.lemmas.Bool.Decides.{nat_tests}
 use Rattle.std.proofs.lemmas.List.{drop_more, map_push}
+use Rattle.proto_faults.specs.Texts.{text_limit}
 use Rattle.proto_text.specs.Edits.{Puts}
 use Rattle.proto_text.proofs.Once.{puts_once}
 use Rattle.proto_files.specs.GivenFiles.{FileOf, file_at, file_of, files_of, AreWorkspaceFiles}
@@ -300,7 +301,7 @@ module _ (fs : List FileOf) (cs : List ChangeOf) (place : ℕ) (left : List Chan
 -- ---- what the code goes through
 
 -- a text that is too long is none
-pub too_long : (text : List ℕ) (c : ChangeOf) → (big : List ℕ) × Puts 0 text c.splices big × (1048576 < length big) → (new : List ℕ) → HasChange text c new → ⊥
+pub too_long : (text : List ℕ) (c : ChangeOf) → (big : List ℕ) × Puts 0 text c.splices big × (text_limit < length big) → (new : List ℕ) → HasChange text c new → ⊥
 too_long text c big new h =
     let same = ap length (puts_once 0 text big.0 new c.splices big.1 h.puts) in
     let long = big.2 in

@@ -3,7 +3,7 @@ use Rattle.std.specs.Prelude.{◌≡◌, ◌≢◌, ℕ, ◌+◌, ◌≤◌, Lis
 use Rattle.std.specs.List.{All}
 use Rattle.std.specs.String.{string_bytes}
 use Rattle.proto_text.specs.Edits.{Edit, AreShort, inverse_from}
-use Rattle.proto_faults.specs.Texts.{Path}
+use Rattle.proto_faults.specs.Texts.{Path, text_limit}
 use Rattle.proto_files.specs.WorkspacePaths.{IsWorkspacePath, IsBefore}
 use Rattle.proto_entries.specs.declared.entry.Change.{Change}
 
@@ -49,8 +49,8 @@ pub record HasLengths (splices : List Edit) (before after : ℕ) : Type 0 where
 
 -- The splices are in order and lie in the old text, and the lengths are those that they make.
 pub record IsMeasured (c : ChangeOf) : Type 0 where
-  pub before_fits : c.before ≤ 1048576
-  pub after_fits : c.after ≤ 1048576
+  pub before_fits : c.before ≤ text_limit
+  pub after_fits : c.after ≤ text_limit
   pub some : c.splices ≢ []
   pub ordered : AreShort 0 0 c.splices
   pub lengths : HasLengths c.splices c.before c.after

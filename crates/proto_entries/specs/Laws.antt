@@ -1,7 +1,7 @@
 -- The laws of entries: what their changes put into files, and the way back.
 use Rattle.std.specs.Prelude.{◌≡◌, ℕ, ◌+◌, ◌≤◌, List, length}
 use Rattle.proto_text.specs.Edits.{Edit, AreShort, Puts}
-use Rattle.proto_faults.specs.Texts.{Text}
+use Rattle.proto_faults.specs.Texts.{Text, text_limit}
 use Rattle.proto_files.specs.GivenFiles.{FileOf, AreWorkspaceFiles}
 use Rattle.proto_entries.specs.Entries.{ChangeOf, inverted, AreRising, IsEntry}
 use Rattle.proto_entries.specs.Putting.{IsPut, AreShortFiles, ArePut}
@@ -39,4 +39,4 @@ EntriesLeadBack =
 abbrev pub PutsAreShort : Type 0
 PutsAreShort =
     (to from : ℕ) (text new : Text) (es : List Edit) → Puts from text es new
-    → from + length text ≤ 1048576 → to + length new ≤ 1048576 → AreShort to from es
+    → from + length text ≤ text_limit → to + length new ≤ text_limit → AreShort to from es

@@ -4,7 +4,7 @@ use Rattle.std.specs.Prelude.{◌≡◌, ◌≢◌, ℕ, ◌≤◌, ◌⊎◌, L
 use Rattle.std.specs.Global.{Vec}
 use Rattle.std.specs.List.{Contains}
 use Rattle.proto_text.specs.Edits.{Puts}
-use Rattle.proto_faults.specs.Texts.{Text}
+use Rattle.proto_faults.specs.Texts.{Text, text_limit}
 use Rattle.proto_files.specs.GivenFiles.{FileOf}
 use Rattle.proto_entries.specs.Entries.{ChangeOf}
 
@@ -31,7 +31,7 @@ pub record IsPut (w : List FileOf) (cs : List ChangeOf) (after : List FileOf) : 
 
 -- no file is longer than one may be
 abbrev pub AreShortFiles : List FileOf → Type 0
-AreShortFiles after = (g : FileOf) → Contains after g → length g.bytes ≤ 1048576
+AreShortFiles after = (g : FileOf) → Contains after g → length g.bytes ≤ text_limit
 
 -- ---- in order
 
@@ -39,7 +39,7 @@ AreShortFiles after = (g : FileOf) → Contains after g → length g.bytes ≤ 1
 pub record HasChange (text : Text) (c : ChangeOf) (new : Text) : Type 0 where
   pub before : length text ≡ c.before
   pub puts : Puts 0 text c.splices new
-  pub short : length new ≤ 1048576
+  pub short : length new ≤ text_limit
 
 -- this is the text with the change, or there is none
 abbrev pub IsChangedText : Text → ChangeOf → Option (Vec ℕ) → Type 0

@@ -1,6 +1,7 @@
 //! Changes of one file: made, copied and turned round.
 
 ghost use Rattle.std.specs.Prelude.{◌≡◌, ◌+◌, ◌≤◌, ◌++◌, ◌∷◌, [], length, map, IfOk, OnOk};
+ghost use Rattle.proto_faults.specs.Texts.{text_limit};
 ghost use Rattle.proto_text.specs.Edits.{AreShort};
 ghost use Rattle.proto_text.specs.Splicing.{edits};
 ghost use Rattle.proto_entries.specs.Entries.{change_of, turned_round, inverted};
@@ -12,8 +13,8 @@ use std::alloc::Global;
 
 /// One splice: the new word in place of the old one, which begins at this byte.
 pub fn one_splice(alloc: Global, at: u32, old: &str, new: &str) -> Result<Splices, NoMemory>
-    requires old_fits { at + length old.now ≤ 1048576 }
-    requires new_fits { at + length new.now ≤ 1048576 }
+    requires old_fits { at + length old.now ≤ text_limit }
+    requires new_fits { at + length new.now ≤ text_limit }
     ensures { IfOk result (λ splices. splices
         ≡ record { at = at; old = old.now; new = new.now } ∷ []) }
 {

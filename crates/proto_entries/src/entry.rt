@@ -2,18 +2,17 @@
 
 ghost use Rattle.std.specs.Prelude.{◌≡◌, ◌↔◌, ◌+◌, ◌≤◌, IsTrue, All, length, map, sum_by, MatchOption};
 ghost use Rattle.std.specs.String.{string_bytes};
+ghost use Rattle.proto_faults.specs.Texts.{text_limit};
 ghost use Rattle.proto_text.specs.Edits.{AreShort};
 ghost use Rattle.proto_text.specs.Splicing.{edits};
 ghost use Rattle.proto_entries.specs.Entries.{change_of, IsToldApart, HasLengths, IsMeasured, IsChange, BeginsBefore, AreRising, IsEntry};
 ghost use Rattle.proto_files.specs.WorkspacePaths.{IsBefore};
 
+use proto_faults::MAX_LEN;
 use proto_files::is_workspace_path;
 use proto_text::{Splice, Splices};
 use std::cmp::Ordering;
 use std::marker::Model;
-
-/// How many bytes a file has at most.
-const MAX_LEN: u32 = 1_048_576;
 
 /// A changed file: its path, its lengths in bytes before and after, and its splices, whose places
 /// count in the old text.
@@ -51,7 +50,7 @@ fn are_same(splices: &[Splice]) -> bool
 fn old_len(splices: &[Splice]) -> usize
     requires { AreShort 0 0 (edits splices.now) }
     ensures value { result ≡ sum_by (λ s. length (string_bytes s.old)) splices.now }
-    ensures bound { result ≤ 1048576 }
+    ensures bound { result ≤ text_limit }
 {
     let mut total = 0;
     for splice in splices {
@@ -63,7 +62,7 @@ fn old_len(splices: &[Splice]) -> usize
 fn new_len(splices: &[Splice]) -> usize
     requires { AreShort 0 0 (edits splices.now) }
     ensures value { result ≡ sum_by (λ s. length (string_bytes s.new)) splices.now }
-    ensures bound { result ≤ 1048576 }
+    ensures bound { result ≤ text_limit }
 {
     let mut total = 0;
     for splice in splices {
@@ -94,7 +93,8 @@ fn is_measured(change: &Change) -> bool
     ensures { IsTrue result ↔ IsMeasured (change_of change.now) }
 {
     let splices = change.splices.as_slice();
-    if change.before > MAX_LEN || change.after > MAX_LEN || splices.is_empty() {
+    let is_short = change.before as usize <= MAX_LEN && change.after as usize <= MAX_LEN;
+    if !is_short || splices.is_empty() {
         return false;
     }
     if !has_lengths(splices, change.before, change.after) {

@@ -2,7 +2,9 @@
 #![tactic(auto)]
 
 mod fault;
+mod limits;
 mod no_memory;
 
 pub use fault::{Fault, FaultKind, SchemaFault};
+pub use limits::{MAX_JOURNAL_LEN, MAX_LEN};
 pub use no_memory::NoMemory;

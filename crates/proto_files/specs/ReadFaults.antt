@@ -7,20 +7,20 @@ use Rattle.proto_text.specs.Tokens.{AreTokens, IsFaultAt}
 use Rattle.proto_tree.specs.Reads.{IsSyntaxAt, IsTooDeepAt}
 use Rattle.proto_faults.specs.declared.fault.FaultKind.{FaultKind}
 use Rattle.proto_faults.specs.declared.fault.FaultKind.TheVariants.{TooLarge, NotUtf8, BadChar, OpenComment, OpenString, BadEscape, BadNumber, Syntax, TooDeep}
-use Rattle.proto_faults.specs.Texts.{Text}
+use Rattle.proto_faults.specs.Texts.{Text, text_limit}
 use Rattle.proto_files.specs.Faults.{FaultAt}
 use Rattle.proto_files.specs.GivenFiles.{FileOf}
 
 -- bytes of a text
 pub record IsText (bytes : Text) : Type 0 where
-  pub short : length bytes ≤ 1048576
+  pub short : length bytes ≤ text_limit
   pub utf8 : IsUtf8 bytes
 
 -- what a fault of the text says of a file's bytes: they are no text, or whole pieces stand before
 -- the offset and none begins at it
 abbrev pub IsTextFault : Text → ℕ → FaultKind → Type 0
-IsTextFault bytes offset TooLarge = (offset ≡ 0) × (1048576 < length bytes)
-IsTextFault bytes offset NotUtf8 = (offset ≡ 0) × (length bytes ≤ 1048576) × (IsUtf8 bytes → ⊥)
+IsTextFault bytes offset TooLarge = (offset ≡ 0) × (text_limit < length bytes)
+IsTextFault bytes offset NotUtf8 = (offset ≡ 0) × (length bytes ≤ text_limit) × (IsUtf8 bytes → ⊥)
 IsTextFault bytes offset BadChar = IsText bytes × IsFaultAt bytes offset lex.BadChar
 IsTextFault bytes offset OpenComment = IsText bytes × IsFaultAt bytes offset lex.OpenComment
 IsTextFault bytes offset OpenString = IsText bytes × IsFaultAt bytes offset lex.OpenString

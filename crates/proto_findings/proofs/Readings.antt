@@ -2,6 +2,7 @@
 use Rattle.std.proofs.Common.{◌≡◌, ℕ, ◌<◌, Bool, true, false, ◌==◌, List, [], ◌∷◌, length, map, get_or, Option, Some, None, Bor, option_map, refl, ap, ◌∙◌}
 use Rattle.std.specs.List.{find}
 use Rattle.std.specs.Option.{option_and_then, unwrap_or}
+use Rattle.proto_faults.specs.Texts.{or_nothing}
 use Rattle.proto_text.specs.declared.lexer.Token.{Token}
 use Rattle.proto_text.specs.Tokens.{AreTokens, Lexeme, lexeme_at}
 use Rattle.proto_tree.specs.declared.tree.Separated.{Separated}
@@ -12,7 +13,7 @@ use Rattle.proto_names.specs.declared.references.Meant.{Meant}
 use Rattle.proto_names.specs.LinkOfFiles.{IsLinkOf, TextMeant, meant_by_link}
 use Rattle.proto_names.specs.Linking.{LinkOf, row_at, text_at}
 use Rattle.proto_files.proofs.ReadOnce.{tokens_at}
-use Rattle.proto_findings.specs.Readings.{read_of_file, Reading, or_nothing}
+use Rattle.proto_findings.specs.Readings.{read_of_file, Reading}
 
 -- ---- what a reference means
 

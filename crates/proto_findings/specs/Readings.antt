@@ -1,7 +1,7 @@
 -- What the rules read of a file.
 use Rattle.std.specs.Prelude.{ℕ, ◌==◌, List, [], map, find, get_or, Option, Some, None}
 use Rattle.std.specs.Option.{option_and_then}
-use Rattle.proto_faults.specs.Texts.{Text}
+use Rattle.proto_faults.specs.Texts.{Text, or_nothing}
 use Rattle.proto_text.specs.declared.lexer.Token.{Token}
 use Rattle.proto_text.specs.Texts.{word_at}
 use Rattle.proto_text.specs.Tokens.{Lexeme, lexeme_at}
@@ -23,11 +23,6 @@ pub record Reading : Type 0 where
 -- the text of a token by its index, and nothing where there is none
 abbrev pub text : Reading → ℕ → Text
 text r token = word_at r.lexemes token
-
--- a name, and nothing where there is none
-abbrev pub or_nothing : Option Text → Text
-or_nothing None = []
-or_nothing (Some name) = name
 
 -- the full name that the reference with this first token means, and nothing where it means none
 abbrev pub meant : Reading → ℕ → Text

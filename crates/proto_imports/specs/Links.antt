@@ -5,7 +5,7 @@ use Rattle.proto_text.specs.Values.{value_of}
 use Rattle.proto_text.specs.Texts.{words, offset_at}
 use Rattle.proto_files.specs.Faults.{FaultAt}
 use Rattle.proto_faults.specs.FaultTable.{number_of}
-use Rattle.proto_faults.specs.Texts.{Text}
+use Rattle.proto_faults.specs.Texts.{Text, or_nothing}
 use Rattle.proto_files.specs.FilesRead.{Each, ReadOf, read_at, AreRead}
 use Rattle.proto_files.specs.GivenFiles.{FileOf, file_at, paths_of}
 use Rattle.proto_case.specs.Camel.{entry_name}
@@ -24,16 +24,11 @@ text_of files reads a = words (file_at files a.file).bytes (read_at reads a.file
 
 -- ---- imports
 
--- the value of a string, and nothing for another text
-abbrev pub value_or_none : Option Text → Text
-value_or_none None = []
-value_or_none (Some v) = v
-
 -- an import that a tree asks for: where it stands, and the path that its string spells
 abbrev pub asked_as : (At → Text) → ℕ → Wanted → Asked
 asked_as text file w = record {
   place = at file w.path;
-  path = value_or_none (value_of (text (at file w.path)));
+  path = or_nothing (value_of (text (at file w.path)));
   is_public = w.is_public;
 }
 

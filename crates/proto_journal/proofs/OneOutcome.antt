@@ -17,7 +17,7 @@ use Rattle.proto_edit.proofs.Steps.{undo_once}
 use Rattle.proto_records.specs.declared.fault.JournalFault.{JournalFault}
 use Rattle.proto_records.specs.declared.fault.JournalFault.TheVariants as fault
 use Rattle.proto_records.specs.declared.record.Record.{Record}
-use Rattle.proto_records.specs.Journals.{IsJournal, IsRecord, is_last_open, done, journal_text}
+use Rattle.proto_records.specs.Journals.{IsJournal, IsRecord, is_last_open, done, journal_text, journal_limit}
 use Rattle.proto_records.specs.Laws.{IsReadInOneWay}
 use Rattle.proto_store.specs.Stores.{Held}
 use Rattle.proto_journal.specs.Commits.{CommitOutcome, IsCommitted, IsFull, Stays}
@@ -181,8 +181,8 @@ module _ (one_way : IsReadInOneWay) (steps_once : StepsOnce) (refused_once : Ref
       let same : rs ≡ ss = one_way old.journal rs ss c.store.1.journal f.3.1.journal in
       let texts : rs ++ done x ∷ [] ≡ ss ++ done f.0 ∷ [] = λ i. same i ++ done (step.0 i) ∷ [] in
       let size : length n.journal ≡ length (journal_text (ss ++ done f.0 ∷ [])) = ap length (c.store.2.journal.text ∙ ap journal_text texts) in
-      let short : length n.journal ≤ 16777216 = c.store.2.journal.short in
-      let long : 16777216 < length (journal_text (ss ++ done f.0 ∷ [])) = f.3.2 in
+      let short : length n.journal ≤ journal_limit = c.store.2.journal.short in
+      let long : journal_limit < length (journal_text (ss ++ done f.0 ∷ [])) = f.3.2 in
       absurd (omega arith)
 
   not_refused : {P : Type 0} (e : Asked) (x : List ChangeOf) (from made to : List FileOf) (old : Held) (new : Option Held) (r : Refusal) → IsMappedStep from e x made → IsRefused e from to old new r → P

@@ -12,14 +12,12 @@ ghost use Rattle.proto_store.specs.Stores.{HoldsFiles};
 use crate::reading::ready_journal;
 use crate::writing::write_through;
 use proto_edit::{Edit, Entry, Workspace};
+use proto_faults::MAX_JOURNAL_LEN;
 use proto_records::laws::{journals_grow_and_shrink, records_have_one_text};
 use proto_records::{JournalFault, State, with_record};
 use proto_store::{Store, StoreFault};
 use std::alloc::Global;
 use std::mem;
-
-/// How many bytes a journal has at most.
-const MAX_LEN: usize = 16_777_216;
 
 // All that a commit writes and puts in place.
 #[derive(Drop)]
@@ -70,7 +68,7 @@ fn with_entry(
 {
     let first = with_record(alloc, journal, State::Open, entry)?;
     let last = with_record(alloc, journal, State::Done, entry)?;
-    if last.len() > MAX_LEN {
+    if last.len() > MAX_JOURNAL_LEN {
         return Err(JournalFault::JournalFull);
     }
     // Both are journals: the text of an entry is as long while it is open.

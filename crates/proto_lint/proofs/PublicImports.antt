@@ -7,6 +7,7 @@ use Rattle.std.proofs.lemmas.List.{map-append}
 use Rattle.std.proofs.lemmas.List.Quantifiers.{position-Some}
 use Rattle.std.specs.Str.{bytes_eq}
 use Rattle.std.proofs.lemmas.Option.{none-some, same_Some}
+use Rattle.proto_faults.specs.Texts.{or_nothing}
 use Rattle.proto_text.specs.Values.{value_of}
 use Rattle.proto_faults.proofs.Lists.{contains_cases, contains_head, contains_later, contains_map, from_map}
 use Rattle.proto_files.specs.GivenFiles.{FileOf, paths_of}
@@ -17,7 +18,7 @@ use Rattle.proto_listing.specs.FromTree.{Wanted, imports_in}
 use Rattle.proto_listing.specs.Listing.{wanted_of}
 use Rattle.proto_listing.specs.declared.wanted.Wanted.{Wanted as WantedAt}
 use Rattle.proto_files.specs.FilesRead.{ReadOf, AreRead, read_at}
-use Rattle.proto_imports.specs.Links.{all_wanted, asked_as, link_imports, text_of, value_or_none}
+use Rattle.proto_imports.specs.Links.{all_wanted, asked_as, link_imports, text_of}
 use Rattle.proto_imports.proofs.Turned.{contains_within, take_more}
 use Rattle.proto_lint.specs.ImportTables.{ArePublic, public_target, public_targets}
 
@@ -70,7 +71,7 @@ asked_from text n (r ∷ rs) a c = elim (Contains-append_cases (map (asked_as te
 -- ---- one import
 
 abbrev path_at : (ℕ → List ℕ) → Wanted → List ℕ
-path_at text i = value_or_none (value_of (text i.path))
+path_at text i = or_nothing (value_of (text i.path))
 
 target_public : (paths : List (List ℕ)) (text : ℕ → List ℕ) (i : Wanted) (to : ℕ) → public_target paths text i ≡ Some to → (i.is_public ≡ true) × (file_of paths (path_at text i) ≡ Some to)
 target_public paths text i to h = go i.is_public h

@@ -1,7 +1,7 @@
 -- Tables of the imports of files, and the files in which the meanings of references are declared.
 use Rattle.std.specs.Prelude.{◌≡◌, ◌↔◌, ℕ, ◌<◌, Bool, true, if◌then◌else◌, List, [], length, get_or, map, slice_set, Option, Some, None}
 use Rattle.std.specs.List.{All, Contains, filter_map}
-use Rattle.proto_faults.specs.Texts.{Path, Text}
+use Rattle.proto_faults.specs.Texts.{Path, Text, or_nothing}
 use Rattle.proto_text.specs.Values.{value_of}
 use Rattle.proto_files.specs.GivenFiles.{FileOf, paths_of}
 use Rattle.proto_meaning.specs.Faults.{file_of}
@@ -9,7 +9,7 @@ use Rattle.proto_meaning.specs.Names.{Import, Reaches}
 use Rattle.proto_listing.specs.FromTree.{Wanted}
 use Rattle.proto_imports.specs.ImportSteps.{IsFileIndex}
 use Rattle.proto_files.specs.FilesRead.{ReadOf, AreRead}
-use Rattle.proto_imports.specs.Links.{link_imports, names_of_files, value_or_none}
+use Rattle.proto_imports.specs.Links.{link_imports, names_of_files}
 use Rattle.proto_imports.specs.Walks.{IsMarked}
 use Rattle.proto_names.specs.Linking.{LinkOf, file_at}
 use Rattle.proto_names.specs.declared.references.Meant.{Meant}
@@ -20,7 +20,7 @@ use Rattle.proto_lint.specs.declared.imports.Imports.{Imports}
 -- public
 abbrev pub public_target : List Path → (ℕ → Text) → Wanted → Option ℕ
 public_target paths text w =
-    if w.is_public then file_of paths (value_or_none (value_of (text w.path))) else None
+    if w.is_public then file_of paths (or_nothing (value_of (text w.path))) else None
 
 -- the files that the public ones of some imports name, in order
 abbrev pub public_targets : List Path → (ℕ → Text) → List Wanted → List ℕ

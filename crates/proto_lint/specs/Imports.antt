@@ -1,7 +1,7 @@
 -- The rules of imports.
 use Rattle.std.specs.Prelude.{ℕ, Bool, false, not, ◌||◌, ◌&&◌, ◌==◌, List, [], ◌∷◌, ◌++◌, flat_map, Option, Some, None, is_some}
 use Rattle.std.specs.List.{list_any}
-use Rattle.proto_faults.specs.Texts.{Path, Text}
+use Rattle.proto_faults.specs.Texts.{Path, Text, or_nothing}
 use Rattle.proto_text.specs.Values.{value_of}
 use Rattle.proto_tree.specs.declared.tree.Import.{Import}
 use Rattle.proto_tree.specs.declared.piece.Statement.{Statement}
@@ -9,7 +9,6 @@ use Rattle.proto_tree.specs.declared.piece.Statement.TheVariants as statement
 use Rattle.proto_tree.specs.Tree.{Tree}
 use Rattle.proto_meaning.specs.Faults.{file_of}
 use Rattle.proto_meaning.specs.Names.{Workspace, meaning, reaches, same_name}
-use Rattle.proto_imports.specs.Links.{value_or_none}
 use Rattle.proto_parts.specs.Parts.{statements}
 use Rattle.proto_rules.specs.declared.rule.Rule.TheVariants as rule
 use Rattle.proto_findings.specs.Placed.{Found, Named, found_by, unless}
@@ -26,7 +25,7 @@ imports_in tree = flat_map statement_imports (statements tree)
 
 -- the path that an import names
 abbrev pub path_of : Reading → Import → Path
-path_of r i = value_or_none (value_of (text r i.path))
+path_of r i = or_nothing (value_of (text r i.path))
 
 -- an import at its word `import`, with the path that it names, unless it passes
 abbrev pub import_unless : Reading → Bool → Import → List Named

@@ -3,6 +3,7 @@ use Rattle.std.proofs.Common.{◌≡◌, ℕ, ◌<◌, Bool, false, List, [], �
 use Rattle.std.specs.List.{All, Contains}
 use Rattle.std.proofs.lemmas.List.{map-append, append-nil}
 use Rattle.std.proofs.lemmas.List.Elements.{Contains-get_or}
+use Rattle.proto_faults.specs.Texts.{or_nothing}
 use Rattle.proto_text.specs.declared.lexer.Token.{Token}
 use Rattle.proto_text.specs.Strings.{IsString}
 use Rattle.proto_text.specs.Texts.{word_at, words}
@@ -16,7 +17,7 @@ use Rattle.proto_listing.specs.FromTree.{Wanted, file_names, imports_in, items_i
 use Rattle.proto_meaning.specs.Grown.{At, at}
 use Rattle.proto_imports.specs.Importing.{asked_by, AreRising}
 use Rattle.proto_files.specs.FilesRead.{ReadOf, AreRead, read_at}
-use Rattle.proto_imports.specs.Links.{IsListing, text_of, asked_as, value_or_none}
+use Rattle.proto_imports.specs.Links.{IsListing, text_of, asked_as}
 use Rattle.proto_table.specs.LastWords.{AreListed, named_as}
 use Rattle.proto_listing.specs.Listing.{IsSound, last_token, package_first, path_at, read, read_on, seen, uses_in, wanted_of, whole}
 use Rattle.proto_meaning.specs.declared.kind.Kind.{Kind}
@@ -57,8 +58,8 @@ asked_here text file (w ∷ wanted) (x ∷ ws) h =
     let path : Some (string_bytes x.path) ≡ value_of (text (at file w.path)) = cc in
     let rest : AreWritten (λ i. text (at file i)) wanted ws = record { tokens = cc; publics = cc; paths = cc } in
     ap (λ (t : ℕ). let a : Asked = record { place = at file t; path = string_bytes x.path; is_public = x.is_public } in a ∷ map (asked_by file) ws) token
-    ∙ ap (λ (o : Option (List ℕ)). let a : Asked = record { place = at file w.path; path = value_or_none o; is_public = x.is_public } in a ∷ map (asked_by file) ws) path
-    ∙ ap (λ (b : Bool). let a : Asked = record { place = at file w.path; path = value_or_none (value_of (text (at file w.path))); is_public = b } in a ∷ map (asked_by file) ws) is_public
+    ∙ ap (λ (o : Option (List ℕ)). let a : Asked = record { place = at file w.path; path = or_nothing o; is_public = x.is_public } in a ∷ map (asked_by file) ws) path
+    ∙ ap (λ (b : Bool). let a : Asked = record { place = at file w.path; path = or_nothing (value_of (text (at file w.path))); is_public = b } in a ∷ map (asked_by file) ws) is_public
     ∙ ap (λ (zs : List Asked). asked_as text file (wanted_of w) ∷ zs) (asked_here text file wanted ws rest)
 
 no_import : Wanted

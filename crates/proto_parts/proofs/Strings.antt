@@ -7,12 +7,9 @@ use Rattle.proto_text.specs.declared.kind.TokenKind.{TokenKind}
 use Rattle.proto_text.specs.declared.kind.TokenKind.TheVariants.{Word, Number, Text, Punctuation}
 use Rattle.proto_text.specs.Tokens.{Lexeme}
 use Rattle.proto_text.specs.Values.{is_value, value_of}
+use Rattle.proto_faults.specs.Texts.{or_nothing}
 use Rattle.proto_files.specs.StringTokens.{is_string, string_at}
 use Rattle.proto_parts.specs.Scenes.{string_of, value_in, value_or_none}
-
-abbrev or_nothing : Option (List ℕ) → List ℕ
-or_nothing None = []
-or_nothing (Some v) = v
 
 by_kind : (k : TokenKind) (text : List ℕ) → or_nothing (option_and_then value_of (if is_string k then Some text else None)) ≡ value_or_none k (value_of text)
 by_kind Word text = refl

@@ -82,6 +82,11 @@ truth_named w =
 abbrev pub truth_of : (ℕ → Text) → Constant → Option Bool
 truth_of text c = option_and_then truth_named (word_of text c)
 
+-- there is a truth value, and it is true
+abbrev pub is_true : Option Bool → Bool
+is_true None = false
+is_true (Some b) = b
+
 -- whether there is a word and it is one of these
 abbrev pub is_word_of : List Text → Option Text → Bool
 is_word_of names None = false

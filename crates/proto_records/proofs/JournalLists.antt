@@ -9,7 +9,7 @@ use Rattle.proto_records.specs.declared.record.State.{State}
 use Rattle.proto_records.specs.declared.record.State.TheVariants.{Open, Done}
 use Rattle.proto_records.specs.declared.record.Record.{Record}
 use Rattle.proto_records.specs.RecordText.{record_data, record_text}
-use Rattle.proto_records.specs.Journals.{IsRecord, is_open, is_last_open, AreInOrder, journal_text, IsJournal, IsFirstLine}
+use Rattle.proto_records.specs.Journals.{IsRecord, is_open, is_last_open, AreInOrder, journal_text, IsJournal, IsFirstLine, journal_limit}
 use Rattle.proto_records.proofs.Lines.{EndsLine, IsReadBack, same_line, ends_append, ends_with_feed, back_end}
 use Rattle.proto_records.proofs.RecordTexts.{text_of_one, no_feed_record}
 
@@ -120,14 +120,14 @@ none_follows bytes records left all h some last j = go (h.again all j).0 (h.agai
     go [] e f = some f
     go (r ∷ more) e f = true≢false (sym last ∙ closed_before records r more (subst AreInOrder e j.order))
 
-pub too_long : (bytes : List ℕ) (all : List Record) → 16777216 < length bytes → IsJournal bytes all → ⊥
+pub too_long : (bytes : List ℕ) (all : List Record) → journal_limit < length bytes → IsJournal bytes all → ⊥
 too_long bytes all long j = let short = j.short in omega (arith, short, long)
 
 pub none_is_bad : (bytes : List ℕ) (records : List Record) (left line rest : List ℕ) (all : List Record) → IsReadTo bytes records left → left ≢ [] → IsFirstLine left line rest → ((r : Record) → IsRecord r → record_text r ≢ line) → IsJournal bytes all → ⊥
 none_is_bad bytes records left line rest all h some l bad j =
     let n = next_line bytes records left line rest all h some l j in bad n.first n.is (sym n.text)
 
-pub read_whole : (bytes : List ℕ) (records : List Record) (left : List ℕ) → IsReadTo bytes records left → left ≡ [] → length bytes ≤ 16777216 → IsJournal bytes records
+pub read_whole : (bytes : List ℕ) (records : List Record) (left : List ℕ) → IsReadTo bytes records left → left ≡ [] → length bytes ≤ journal_limit → IsJournal bytes records
 read_whole bytes records left h none short = record {
   text = h.text ∙ ap (λ x. journal_text records ++ x) none ∙ append-nil (journal_text records);
   order = h.order;
@@ -177,7 +177,7 @@ lists_are_one (r ∷ rs) (s ∷ ss) h k e =
 pub read_in_one_way : (bytes : List ℕ) (rs ss : List Record) → IsJournal bytes rs → IsJournal bytes ss → rs ≡ ss
 read_in_one_way bytes rs ss h k = lists_are_one rs ss h.entries k.entries (sym h.text ∙ k.text)
 
-pub journal_grows : (bytes : List ℕ) (rs : List Record) (r : Record) → IsJournal bytes rs → is_last_open rs ≡ false → IsRecord r → length (bytes ++ record_text r) ≤ 16777216 → IsJournal (bytes ++ record_text r) (rs ++ r ∷ [])
+pub journal_grows : (bytes : List ℕ) (rs : List Record) (r : Record) → IsJournal bytes rs → is_last_open rs ≡ false → IsRecord r → length (bytes ++ record_text r) ≤ journal_limit → IsJournal (bytes ++ record_text r) (rs ++ r ∷ [])
 journal_grows bytes rs r h closed is short = record {
   text = ap (λ x. x ++ record_text r) h.text ∙ sym (journal_push rs r);
   order = order_push rs r h.order closed;

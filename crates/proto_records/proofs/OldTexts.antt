@@ -8,6 +8,7 @@ use Rattle.std.proofs.lemmas.List.{get_or-map, length-map, map-append, map_more}
 use Rattle.std.proofs.lemmas.List.Folds.{list_any-append}
 use Rattle.std.proofs.lemmas.List.Sorted.{list_any-IsPermutation}
 use Rattle.std.proofs.lemmas.Slice.Eq.{bytes_eq-Decides}
+use Rattle.proto_faults.specs.Texts.{text_limit}
 use Rattle.proto_text.specs.Edits.{Puts}
 use Rattle.proto_faults.proofs.Lists.{any_map, contains_map}
 use Rattle.proto_text.proofs.Once.{puts_length}
@@ -72,10 +73,10 @@ is_listed (Some h) known path asked e = sym (asked path) ∙ e
 differ : {P : Type 0} → false ≡ true → P
 differ e = cc
 
-short_put : (c : ChangeOf) (text new : List ℕ) → IsEven c → c.after ≤ 1048576 → length text ≡ c.before → Puts 0 text c.splices new → length new ≤ 1048576
+short_put : (c : ChangeOf) (text new : List ℕ) → IsEven c → c.after ≤ text_limit → length text ≡ c.before → Puts 0 text c.splices new → length new ≤ text_limit
 short_put c text new even fits len puts = let size = puts_length 0 text new c.splices puts in omega (arith, size, even, fits, len)
 
-not_as_before : (c : ChangeOf) (text : List ℕ) → IsEven c → c.after ≤ 1048576 → IsChangedText text c None → IsAsBefore c text → ⊥
+not_as_before : (c : ChangeOf) (text : List ℕ) → IsEven c → c.after ≤ text_limit → IsChangedText text c None → IsAsBefore c text → ⊥
 not_as_before c text even fits none is = none is.new (record { before = is.len; puts = is.puts; short = short_put c text is.new even fits is.len is.puts })
 
 pub neither_text : (c back : ChangeOf) (text : List ℕ) (found : Option (Vec ℕ)) → IsChange c → back ≡ turned_round c → IsChangedText text c found → is_some found ≡ false → IsChangedText text back None

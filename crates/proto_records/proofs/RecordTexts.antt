@@ -7,6 +7,7 @@ use Rattle.std.proofs.lemmas.Bool.Decides.{nat_tests}
 use Rattle.std.proofs.lemmas.List.{append_cancel_right, map-append, take_more}
 use Rattle.std.proofs.lemmas.List.Elements.{All-head, All-tail, All-map, All-push}
 use Rattle.std.proofs.lemmas.Str.{IsUtf8-append, IsUtf8-nil, IsUtf8-string_bytes}
+use Rattle.proto_faults.specs.Texts.{text_limit}
 use Rattle.json.specs.Print.{escape_byte, quoted}
 use Rattle.json.proofs.Printed.Utf8.{IsUtf8-are_ascii, are_ascii}
 use Rattle.serde_json.specs.Data.{Data, number, unsigned, array, member, no_members, depth, items_depth}
@@ -84,7 +85,7 @@ unfolding splice_data
 splice_simple e h t =
     ((tt, ((refl, tt), ((refl, (refl, tt)), tt))), (h, (t.new, (t.old, tt, IsUtf8-are_ascii _ refl), IsUtf8-are_ascii _ refl), IsUtf8-are_ascii _ refl))
 
-splices_simple : (limit : ℕ) (es : List Edit) → limit ≤ 1048576 → All (λ e. e.at + length e.old ≤ limit) es → All IsTextual es → AreSimple (items_of (map splice_data es))
+splices_simple : (limit : ℕ) (es : List Edit) → limit ≤ text_limit → All (λ e. e.at + length e.old ≤ limit) es → All IsTextual es → AreSimple (items_of (map splice_data es))
 splices_simple limit [] small within texts = tt
 splices_simple limit (e ∷ es) small within texts =
     let here : e.at + length e.old ≤ limit = All-head (λ (x : Edit). x.at + length x.old ≤ limit) e es within in
@@ -93,8 +94,8 @@ splices_simple limit (e ∷ es) small within texts =
 change_simple : (c : ChangeOf) → IsChange c → All IsTextual c.splices → IsSimple (change_data c)
 unfolding change_data
 change_simple c h texts =
-    let before : c.before ≤ 1048576 = h.measured.before_fits in
-    let after : c.after ≤ 1048576 = h.measured.after_fits in
+    let before : c.before ≤ text_limit = h.measured.before_fits in
+    let after : c.after ≤ text_limit = h.measured.after_fits in
     let splices = splices_simple c.before c.splices before h.measured.lengths.within texts in (
       (tt, ((refl, tt), ((refl, (refl, tt)), ((refl, (refl, (refl, tt))), tt)))),
       (omega arith, (omega arith, (utf8_path c.path h.path, (splices, tt, IsUtf8-are_ascii _ refl), IsUtf8-are_ascii _ refl), IsUtf8-are_ascii _ refl), IsUtf8-are_ascii _ refl),

@@ -11,11 +11,8 @@ use crate::reading::read_entry;
 use crate::record::{Record, State};
 use crate::writing::line_of;
 use proto_entries::Entry;
-use proto_faults::NoMemory;
+use proto_faults::{MAX_JOURNAL_LEN, NoMemory};
 use std::alloc::Global;
-
-/// How many bytes a journal has at most.
-const MAX_LEN: usize = 16_777_216;
 
 /// Whether the last record is open.
 pub fn last_is_open(records: &[Record]) -> bool
@@ -54,7 +51,7 @@ pub fn read_records(alloc: Global, bytes: &[u8]) -> Result<Vec<Record>, JournalF
     ensures bad { result ≡ Err JournalFault.BadJournal
         → (records : List RecordOf) → IsJournal bytes.now records → ⊥ }
 {
-    if bytes.len() > MAX_LEN {
+    if bytes.len() > MAX_JOURNAL_LEN {
         return Err(JournalFault::BadJournal);
     }
     let mut records = Vec::new(alloc);

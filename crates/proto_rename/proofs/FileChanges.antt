@@ -5,6 +5,7 @@ use Rattle.std.specs.List.{Contains, list_any}
 use Rattle.std.specs.String.{string_bytes}
 use Rattle.std.proofs.lemmas.Bool.{cases_Bool, both_ways, eqb-true, eq-eqb}
 use Rattle.std.proofs.lemmas.List.{nil_from_length}
+use Rattle.proto_faults.specs.Texts.{text_limit}
 use Rattle.proto_text.specs.declared.lexer.Token.{Token}
 use Rattle.proto_text.specs.Edits.{Edit, new_len, old_len}
 use Rattle.proto_text.specs.Texts.{token_edits}
@@ -88,15 +89,15 @@ module _ (files : List FileOf) (file : ℕ) (within : file < length files) (toke
       new : new_len (splices_in c files reads file) ≡ length ts * length to
       new = ap new_len splices ∙ put_new_len bytes to ts
 
-      too_long : 1048576 + bytes_in ts < length bytes + length ts * length to → IsTooLong c files reads file
+      too_long : text_limit + bytes_in ts < length bytes + length ts * length to → IsTooLong c files reads file
       too_long h = let a = old in let b = new in omega (arith, a, b, h)
 
-      not_too_long : length bytes + length ts * length to ≤ 1048576 + bytes_in ts → IsTooLong c files reads file → ⊥
+      not_too_long : length bytes + length ts * length to ≤ text_limit + bytes_in ts → IsTooLong c files reads file → ⊥
       not_too_long h k = let a = old in let b = new in omega (arith, a, b, h, k)
 
   -- ---- what is answered
 
-  pub none_made : (ts : List Token) → ts ≡ chosen tokens places → length ts ≡ 0 → length bytes ≤ 1048576 → IsChangeAt files file places to None
+  pub none_made : (ts : List Token) → ts ≡ chosen tokens places → length ts ≡ 0 → length bytes ≤ text_limit → IsChangeAt files file places to None
   none_made ts is none short = λ reads are c puts.
       (let empty : ts ≡ [] = nil_from_length ts none in
       record {
@@ -104,7 +105,7 @@ module _ (files : List FileOf) (file : ℕ) (within : file < length files) (toke
         short = not_too_long reads are c puts [] (sym empty ∙ is) (omega (arith, short));
       })
 
-  pub too_large_made : (ts : List Token) → ts ≡ chosen tokens places → 1048576 + bytes_in ts < length bytes + length ts * length to → IsRewordFault files file places to TooLarge
+  pub too_large_made : (ts : List Token) → ts ≡ chosen tokens places → text_limit + bytes_in ts < length bytes + length ts * length to → IsRewordFault files file places to TooLarge
   too_large_made ts is h = λ reads are c puts. too_long reads are c puts ts is h
 
   one_change : (ts : List Token) → 0 < length ts → (x : ChangeOf) → x.path ≡ (file_at files file).path → x.before ≡ length bytes → x.after ≡ (length bytes + new_len (map (word_put bytes to) ts)) - old_len (map (word_put bytes to) ts) → x.splices ≡ map (word_put bytes to) ts
@@ -115,7 +116,7 @@ module _ (files : List FileOf) (file : ℕ) (within : file < length files) (toke
       let y : ChangeOf = record { path = (file_at files file).path; before = length bytes; after = (length bytes + new_len es) - old_len es; splices = es } in
       ap (λ (z : ChangeOf). z ∷ []) (same_change x y p f t s)
 
-  pub one_made : (ts : List Token) → ts ≡ chosen tokens places → 0 < length ts → length bytes + length ts * length to ≤ 1048576 + bytes_in ts
+  pub one_made : (ts : List Token) → ts ≡ chosen tokens places → 0 < length ts → length bytes + length ts * length to ≤ text_limit + bytes_in ts
       → (x : Change) → string_bytes x.path ≡ (file_at files file).path → x.before ≡ length bytes → x.after ≡ (length bytes + length ts * length to) - bytes_in ts → x.splices ≡ map (word_put bytes to) ts → IsChangeAt files file places to (Some x)
   one_made ts is some fits x path before after made = λ reads are c puts.
       (let o = put_old_len bytes to 0 ts (subst (StandInOrder 0 (length bytes)) (sym is) (chosen_in_order bytes tokens places lexed)) in

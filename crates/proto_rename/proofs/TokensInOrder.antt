@@ -1,6 +1,7 @@
 -- Tokens of a text stand in order, and so do the words that come in the place of some of them.
 use Rattle.std.proofs.Common.{◌≡◌, ℕ, zero, suc, ◌+◌, ◌-◌, ◌*◌, ◌<◌, ◌≤◌, Bool, true, false, List, [], ◌∷◌, ◌++◌, length, get_or, drop, map, refl, sym, ap, subst, ◌∙◌, arith, length-append, zero-mul, suc-mul}
 use Rattle.std.proofs.lemmas.List.{at_drop_more, length-take, length-drop, append-nil}
+use Rattle.proto_faults.specs.Texts.{text_limit}
 use Rattle.proto_text.specs.declared.kind.PieceKind.{PieceKind}
 use Rattle.proto_text.specs.declared.kind.PieceKind.TheVariants.{Blank, LineComment, BlockComment, Solid}
 use Rattle.proto_text.specs.declared.lexer.Token.{Token}
@@ -80,8 +81,8 @@ put_new_len text to (t ∷ ts) = let more = put_new_len text to ts in let step =
 
 -- ---- the words that come in their place are in order, where the text is not too long with them
 
-short_from : (text to : List ℕ) (new from : ℕ) (ts : List Token) → StandInOrder from (length text) ts → length text ≤ 1048576
-    → new + (length text - from) + new_len (map (word_put text to) ts) ≤ 1048576 + old_len (map (word_put text to) ts) → AreShort new from (map (word_put text to) ts)
+short_from : (text to : List ℕ) (new from : ℕ) (ts : List Token) → StandInOrder from (length text) ts → length text ≤ text_limit
+    → new + (length text - from) + new_len (map (word_put text to) ts) ≤ text_limit + old_len (map (word_put text to) ts) → AreShort new from (map (word_put text to) ts)
 short_from text to new from [] h le fits = tt
 short_from text to new from (t ∷ ts) h le fits =
     let a = h.0 in
@@ -100,7 +101,7 @@ short_from text to new from (t ∷ ts) h le fits =
           (short_from text to ((new + (t.span.start - from)) + length to) t.span.end ts h.2 le (omega (arith, fits, a, b, c, here, whole, words))),
     )
 
-pub words_are_short : (text to : List ℕ) (ts : List Token) → StandInOrder 0 (length text) ts → length text ≤ 1048576 → length text + length ts * length to ≤ 1048576 + bytes_in ts → AreShort 0 0 (map (word_put text to) ts)
+pub words_are_short : (text to : List ℕ) (ts : List Token) → StandInOrder 0 (length text) ts → length text ≤ text_limit → length text + length ts * length to ≤ text_limit + bytes_in ts → AreShort 0 0 (map (word_put text to) ts)
 words_are_short text to ts h le fits =
     let old = put_old_len text to 0 ts h in
     let new = put_new_len text to ts in
@@ -112,8 +113,8 @@ wider : (from to more : ℕ) (ts : List Token) → to ≤ more → StandInOrder 
 wider from to more [] le h = omega (arith, le, h)
 wider from to more (t ∷ ts) le h = (h.0, h.1, wider t.span.end to more ts le h.2)
 
-pub in_any_text : (from to : ℕ) (ts : List Token) → to ≤ 1048576 → StandInOrder from to ts → StandInOrder from 1048576 ts
-in_any_text from to ts le h = wider from to 1048576 ts le h
+pub in_any_text : (from to : ℕ) (ts : List Token) → to ≤ text_limit → StandInOrder from to ts → StandInOrder from text_limit ts
+in_any_text from to ts le h = wider from to text_limit ts le h
 
 pub one_ordered : (from to i : ℕ) (ts : List Token) (d : Token) → i < length ts → StandInOrder from to ts → (get_or ts i d).span.start < (get_or ts i d).span.end
 one_ordered from to i [] d l h = absurd (omega (arith, l))

@@ -1,19 +1,17 @@
 //! The change of a file that puts a word at some of its tokens.
 
 ghost use Rattle.std.specs.Prelude.{◌≡◌, ◌+◌, ◌-◌, ◌*◌, ◌<◌, ◌≤◌, ◌++◌, ◌∷◌, [], All, length, map, replicate, true, false, if◌then◌else◌, slice_set, IfOk, IfErr, OnOk, MatchOption};
+ghost use Rattle.proto_faults.specs.Texts.{text_limit};
 ghost use Rattle.proto_text.specs.Edits.{AreShort};
 ghost use Rattle.proto_text.specs.SourceFacts.{IsSpan};
 ghost use Rattle.proto_text.specs.Splicing.{edits};
 ghost use Rattle.proto_rename.specs.MadeChanges.{IsChangeAt, IsRewordFault, marked_from, marked_tokens, word_put, StandInOrder, bytes_in};
 
 use proto_entries::{Change, in_order};
-use proto_faults::NoMemory;
+use proto_faults::{MAX_LEN, NoMemory};
 use proto_files::Files;
 use proto_text::{Source, Splice, Splices, Token};
 use std::alloc::{AllocError, Global};
-
-/// How many bytes a file has at most.
-const MAX_LEN: usize = 1_048_576;
 
 /// Why a file is not changed.
 #[derive(Clone, Copy)]
@@ -137,10 +135,10 @@ fn len_after(source: &Source, tokens: &[Token], to: &str) -> Option<u32>
     requires some { 0 < length tokens.now }
     requires order { StandInOrder 0 (length source.now) tokens.now }
     ensures { MatchOption result
-        (1048576 + bytes_in tokens.now < length source.now + length tokens.now * length to.now)
+        (text_limit + bytes_in tokens.now < length source.now + length tokens.now * length to.now)
         (λ after. (after
         ≡ (length source.now + length tokens.now * length to.now) - bytes_in tokens.now)
-        × (length source.now + length tokens.now * length to.now ≤ 1048576 + bytes_in tokens.now)) }
+        × (length source.now + length tokens.now * length to.now ≤ text_limit + bytes_in tokens.now)) }
 {
     // With a word that is longer than a text may be, there is nothing to reckon.
     if to.len() > MAX_LEN {
@@ -157,7 +155,7 @@ fn len_after(source: &Source, tokens: &[Token], to: &str) -> Option<u32>
 
 /// How many bytes tokens of a text have.
 fn total_len(tokens: &[Token]) -> usize
-    requires { StandInOrder 0 1048576 tokens.now }
+    requires { StandInOrder 0 text_limit tokens.now }
     ensures { result ≡ bytes_in tokens.now }
 {
     let mut total = 0;

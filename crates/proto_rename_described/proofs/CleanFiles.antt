@@ -6,6 +6,7 @@ use Rattle.std.proofs.lemmas.Bool.{both_ways, cases_Bool, cases_lt}
 use Rattle.std.proofs.lemmas.List.{append-nil, drop_at}
 use Rattle.std.proofs.lemmas.Option.{none-some, same_Some}
 use Rattle.std.proofs.lemmas.Str.{IsUtf8-from_is_utf8, is_utf8-from_IsUtf8}
+use Rattle.proto_faults.specs.Texts.{text_limit}
 use Rattle.proto_faults.specs.declared.fault.FaultKind.{FaultKind}
 use Rattle.proto_faults.specs.declared.fault.FaultKind.TheVariants as kind
 use Rattle.proto_text.specs.declared.fault.LexFault.{LexFault}
@@ -108,7 +109,7 @@ module _ (text : List ℕ) where
     | inr f ↦ inr (at, f.0, lexed_fault text (b ∷ rest) at tokens f.0 so_far f.1)
   ]
 
-  lexed : length text ≤ 1048576 → Lexed
+  lexed : length text ≤ text_limit → Lexed
   lexed short = lexed_on (suc (length text)) text 0 [] (omega arith) (lexed_none text short)
 
 -- ---- tokens have a tree, or no tree, or too many open braces
@@ -224,8 +225,8 @@ module _ (s : List Lexeme) where
 -- ---- files
 
 module _ (files : List FileOf) (clean : HasNoFault (ReadFaults files)) (f : FileOf) (c : Contains files f) where
-  short : length f.bytes ≤ 1048576
-  short = elim (cases_lt 1048576 (length f.bytes)) [
+  short : length f.bytes ≤ text_limit
+  short = elim (cases_lt text_limit (length f.bytes)) [
     | inl lt ↦ absurd (clean (record { path = f.path; offset = 0; kind = kind.TooLarge }) (inl (f, c, refl, (refl, lt))))
     | inr le ↦ le
   ]

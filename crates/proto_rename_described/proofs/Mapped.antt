@@ -4,6 +4,7 @@ use Rattle.std.specs.List.{Contains, list_any}
 use Rattle.std.specs.Str.{bytes_eq}
 use Rattle.std.proofs.lemmas.Bool.{cond-true, cond-false}
 use Rattle.std.proofs.lemmas.List.{append-nil}
+use Rattle.proto_faults.specs.Texts.{or_nothing}
 use Rattle.proto_case.specs.Camel.{entry_name}
 use Rattle.proto_faults.proofs.Lists.{same_from_word}
 use Rattle.proto_tree.specs.declared.tree.Constant.{Constant}
@@ -40,7 +41,7 @@ use Rattle.proto_descriptors.specs.declared.message.MessageOptions.{MessageOptio
 use Rattle.proto_descriptors.specs.declared.message.NumberRange.{NumberRange}
 use Rattle.proto_descriptors.specs.Descriptors.{FieldDesc, EnumValueDesc, EnumDesc, MessageDesc, Messages, NoMessages, Message, MethodDesc, ServiceDesc, FileOptionsDesc, FileDesc}
 use Rattle.proto_descriptors.specs.declared.file.Syntax.TheVariants as syntax
-use Rattle.proto_described.specs.Described.{absolute, below, default_text, entry_described, entry_field, enum_described, enums_described, field_described, field_type_name, is_map, message_described, messages_described, method_described, methods_described, oneof_names, or_nothing, package_named, package_prefix, scalar_type, services_described, type_name_of, type_of, type_text, value_described}
+use Rattle.proto_described.specs.Described.{absolute, below, default_text, entry_described, entry_field, enum_described, enums_described, field_described, field_type_name, is_map, message_described, messages_described, method_described, methods_described, oneof_names, package_named, package_prefix, scalar_type, services_described, type_name_of, type_of, type_text, value_described}
 use Rattle.proto_rename_described.specs.Mapped.{Taken, behind_first, dotted, mapped_default, mapped_enum, mapped_field, mapped_json, mapped_message, mapped_messages, mapped_method, mapped_name, mapped_service, mapped_value, parts, put_first, word_under, words_of}
 use Rattle.proto_rename_described.specs.Turns.{DescriptorsAreMapped, EntryTurns, EnumTurns, FieldTurns, IsUnder, MessageTurns, MethodTurns, MethodsTurn, Turned, Turns, ValueTurns, full, is_target, written_json}
 

@@ -5,6 +5,7 @@ use Rattle.std.specs.List.{All, AllPairs, Contains, list_any}
 use Rattle.std.proofs.lemmas.Bool.{cases_lt, cases_order, cond-true}
 use Rattle.std.proofs.lemmas.List.Elements.{All-contains_itself, Contains-append_cases}
 use Rattle.std.proofs.lemmas.List.Sums.{sum_by-cons}
+use Rattle.proto_faults.specs.Texts.{text_limit}
 use Rattle.proto_text.specs.declared.lexer.Token.{Token}
 use Rattle.proto_text.specs.Edits.{Edit, Puts, old_len, new_len}
 use Rattle.proto_text.specs.SourceFacts.{text_at}
@@ -165,10 +166,10 @@ module _ (files : List FileOf) (reads : List ReadOf) (name to : List ℕ) (t : T
   put : (k : ℕ) → k < length files → Puts 0 (file_at files k).bytes (edits k) (file_at after k).bytes
   put k l = (a.reworded.words k l).put
 
-  fits : (k : ℕ) → k < length files → length (file_at after k).bytes ≤ 1048576
+  fits : (k : ℕ) → k < length files → length (file_at after k).bytes ≤ text_limit
   fits k l =
       let e = puts_length 0 (file_at files k).bytes (file_at after k).bytes (edits k) (put k l) in
-      elim (cases_lt (1048576 + old_len (edits k)) (length (file_at files k).bytes + new_len (edits k))) [
+      elim (cases_lt (text_limit + old_len (edits k)) (length (file_at files k).bytes + new_len (edits k))) [
         | inl big ↦ absurd (a.admissible 16 (too_large t k a.named l big))
         | inr small ↦ omega (arith, small, e)
       ]

@@ -2,6 +2,7 @@
 use Rattle.std.specs.Prelude.{slice_index_or}
 use Rattle.std.proofs.Common.{◌≡◌, ℕ, zero, suc, ◌+◌, ◌<◌, List, [], ◌∷◌, ◌++◌, length, map, Option, Some, None, refl, sym, ap, ap₂, subst, ◌∙◌, arith}
 use Rattle.std.specs.List.{Contains}
+use Rattle.proto_faults.specs.Texts.{or_nothing}
 use Rattle.proto_text.specs.declared.class.Class.TheVariants.{Letter, Quote}
 use Rattle.proto_text.specs.Pieces.{IsRun}
 use Rattle.proto_text.specs.Strings.{IsString}
@@ -22,7 +23,7 @@ use Rattle.proto_meaning.proofs.Edited.{map_agree, map_map}
 use Rattle.proto_listing.proofs.InTokens.{import_here}
 use Rattle.proto_listing.proofs.ReadTrees.{imports_are_strings}
 use Rattle.proto_listing.specs.FromTree.{Wanted, imports_in, file_names}
-use Rattle.proto_imports.specs.Links.{text_of, value_or_none, asked_as, all_wanted, names_in, link_imports}
+use Rattle.proto_imports.specs.Links.{text_of, asked_as, all_wanted, names_in, link_imports}
 use Rattle.proto_rename_laws.specs.Rewording.{in_file, SuitFiles, AreReworded, FilesAreReworded, TextsAreChanged, OtherTextsStay, SkeletonsStay, NewWords}
 
 pub at_same : {A B : Type 0} (f : A → B) (xs ys : List A) (d : A) (k : ℕ) → map f xs ≡ map f ys → f (slice_index_or xs k d) ≡ f (slice_index_or ys k d)
@@ -146,7 +147,7 @@ wanted_same text now n (x ∷ xs) (y ∷ ys) e h =
     (ap (λ t. map (asked_as now n) (imports_in t)) tree
     ∙ map_agree (asked_as now n) (asked_as text n) (imports_in x.tree) (λ w c.
     let same = subst (λ (m : ℕ). now (at m w.path) ≡ text (at m w.path)) (omega arith) (h 0 w (omega arith) c) in
-    ap (λ (v : List ℕ). let a : Asked = record { place = at n w.path; path = value_or_none (value_of v); is_public = w.is_public } in a) same))
+    ap (λ (v : List ℕ). let a : Asked = record { place = at n w.path; path = or_nothing (value_of v); is_public = w.is_public } in a) same))
     (wanted_same text now (suc n) xs ys rest (λ k w l c.
     subst (λ (m : ℕ). now (at m w.path) ≡ text (at m w.path)) (omega arith) (h (suc k) w (omega (arith, l)) c)))
 

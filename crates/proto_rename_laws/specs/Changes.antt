@@ -1,6 +1,7 @@
 -- The changes of files that new words make: file by file, the splices of its changed tokens
 -- with the lengths before and after.
 use Rattle.std.specs.Prelude.{ℕ, suc, ◌+◌, ◌-◌, ◌<◌, List, [], ◌∷◌, ◌++◌, length}
+use Rattle.proto_faults.specs.Texts.{text_limit}
 use Rattle.proto_text.specs.Edits.{Edit, old_len, new_len}
 use Rattle.proto_text.specs.Texts.{token_edits}
 use Rattle.proto_files.specs.GivenFiles.{FileOf, file_at}
@@ -15,7 +16,7 @@ splices_in c files reads k =
 
 -- With its splices the file would be longer than one may be.
 abbrev pub IsTooLong : NewWords → List FileOf → List ReadOf → ℕ → Type 0
-IsTooLong c files reads k = 1048576 + old_len (splices_in c files reads k)
+IsTooLong c files reads k = text_limit + old_len (splices_in c files reads k)
     < length (file_at files k).bytes + new_len (splices_in c files reads k)
 
 -- the length after the splices

@@ -3,6 +3,7 @@ use Rattle.std.proofs.Common.{◌≡◌, ◌≢◌, ℕ, suc, ◌<◌, Bool, tru
 use Rattle.std.specs.Option.{option_and_then}
 use Rattle.std.specs.List.{All, AllPairs, Contains, find}
 use Rattle.std.proofs.lemmas.Option.{none-some, same_Some, slice_get-get_or}
+use Rattle.proto_faults.specs.Texts.{or_nothing}
 use Rattle.proto_files.specs.GivenFiles.{FileOf}
 use Rattle.proto_case.specs.Camel.{entry_name}
 use Rattle.proto_meaning.specs.Faults.{place_of}
@@ -27,7 +28,7 @@ use Rattle.proto_meaning.proofs.Renamed.{meant}
 use Rattle.proto_names.proofs.LinkMeanings.{rising_by}
 use Rattle.proto_parts.specs.declared.scene.MeantAt.{MeantAt}
 use Rattle.proto_parts.specs.Scenes.{EnumOf, MeantOf}
-use Rattle.proto_scenes.specs.Meanings.{enum_of_name, meant_in_table, text_or_none}
+use Rattle.proto_scenes.specs.Meanings.{enum_of_name, meant_in_table}
 use Rattle.proto_scenes.specs.SceneOf.{enum_at, enum_named, meaning_of, meant_as, means_of}
 
 -- as the tokens of other elements rise, so do these
@@ -115,8 +116,8 @@ module _ (files : List FileOf) (reads : List ReadOf) (l : LinkOf) (link : IsLink
       go n there text None none = absurd (none-some n.text (sym (text ∙ ap (option_map joined) none)))
       go n there text (Some name) means =
           let same : n.text ≡ joined name = same_Some n.text (joined name) (text ∙ ap (option_map joined) means) in
-          ap (λ (t : ℕ). let x : MeantOf = record { token = t; name = text_or_none (text_at l m.row); enum = enum_of_name l enum m.row } in x) (ap (λ (z : TextMeant). z.token) e)
-          ∙ ap (λ (w : List ℕ). let x : MeantOf = record { token = u.first; name = w; enum = enum_of_name l enum m.row } in x) (ap (λ (o : Option NameOf). text_or_none (option_map (λ (y : NameOf). y.text) o)) there ∙ same)
+          ap (λ (t : ℕ). let x : MeantOf = record { token = t; name = or_nothing (text_at l m.row); enum = enum_of_name l enum m.row } in x) (ap (λ (z : TextMeant). z.token) e)
+          ∙ ap (λ (w : List ℕ). let x : MeantOf = record { token = u.first; name = w; enum = enum_of_name l enum m.row } in x) (ap (λ (o : Option NameOf). or_nothing (option_map (λ (y : NameOf). y.text) o)) there ∙ same)
           ∙ ap (λ (o : Option EnumOf). let x : MeantOf = record { token = u.first; name = joined name; enum = o } in x) (enum_meant file u name means m.row n there same)
 
   pub means_are : (file : ℕ) → file < length files → map (meant_in_table l enum) (get_or l.meant file []) ≡ means_of files reads file

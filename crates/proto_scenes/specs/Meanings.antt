@@ -1,7 +1,7 @@
 -- What a link has of references, with the enums that they mean.
 use Rattle.std.specs.Prelude.{ℕ, [], Option, Some, None}
 use Rattle.std.specs.Option.{option_and_then}
-use Rattle.proto_faults.specs.Texts.{Text}
+use Rattle.proto_faults.specs.Texts.{Text, or_nothing}
 use Rattle.proto_meaning.specs.Grown.{At, at}
 use Rattle.proto_names.specs.Linking.{LinkOf, file_at, text_at, token_at}
 use Rattle.proto_names.specs.declared.references.Meant.{Meant}
@@ -14,16 +14,11 @@ enum_of_name l enum row =
     (λ file. option_and_then (λ token. enum (at file token)) (token_at l row))
     (file_at l row)
 
--- the text, and the empty one where there is none
-abbrev pub text_or_none : Option Text → Text
-text_or_none None = []
-text_or_none (Some text) = text
-
 -- what a reference means by the row that the link has for it: its token, the full name in that row,
 -- and the enum at the place of that name, if it is an enum's
 abbrev pub meant_in_table : LinkOf → (At → Option EnumOf) → Meant → MeantOf
 meant_in_table l enum m = record {
   token = m.token;
-  name = text_or_none (text_at l m.row);
+  name = or_nothing (text_at l m.row);
   enum = enum_of_name l enum m.row;
 }

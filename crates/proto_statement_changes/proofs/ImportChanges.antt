@@ -1,6 +1,7 @@
 -- An added import and a dropped one change one file by one splice, which is an entry.
 use Rattle.std.proofs.Common.{◌≡◌, ◌≢◌, ℕ, zero, suc, ◌+◌, ◌-◌, ◌<◌, ◌≤◌, List, [], ◌++◌, length, take, drop, map, ap, ◌∙◌, arith, length-append}
 use Rattle.std.proofs.lemmas.List.{length-map}
+use Rattle.proto_faults.specs.Texts.{text_limit}
 use Rattle.proto_text.specs.declared.lexer.Token.{Token}
 use Rattle.proto_text.specs.Segments.{QuotedStandsForItself, bytes_between, end_before, moved}
 use Rattle.proto_text.specs.Tokens.{Lexeme, lexeme_at}
@@ -67,7 +68,7 @@ drops_are_changes law files reads file path i are is =
       },
     )
   where
-    shorter : (text old : List ℕ) → length text ≤ 1048576 → 1048576 + length old < length text + 0 → ⊥
+    shorter : (text old : List ℕ) → length text ≤ text_limit → text_limit + length old < length text + 0 → ⊥
     shorter text old le big = omega (arith, le, big)
 
     some_dropped : (text : List ℕ) (tokens : List Token) (tree : Tree) (i : Import) (result : List ℕ) (after : List Token) (u : Tree) → Reads text tokens tree → IsDropped text tokens tree i result after u → (drop_of text tokens i).old ≢ (drop_of text tokens i).new

@@ -5,6 +5,7 @@ use Rattle.std.specs.Str.{IsUtf8}
 use Rattle.std.proofs.lemmas.Bool.{cases_lt, cases_order}
 use Rattle.std.proofs.lemmas.List.{get_or-set_same, get_or-set_other, length-set}
 use Rattle.std.proofs.lemmas.List.Elements.{All-cons, All-head, All-nil}
+use Rattle.proto_faults.specs.Texts.{text_limit}
 use Rattle.proto_text.specs.declared.lexer.Token.{Token}
 use Rattle.proto_text.specs.Edits.{Edit, Puts}
 use Rattle.proto_faults.proofs.Lists.{contains_cases, contains_head}
@@ -45,8 +46,8 @@ parts_of text result e h =
 pub long_with : (f : Edit) (text result path : List ℕ) → Puts 0 text (f ∷ []) result → length result ≡ length_with (record { path = path; bytes = text }) f
 long_with e text result path h = let p = (parts_of text result e h).old_is in omega (arith, p.1, p.2)
 
-fits_with : (f : FileOf) (e : Edit) (result : List ℕ) → Puts 0 f.bytes (e ∷ []) result → (IsTooLong f e → ⊥) → length result ≤ 1048576
-fits_with f e result h short = let p = (parts_of f.bytes result e h).old_is in elim (cases_lt (1048576 + length e.old) (length f.bytes + length e.new)) [
+fits_with : (f : FileOf) (e : Edit) (result : List ℕ) → Puts 0 f.bytes (e ∷ []) result → (IsTooLong f e → ⊥) → length result ≤ text_limit
+fits_with f e result h short = let p = (parts_of f.bytes result e h).old_is in elim (cases_lt (text_limit + length e.old) (length f.bytes + length e.new)) [
   | inl big ↦ absurd (short big)
   | inr small ↦ omega (arith, p.1, p.2, small)
 ]
@@ -56,7 +57,7 @@ nil_apart x xs h = cc
 
 -- ---- the entry
 
-entry_of : (f : FileOf) (e : Edit) (result : List ℕ) → IsWorkspacePath f.path → length f.bytes ≤ 1048576 → length result ≤ 1048576 → Puts 0 f.bytes (e ∷ []) result → e.old ≢ e.new → IsEntry (one_change f e)
+entry_of : (f : FileOf) (e : Edit) (result : List ℕ) → IsWorkspacePath f.path → length f.bytes ≤ text_limit → length result ≤ text_limit → Puts 0 f.bytes (e ∷ []) result → e.old ≢ e.new → IsEntry (one_change f e)
 entry_of f e result path small fits puts apart =
     let p = (parts_of f.bytes result e puts).old_is in
     let was = p.1 in

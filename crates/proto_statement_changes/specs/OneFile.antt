@@ -1,7 +1,7 @@
 -- One file of a workspace that is changed by one splice: its change, the
 -- files then, and what is read of them.
 use Rattle.std.specs.Prelude.{◌≡◌, ℕ, ◌+◌, ◌-◌, ◌<◌, List, [], ◌∷◌, length, slice_set}
-use Rattle.proto_faults.specs.Texts.{Text}
+use Rattle.proto_faults.specs.Texts.{Text, text_limit}
 use Rattle.proto_text.specs.declared.lexer.Token.{Token}
 use Rattle.proto_text.specs.Edits.{Edit}
 use Rattle.proto_text.specs.Texts.{words}
@@ -37,7 +37,7 @@ one_change f e = record {
 
 -- With the splice the file would be longer than one may be.
 abbrev pub IsTooLong : FileOf → Edit → Type 0
-IsTooLong f e = 1048576 + length e.old < length f.bytes + length e.new
+IsTooLong f e = text_limit + length e.old < length f.bytes + length e.new
 
 -- the files with another text in the place of that of one
 abbrev pub with_text : List FileOf → ℕ → Text → List FileOf

@@ -33,7 +33,7 @@ use Rattle.proto_statement_laws.specs.Statements.{reservation, reservation_token
 use Rattle.proto_statement_laws.proofs.Exchanged.{around, cut, statements_are_exchanged}
 use Rattle.proto_statement_laws.proofs.Found.{found}
 use Rattle.proto_statement_laws.proofs.Marks.{moves_by, moves_in}
-use Rattle.proto_statement_laws.proofs.MovedMarks.{header_kind_moved, kind_moved}
+use Rattle.proto_tree.proofs.MoveLaws.{header_kind_moved, kind_moved}
 use Rattle.proto_statement_laws.proofs.NewStatements.{reservation_fits}
 use Rattle.proto_statement_laws.proofs.Reversed.{statement_long, tree_long}
 use Rattle.proto_statement_laws.proofs.TakenOut.{before_field, before_it, block_long, closed, close_at, leaf_long, through, through_message}

@@ -1,6 +1,7 @@
 -- The descriptor of a file whose tokens are moved.
 use Rattle.std.proofs.Common.{◌≡◌, ℕ, ℤ, Bool, true, false, ◌&&◌, ◌||◌, if◌then◌else◌, List, [], ◌∷◌, map, flat_map, find, Option, Some, None, option_map, is_some, codes, option_and_then, refl, sym, ◌∙◌, ap, ap₂}
 use Rattle.std.specs.Fmt.{signed_decimal}
+use Rattle.proto_faults.specs.Texts.{or_nothing}
 use Rattle.proto_tree.specs.declared.tree.Constant.{Constant}
 use Rattle.proto_tree.specs.declared.tree.Constant.TheVariants as constant
 use Rattle.proto_tree.specs.declared.tree.FieldType.{FieldType as WrittenType}
@@ -31,7 +32,7 @@ use Rattle.proto_checks_laws.specs.Imports.{IsMoved, without_imports}
 use Rattle.proto_numbers.specs.NumberFlaws.{enum_range_of, range_of}
 use Rattle.proto_checks_laws.proofs.MovedParts.{enum_ranges_moved, extension_ranges_moved, fields_moved, file_options_moved, find_moved, flat_kept, given_moved, maps_kept, move_field_of, move_option_of, options_moved, reserved_names_moved, reserved_ranges_moved, settings_moved, some_kept, values_moved}
 use Rattle.proto_checks_laws.proofs.MovedFlaws.{enum_range_moved, json_name_moved, label_moved, named_moved, number_moved, range_moved, signed_moved, text_moved, word_moved}
-use Rattle.proto_described.specs.Described.{absolute, below, default_number, default_text, entry_described, entry_field, enum_described, enum_options, enums_described, field_described, field_number, field_options, field_type_name, field_type_of, file_described, file_options, is_map, label_of, message_described, messages_described, method_described, methods_described, mode_named, level_named, number_range, oneof_names, or_nothing, package_named, package_prefix, public_places, scalar_type, service_described, services_described, type_name_of, type_of, type_text, value_described, value_number, value_range}
+use Rattle.proto_described.specs.Described.{absolute, below, default_number, default_text, entry_described, entry_field, enum_described, enum_options, enums_described, field_described, field_number, field_options, field_type_name, field_type_of, file_described, file_options, is_map, label_of, message_described, messages_described, method_described, methods_described, mode_named, level_named, number_range, oneof_names, package_named, package_prefix, public_places, scalar_type, service_described, services_described, type_name_of, type_of, type_text, value_described, value_number, value_range}
 use Rattle.proto_descriptors.specs.declared.enumeration.EnumOptions.{EnumOptions}
 use Rattle.proto_descriptors.specs.declared.enumeration.EnumReservedRange.{EnumReservedRange}
 use Rattle.proto_descriptors.specs.declared.field.FieldOptions.{FieldOptions}

@@ -7,6 +7,7 @@ use Rattle.std.proofs.lemmas.Bool.{both_ways, cases_Bool, cond-false, cond-true}
 use Rattle.std.proofs.Math.Seq.{drop-cons}
 use Rattle.std.proofs.lemmas.List.{drop_all, length-map}
 use Rattle.std.proofs.lemmas.List.Elements.{Contains-append_cases, Contains-append_left, Contains-append_right}
+use Rattle.proto_faults.specs.Texts.{or_nothing}
 use Rattle.proto_text.specs.declared.kind.PieceKind.TheVariants.{Solid}
 use Rattle.proto_text.specs.declared.kind.TokenKind.{TokenKind}
 use Rattle.proto_text.specs.declared.kind.TokenKind.TheVariants.{Word, Number, Text, Punctuation}
@@ -33,7 +34,7 @@ use Rattle.proto_listing.proofs.InTokens.{import_here as path_here}
 use Rattle.proto_listing.proofs.ReadTrees.{imports_are_strings}
 use Rattle.proto_meaning.specs.Faults.{Asked}
 use Rattle.proto_meaning.specs.Grown.{At}
-use Rattle.proto_imports.specs.Links.{all_wanted, asked_as, text_of, value_or_none}
+use Rattle.proto_imports.specs.Links.{all_wanted, asked_as, text_of}
 use Rattle.proto_statement_laws.specs.Deletions.{AfterBlock, AfterLeaf, First, StandsIn}
 use Rattle.proto_statement_changes.specs.OneFile.{word_of}
 use Rattle.proto_statement_names.specs.Cases.{IsImported, asked_in}
@@ -159,7 +160,7 @@ module _ (files : List FileOf) (reads : List ReadOf) (are : AreRead files reads)
       let w : Wanted = record { path = i.path; is_public = is_some i.public } in
       let e : 0 + file ≡ file = omega arith in
       let c = subst (λ m. Contains (asked_in files reads) (asked_as T m w)) e (asked_there T 0 reads file w inside (stands_wanted i tree x.0)) in
-      ((asked_as T file w, c, refl, ap value_or_none value), record { within = within; stands = x.0; value = (value_is_value_of (word_of files reads file i.path) path).1 value })
+      ((asked_as T file w, c, refl, ap or_nothing value), record { within = within; stands = x.0; value = (value_is_value_of (word_of files reads file i.path) path).1 value })
 
   none : import_in says tree ≡ None → IsImported files reads file path → ⊥
   none h x =
@@ -176,7 +177,7 @@ module _ (files : List FileOf) (reads : List ReadOf) (are : AreRead files reads)
       let v = strings_have_values (word_of files reads file w.path) string in
       let value : value_of (word_of files reads file w.path) ≡ Some v.0 = value_again (word_of files reads file w.path) v.0 v.1 in
       let asked : asked_as T file w ≡ a = subst (λ m. asked_as T m w ≡ a) (e ∙ here) o.4 in
-      let same : v.0 ≡ path = sym (ap value_or_none value) ∙ ap (λ (z : Asked). z.path) asked ∙ x.3 in
+      let same : v.0 ≡ path = sym (ap or_nothing value) ∙ ap (λ (z : Asked). z.path) asked ∙ x.3 in
       let all = map (lexeme_at bytes) tokens in
       let none_at : Lexeme = record { kind = Word; text = [] } in
       let there = path_here bytes tokens tree (are.trees file within) w c in

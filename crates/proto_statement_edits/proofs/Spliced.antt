@@ -1,5 +1,6 @@
 -- The changes of a drop and of an addition, from the splice.
 use Rattle.std.proofs.Common.{◌≡◌, ◌≤◌, List, [], ◌∷◌, length, map, Some, None, sym, ap, subst, ◌∙◌, arith}
+use Rattle.proto_faults.specs.Texts.{text_limit}
 use Rattle.proto_text.specs.Edits.{Edit}
 use Rattle.proto_files.specs.GivenFiles.{FileOf}
 use Rattle.proto_entries.specs.declared.entry.Change.{Change}
@@ -15,5 +16,5 @@ pub not_long : (f : FileOf) (e g : Edit) (c : Change) → e ≡ g → IsSpliced 
 not_long f e g c same h long = h.1 (subst (IsTooLong f) (sym same) long)
 
 -- a file that loses text is not too long
-pub no_longer : (f : FileOf) (e : Edit) → length f.bytes ≤ 1048576 → length e.new ≡ 0 → IsSpliced f e None → ⊥
+pub no_longer : (f : FileOf) (e : Edit) → length f.bytes ≤ text_limit → length e.new ≡ 0 → IsSpliced f e None → ⊥
 no_longer f e short none h = omega (arith, short, none, h)

@@ -7,13 +7,10 @@ ghost use Rattle.proto_statement_laws.specs.Deletions.{splice};
 ghost use Rattle.proto_statement_edits.specs.Spliced.{IsSpliced};
 
 use proto_entries::{Change, one_splice};
-use proto_faults::NoMemory;
+use proto_faults::{MAX_LEN, NoMemory};
 use proto_files::Files;
 use proto_text::Span;
 use std::alloc::Global;
-
-/// How many bytes a file has at most.
-const MAX_LEN: usize = 1_048_576;
 
 /// The change that puts a text in the place of what stands at the span of a file; none where the
 /// file would have more than 1,048,576 bytes.

@@ -4,6 +4,7 @@ use Rattle.std.specs.Prelude.{is_some}
 use Rattle.std.specs.List.{Contains}
 use Rattle.std.specs.Str.{bytes_eq}
 use Rattle.std.proofs.lemmas.List.Elements.{Contains-append_right, Contains-get_or}
+use Rattle.proto_faults.specs.Texts.{or_nothing}
 use Rattle.proto_text.specs.Segments.{moved}
 use Rattle.proto_text.specs.Tokens.{Lexeme, lexeme_at}
 use Rattle.proto_text.specs.Values.{value_of}
@@ -20,7 +21,7 @@ use Rattle.proto_meaning.specs.Grown.{at}
 use Rattle.proto_meaning.specs.Names.{Reference, Workspace}
 use Rattle.proto_meaning.proofs.Following.{Follows, follows_first}
 use Rattle.proto_listing.specs.FromTree.{Wanted, imports_in}
-use Rattle.proto_imports.specs.Links.{asked_as, names_of_files, text_of, value_or_none}
+use Rattle.proto_imports.specs.Links.{asked_as, names_of_files, text_of}
 use Rattle.proto_parts.specs.Scenes.{value}
 use Rattle.proto_descriptors.specs.Descriptors.{FileDesc}
 use Rattle.proto_statement_described.specs.SceneOf.{lexemes_of}
@@ -77,7 +78,7 @@ module _ (laws : Laws) (files : List FileOf) (reads : List ReadOf) (after : List
   path_of w d = path_value (tree_at reads place) (lexemes_of files reads place) w (may.faultless.are.read.trees place may.imports.within).spells d
 
   says : value (scene_at files reads place) i.path ≡ path
-  says = path_of (wanted_by i) imported ∙ ap value_or_none value_is
+  says = path_of (wanted_by i) imported ∙ ap or_nothing value_is
 
   -- ---- names
 
@@ -94,7 +95,7 @@ module _ (laws : Laws) (files : List FileOf) (reads : List ReadOf) (after : List
   references : (names_of_files after seen).references ≡ (names_of_files files reads).references
   references =
       let to = names_file files reads may.faultless.are.read may.faultless.links place (wanted_by i) imported in
-      let there : file_of (paths_of after) path ≡ Some to.0 = ap (λ (ps : List (List ℕ)). file_of ps path) c.one.paths ∙ ap (λ o. file_of (paths_of files) (value_or_none o)) (sym value_is) ∙ to.1 in
+      let there : file_of (paths_of after) path ≡ Some to.0 = ap (λ (ps : List (List ℕ)). file_of ps path) c.one.paths ∙ ap (λ o. file_of (paths_of files) (or_nothing o)) (sym value_is) ∙ to.1 in
       sym (ap (λ (w : Workspace). w.references) (imports_are_more after seen files reads place to.0 path (is_some i.public) less there).0)
 
   means : MeanTheSame after seen files reads

@@ -4,6 +4,7 @@ use Rattle.std.specs.List.{Contains, list_any}
 use Rattle.std.specs.Str.{bytes_eq}
 use Rattle.std.proofs.lemmas.Bool.{and_from, and_parts, cases_Bool, eq-eqb, eqb-true, true≢false}
 use Rattle.std.proofs.lemmas.List.Elements.{Contains-append_cases, Contains-append_right}
+use Rattle.proto_faults.specs.Texts.{or_nothing}
 use Rattle.proto_text.specs.Values.{StandsFor}
 use Rattle.proto_faults.proofs.Lists.{any_from, any_to, contains_cases, contains_head, from_map, same_from_word, word_from_same}
 use Rattle.proto_text.proofs.Values.{strings_have_values, value_again}
@@ -19,7 +20,7 @@ use Rattle.proto_meaning.specs.Grown.{At}
 use Rattle.proto_meaning.proofs.Following.{Follows}
 use Rattle.proto_listing.specs.FromTree.{Wanted, imports_in, statement_imports}
 use Rattle.proto_listing.proofs.ReadTrees.{imports_are_strings}
-use Rattle.proto_imports.specs.Links.{all_wanted, asked_as, text_of, value_or_none}
+use Rattle.proto_imports.specs.Links.{all_wanted, asked_as, text_of}
 use Rattle.proto_statement_laws.specs.Deletions.{AfterBlock, AfterLeaf, First, StandsIn}
 use Rattle.proto_statement_changes.specs.ImportChanges.{IsImportOf}
 use Rattle.proto_statement_changes.specs.OneFile.{word_of}
@@ -126,7 +127,7 @@ module _ (files : List FileOf) (reads : List ReadOf) (read : AreRead files reads
       let word : List ℕ = word_of files reads place i.path in
       let string = imports_are_strings (file_at files place).bytes (read_at reads place).tokens (tree_at reads place) (read.trees place within) (wanted_by i) (stands_imported i (tree_at reads place) h) in
       let v = strings_have_values word string in
-      subst (StandsFor word) (sym (ap value_or_none (value_again word v.0 v.1)) ∙ e) v.1
+      subst (StandsFor word) (sym (ap or_nothing (value_again word v.0 v.1)) ∙ e) v.1
 
   found : (path : List ℕ) → IsImported files reads place path → (i : Import) × IsImportOf files reads place path i
   found path (a, c, here, says) =
@@ -159,7 +160,7 @@ pub imports_are_one : ImportsAreOne
 imports_are_one files reads path place i j read clean a b =
     let v = value_again (word_of files reads place i.path) path a.value in
     let w = value_again (word_of files reads place j.path) path b.value in
-    let same : (asked_as (text_of files reads) place (wanted_by i)).path ≡ (asked_as (text_of files reads) place (wanted_by j)).path = ap value_or_none (v ∙ sym w) in
+    let same : (asked_as (text_of files reads) place (wanted_by i)).path ≡ (asked_as (text_of files reads) place (wanted_by j)).path = ap or_nothing (v ∙ sym w) in
     elim (stands_two i j (tree_at reads place) a.stands b.stands) [
       | inl e ↦ e
       | inr (inl f) ↦ absurd (not_twice files reads read clean place (wanted_by i) (wanted_by j) f same)

@@ -5,6 +5,7 @@ use Rattle.std.specs.List.{AllByRecursion, Contains}
 use Rattle.std.specs.Str.{bytes_eq}
 use Rattle.std.proofs.lemmas.List.Elements.{Contains-append_cases, Contains-append_left, Contains-append_right}
 use Rattle.std.proofs.lemmas.Option.{slice_get-get_or}
+use Rattle.proto_faults.specs.Texts.{or_nothing}
 use Rattle.proto_text.specs.declared.kind.TokenKind.{TokenKind}
 use Rattle.proto_text.specs.declared.kind.TokenKind.TheVariants.{Word, Number, Text, Punctuation}
 use Rattle.proto_text.specs.Texts.{word_at}
@@ -23,7 +24,6 @@ use Rattle.proto_tree.specs.Words.{Listed, class_by, class_in, classes, marks}
 use Rattle.proto_tree.proofs.MarkLaws.{marks_fit}
 use Rattle.proto_tree.proofs.WordLaws.{word_is_word}
 use Rattle.proto_listing.specs.FromTree.{Wanted, imports_in, statement_imports}
-use Rattle.proto_imports.specs.Links.{value_or_none}
 use Rattle.proto_parts.specs.Scenes.{string_of, value_in, value_or_none as value_by_kind}
 
 -- ---- a place that wants a string holds one
@@ -93,13 +93,13 @@ word_by [] (suc i) = refl
 word_by (l ∷ ls) zero = refl
 word_by (l ∷ ls) (suc i) = word_by ls i
 
-text_value : (o : Option (List ℕ)) → value_by_kind Text o ≡ value_or_none o
+text_value : (o : Option (List ℕ)) → value_by_kind Text o ≡ or_nothing o
 text_value None = refl
 text_value (Some v) = refl
 
 -- as the descriptors have it and as the links have it
-pub path_value : (t : Tree) (ls : List Lexeme) (w : Wanted) → Spells t (classes 0 ls) → Contains (imports_in t) w → value_in ls w.path ≡ value_or_none (value_of (word_at ls w.path))
+pub path_value : (t : Tree) (ls : List Lexeme) (w : Wanted) → Spells t (classes 0 ls) → Contains (imports_in t) w → value_in ls w.path ≡ or_nothing (value_of (word_at ls w.path))
 path_value t ls w h c =
     let l = path_token t ls w h c in
     let word : word_at ls w.path ≡ l.0.text = word_by ls w.path ∙ ap text_in l.1 in
-    ap string_of l.1 ∙ ap (λ k. value_by_kind k (value_of l.0.text)) l.2 ∙ text_value (value_of l.0.text) ∙ ap (λ v. value_or_none (value_of v)) (sym word)
+    ap string_of l.1 ∙ ap (λ k. value_by_kind k (value_of l.0.text)) l.2 ∙ text_value (value_of l.0.text) ∙ ap (λ v. or_nothing (value_of v)) (sym word)

@@ -13,7 +13,7 @@ use Rattle.proto_tree.specs.Words.{class_by, classes}
 use Rattle.proto_tree.specs.Moved.{Move, shift, move_header, move_statement, move_tree}
 use Rattle.proto_tree.proofs.Exact.{Fit-join}
 use Rattle.proto_tree.proofs.Nodes.{flat-joined, joined-fine}
-use Rattle.proto_statement_laws.proofs.MovedMarks.{map_append, flat_moved, well_formed_moved, kind_moved, header_kind_moved, inside_moved}
+use Rattle.proto_tree.proofs.MoveLaws.{map_append, flat_moved, well_formed_moved, kind_moved, header_kind_moved, inside_moved}
 use Rattle.proto_statement_laws.proofs.Endings.{IsApart, apart_then, nothing_behind, the, then, tree_apart}
 use Rattle.proto_statement_laws.specs.Exchanges.{IsExchanged, Here, Later, Inside, Behind, before, StatementsAreExchanged}
 

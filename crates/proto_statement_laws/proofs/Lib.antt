@@ -10,7 +10,6 @@ mod Imports
 mod LastOf
 mod LexemesMoved
 pub mod Marks
-pub mod MovedMarks
 pub mod NewStatements
 mod Reading
 pub mod Reversed

@@ -8,7 +8,7 @@ use Rattle.proto_tree.specs.Flat.{Mark, one, flat_statement, flat_header}
 use Rattle.proto_tree.specs.Moved.{Move, shift, move_header, move_statement, move_tree}
 use Rattle.proto_tree.specs.Tree.{Tree, End, Leaf, Block, flat, statement_kind, header_kind, after, inside, IsWellFormed, last_of, joined}
 use Rattle.proto_tree.proofs.Faults.{one_tree}
-use Rattle.proto_statement_laws.proofs.MovedMarks.{flat_moved, well_formed_moved, kind_moved, header_kind_moved, inside_moved}
+use Rattle.proto_tree.proofs.MoveLaws.{flat_moved, well_formed_moved, kind_moved, header_kind_moved, inside_moved}
 use Rattle.proto_tree.specs.Words.{classes}
 use Rattle.proto_statement_laws.specs.Exchanges.{IsExchanged, Here, Later, Inside, Behind, before, ExchangesAreReversed}
 use Rattle.proto_statement_laws.proofs.Endings.{nothing_behind}

@@ -19,7 +19,7 @@ use Rattle.proto_statement_laws.specs.Deletions.{StandsAt, InMessage, InOneof, D
 use Rattle.proto_statement_laws.specs.Exchanges.{IsExchanged, Here, Later, Inside, Behind, before}
 use Rattle.proto_statement_laws.proofs.Endings.{nothing_behind}
 use Rattle.proto_statement_laws.proofs.Exchanged.{around}
-use Rattle.proto_statement_laws.proofs.MovedMarks.{header_kind_moved, kind_moved}
+use Rattle.proto_tree.proofs.MoveLaws.{header_kind_moved, kind_moved}
 use Rattle.proto_statement_laws.proofs.Reversed.{header_long, statement_long, tree_long}
 
 -- ---- where it stands

@@ -1,6 +1,7 @@
 -- The names of files where one of them has a field less, or an import more (for the crates above).
 use Rattle.std.proofs.Common.{◌≡◌, ◌≢◌, ℕ, ◌+◌, Bool, List, ◌∷◌, ◌++◌, length, map, Option, Some, option_map, sym, ◌∙◌, ap, ap₂, subst, arith}
 use Rattle.std.proofs.lemmas.List.{length-append, length-map}
+use Rattle.proto_faults.specs.Texts.{or_nothing}
 use Rattle.proto_files.specs.FilesRead.{ReadOf}
 use Rattle.proto_files.specs.GivenFiles.{FileOf, paths_of}
 use Rattle.proto_meaning.specs.Edits.{with_imports}
@@ -9,7 +10,7 @@ use Rattle.proto_meaning.specs.Grown.{At, at}
 use Rattle.proto_meaning.specs.Names.{Import, Reference, Symbol, Workspace}
 use Rattle.proto_meaning.specs.Skeleton.{shifted_used}
 use Rattle.proto_listing.specs.FromTree.{file_names, imports_in}
-use Rattle.proto_imports.specs.Links.{all_wanted, link_imports, names_in, names_of_files, text_of, value_or_none}
+use Rattle.proto_imports.specs.Links.{all_wanted, link_imports, names_in, names_of_files, text_of}
 use Rattle.proto_statement_names.specs.Files.{DeletionsHaveLess, ImportsAreMore, IsFieldLess, IsImportMore, IsOneFile, MayGoAt}
 use Rattle.proto_statement_names.specs.Less.{MayGo}
 use Rattle.proto_statement_names.specs.Lists.{HasMore, HasOneMore, IsAny}
@@ -160,7 +161,7 @@ module _ (files : List FileOf) (reads : List ReadOf) (after : List FileOf) (seen
   wanted_more =
       let v : ℕ → List ℕ = λ i. text_of after seen (at from i) in
       let ws = imports_in is.file.old.tree in
-      let it : wanted_in from v is.wanted ≡ written = ap₂ (λ (p : Option (List ℕ)) (b : Bool). let a : Asked = record { place = at from 0; path = value_or_none p; is_public = b } in a) is.path_is is.public_is in
+      let it : wanted_in from v is.wanted ≡ written = ap₂ (λ (p : Option (List ℕ)) (b : Bool). let a : Asked = record { place = at from 0; path = or_nothing p; is_public = b } in a) is.path_is is.public_is in
       let stay : map (wanted_in from v) (map (move_wanted is.move) ws) ≡ wanted_at (text_of files reads) from is.file.old = wanted_moved from v is.move ws ∙ ap (λ (w : ℕ → List ℕ). map (wanted_in from w) ws) words_own in
       subst (λ (a : Asked). HasOneMore a (wanted_at (text_of files reads) from is.file.old) (wanted_at (text_of after seen) from is.file.new)) it
       (subst (λ (z : List Asked). HasOneMore (wanted_in from v is.wanted) z (wanted_at (text_of after seen) from is.file.new)) stay

@@ -1,6 +1,7 @@
 -- What the files of a workspace declare, refer to and import, file after file, by the texts of their tokens (for the crates above).
 use Rattle.std.proofs.Common.{◌≡◌, ℕ, suc, List, [], ◌∷◌, ◌++◌, map, refl, sym, ◌∙◌, ap, ap₂}
 use Rattle.std.specs.List.{cons_option}
+use Rattle.proto_faults.specs.Texts.{or_nothing}
 use Rattle.proto_case.specs.Camel.{entry_name}
 use Rattle.proto_text.specs.Values.{value_of}
 use Rattle.proto_tree.specs.Moved.{Move}
@@ -12,7 +13,7 @@ use Rattle.proto_meaning.specs.Skeleton.{EntryOf, Given, Source, Token, Used, na
 use Rattle.proto_meaning.specs.Tree.{Placed}
 use Rattle.proto_meaning.proofs.Edited.{map_agree, map_append, map_map}
 use Rattle.proto_listing.specs.FromTree.{Wanted, file_names, imports_in}
-use Rattle.proto_imports.specs.Links.{all_wanted, asked_as, names_in, value_or_none}
+use Rattle.proto_imports.specs.Links.{all_wanted, asked_as, names_in}
 use Rattle.proto_statement_names.specs.Trees.{move_placed, move_wanted, placed_in}
 use Rattle.proto_statement_names.proofs.Walks.{walk}
 
@@ -33,7 +34,7 @@ abbrev pub unplaced : Asked → Asked
 unplaced a = record { place = at a.place.file 0; path = a.path; is_public = a.is_public }
 
 abbrev pub wanted_in : ℕ → (ℕ → List ℕ) → Wanted → Asked
-wanted_in file words w = record { place = at file 0; path = value_or_none (value_of (words w.path)); is_public = w.is_public }
+wanted_in file words w = record { place = at file 0; path = or_nothing (value_of (words w.path)); is_public = w.is_public }
 
 -- other tokens with the same texts
 name_by : {X Y : Type 0} (text : Y → List ℕ) (f : X → Y) (path : List (Source X)) → name_of text entry_name (map (shifted_source f) path) ≡ name_of (λ i. text (f i)) entry_name path

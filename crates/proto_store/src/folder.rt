@@ -6,6 +6,7 @@ ghost use Rattle.proto_store.specs.Stores.{Counts, HoldsBytes, HoldsJournal, Lis
 
 use crate::replacing::{SECOND, clear_leftover, put_file, regular_file};
 use crate::store::{Store, StoreFault};
+use proto_faults::MAX_JOURNAL_LEN;
 use std::alloc::Global;
 use std::io::Read;
 use std::rt::Files;
@@ -13,9 +14,6 @@ use std::{fs, io};
 
 // Names that begin with a dot are passed over, so the journal is never listed.
 const JOURNAL: &str = ".protoref-journal";
-
-// A journal is at most this long. One byte more is read, which tells that it is longer.
-const JOURNAL_BYTES: usize = 16_777_216;
 
 /// The `.proto` files below a folder, as they lie there, and the file
 /// `.protoref-journal` in it. Names that begin with a dot are passed over, and so
@@ -234,7 +232,7 @@ impl<'a, R: Files + AllocGlobal> FolderStore<'a, R> {
         match regular_file(self.rt, path.as_str())? {
             Some(_) => {
                 let opened = fs::File::open(self.rt, path.as_str());
-                bytes_up_to(self.rt.alloc(), opened, JOURNAL_BYTES + 1)
+                bytes_up_to(self.rt.alloc(), opened, MAX_JOURNAL_LEN + 1)
             }
             None => Ok(Vec::new(self.rt.alloc())),
         }

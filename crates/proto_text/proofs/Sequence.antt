@@ -7,6 +7,7 @@ use Rattle.proto_text.specs.declared.fault.LexFault.TheVariants.{BadChar, OpenCo
 use Rattle.proto_text.specs.declared.class.Class.TheVariants.{Digit}
 use Rattle.std.specs.Prelude.{MatchResult, IsErrAnd}
 use Rattle.std.specs.Global.{Vec}
+use Rattle.proto_faults.specs.Texts.{text_limit}
 use Rattle.proto_text.specs.declared.fault.TextFault.{TextFault}
 use Rattle.proto_text.specs.declared.fault.TextFault.TheVariants.{TooLarge, NotUtf8, At, NoMemory}
 use Rattle.proto_text.specs.declared.lexer.Token.{Token}
@@ -162,9 +163,9 @@ pub record IsLexedUpTo (text rest : List ℕ) (at : ℕ) (tokens : List Token) :
   pub front : IsFront text pieces rest
   pub place : at ≡ length (text_of pieces)
   pub found : tokens ≡ tokens_from 0 pieces
-  pub room : at + length rest ≤ 1048576
+  pub room : at + length rest ≤ text_limit
 
-pub lexed_none : (text : List ℕ) → length text ≤ 1048576 → IsLexedUpTo text text 0 []
+pub lexed_none : (text : List ℕ) → length text ≤ text_limit → IsLexedUpTo text text 0 []
 lexed_none text short = record { pieces = []; front = (tt, refl); place = refl; found = refl; room = omega arith }
 
 -- the piece at the front of rest is found

@@ -1,7 +1,7 @@
 -- Edits of a text, as a list of what stands where and what comes in its place: the replaced text of
 -- this product.
 use Rattle.std.specs.Prelude.{◌≡◌, ℕ, ◌+◌, ◌-◌, ◌≤◌, List, [], ◌∷◌, ◌++◌, length}
-use Rattle.proto_faults.specs.Texts.{Text}
+use Rattle.proto_faults.specs.Texts.{Text, text_limit}
 
 -- an edit: what stands at an offset, in bytes from 0, and what comes in its place
 pub record Edit : Type 0 where
@@ -36,8 +36,8 @@ inverse_from to from (e ∷ es) =
 abbrev pub AreShort : ℕ → ℕ → List Edit → Type 0
 AreShort to from [] = Unit {0}
 AreShort to from (e ∷ es) =
-    (from ≤ e.at) × (e.at + length e.old ≤ 1048576)
-    × ((to + (e.at - from)) + length e.new ≤ 1048576)
+    (from ≤ e.at) × (e.at + length e.old ≤ text_limit)
+    × ((to + (e.at - from)) + length e.new ≤ text_limit)
     × AreShort ((to + (e.at - from)) + length e.new) (e.at + length e.old) es
 
 -- What edits put is put back by those that lead back.

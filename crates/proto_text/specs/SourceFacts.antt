@@ -1,7 +1,7 @@
 -- What makes a text: its size and its encoding, choices of this profile.
 use Rattle.std.specs.Prelude.{◌≡◌, ◌<◌, ◌≤◌, ◌-◌, length, take, drop, Result, Ok, Err}
 use Rattle.std.specs.Str.{IsUtf8, IsCharBoundary}
-use Rattle.proto_faults.specs.Texts.{Text}
+use Rattle.proto_faults.specs.Texts.{Text, text_limit}
 use Rattle.proto_text.specs.declared.source.Source.{Source}
 use Rattle.proto_text.specs.declared.source.Span.{Span}
 use Rattle.proto_text.specs.declared.fault.TextFault.{TextFault}
@@ -9,9 +9,9 @@ use Rattle.proto_text.specs.declared.fault.TextFault.TheVariants.{TooLarge, NotU
 
 -- the bytes are a text, or too many, or else not UTF-8
 abbrev pub NewSource : Text → Result Source TextFault → Type 0
-NewSource bytes (Ok source) = (source ≡ bytes) × (length bytes ≤ 1048576) × IsUtf8 bytes
-NewSource bytes (Err TooLarge) = 1048576 < length bytes
-NewSource bytes (Err NotUtf8) = (length bytes ≤ 1048576) × (IsUtf8 bytes → ⊥)
+NewSource bytes (Ok source) = (source ≡ bytes) × (length bytes ≤ text_limit) × IsUtf8 bytes
+NewSource bytes (Err TooLarge) = text_limit < length bytes
+NewSource bytes (Err NotUtf8) = (length bytes ≤ text_limit) × (IsUtf8 bytes → ⊥)
 NewSource bytes (Err (At offset fault)) = ⊥
 NewSource bytes (Err NoMemory) = ⊥
 

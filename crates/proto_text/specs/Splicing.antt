@@ -2,7 +2,7 @@
 use Rattle.std.specs.Prelude.{ℕ, ◌≤◌, ◌<◌, List, length, map, codes, Option, Some, None, Result, Ok, Err}
 use Rattle.std.specs.String.{string_bytes}
 use Rattle.std.specs.Global.{Vec}
-use Rattle.proto_faults.specs.Texts.{Text}
+use Rattle.proto_faults.specs.Texts.{Text, text_limit}
 use Rattle.proto_text.specs.declared.splice.Splice.{Splice}
 use Rattle.proto_text.specs.declared.splice.SpliceFault.{SpliceFault}
 use Rattle.proto_text.specs.declared.splice.SpliceFault.TheVariants.{Stale, TooLarge, Disorder, NoMemory}
@@ -23,9 +23,9 @@ IsPut text es (Some new) = Puts 0 text es new.items
 
 -- the text is put, too long, or not there
 abbrev pub IsApplied : Text → List Edit → Result (Vec ℕ) SpliceFault → Type 0
-IsApplied text es (Ok new) = Puts 0 text es new.items × (length new.items ≤ 1048576)
+IsApplied text es (Ok new) = Puts 0 text es new.items × (length new.items ≤ text_limit)
 IsApplied text es (Err Stale) = (new : List ℕ) → Puts 0 text es new → ⊥
-IsApplied text es (Err TooLarge) = (new : List ℕ) × Puts 0 text es new × (1048576 < length new)
+IsApplied text es (Err TooLarge) = (new : List ℕ) × Puts 0 text es new × (text_limit < length new)
 IsApplied text es (Err Disorder) = ⊥
 IsApplied text es (Err NoMemory) = Unit {0}
 

@@ -2,13 +2,12 @@
 
 ghost use Rattle.std.specs.Prelude.{◌≡◌, ◌≤◌, length};
 ghost use Rattle.std.specs.Str.{IsUtf8};
+ghost use Rattle.proto_faults.specs.Texts.{text_limit};
 ghost use Rattle.proto_text.specs.Lines.{line_behind, column_behind, line_at, column_at};
 
 use crate::fault::TextFault;
+use proto_faults::MAX_LEN;
 use std::marker::Model;
-
-/// How many bytes a text has at most.
-pub const MAX_LEN: usize = 1048576;
 
 /// The bytes from `start` on and before `end`, counted from 0.
 #[derive(Clone, Copy, Debug, PartialEq, Eq)]
@@ -28,17 +27,18 @@ pub struct Source {
 impl Model for Source {
     ghost use Rattle.std.specs.Prelude.{List, ℕ, ◌≤◌, length};
     ghost use Rattle.std.specs.String.{string_bytes};
+    ghost use Rattle.proto_faults.specs.Texts.{text_limit};
 
     ghost Value = { List ℕ };
 
     ghost view = { λ s. string_bytes s.text };
 
-    ghost invariant = { λ s. length (string_bytes s.text) ≤ 1048576 };
+    ghost invariant = { λ s. length (string_bytes s.text) ≤ text_limit };
 }
 
 // The line and the column behind the bytes.
 fn last_line_col(front: &[u8]) -> (u32, u32)
-    requires { length front.now ≤ 1048576 }
+    requires { length front.now ≤ text_limit }
     ensures line { result.0 ≡ line_behind front.now }
     ensures column { result.1 ≡ column_behind front.now }
 {
@@ -96,7 +96,7 @@ impl Source {
     /// The bytes of the text.
     pub fn as_bytes(&self) -> &[u8]
         ensures value { result.now ≡ self.now }
-        ensures short { length result.now ≤ 1048576 }
+        ensures short { length result.now ≤ text_limit }
         ensures utf8 { IsUtf8 result.now }
     {
         self.text.as_str().as_bytes()

@@ -2,11 +2,13 @@
 
 ghost use Rattle.std.specs.Prelude.{◌≡◌, ◌↔◌, IsTrue, ◌≤◌, ◌+◌, ◌-◌, List, ℕ, length, IfOk, IfErr, MatchOption, MatchResult};
 ghost use Rattle.std.specs.String.{string_bytes};
+ghost use Rattle.proto_faults.specs.Texts.{text_limit};
 ghost use Rattle.proto_text.specs.declared.splice.SpliceFault.TheVariants.{NoMemory};
 ghost use Rattle.proto_text.specs.declared.splice.SpliceFault.TheVariants as SpliceFault;
 ghost use Rattle.proto_text.specs.Edits.{IsCut, AreShort, inverse_of, inverse_from};
 ghost use Rattle.proto_text.specs.Splicing.{edit_of, edits, IsPut, IsApplied, splice_number, splice_name};
 
+use proto_faults::MAX_LEN;
 use std::alloc::{AllocError, Global};
 use std::marker::Model;
 use std::{fmt, mem};
@@ -133,9 +135,9 @@ fn all_put(alloc: Global, text: &[u8], splices: &[Splice]) -> Result<Option<Vec<
 // Turns one edit round; says where the text behind it begins, in the old and the new text.
 fn turn(splice: &mut Splice, from: u32, to: u32) -> (u32, u32)
     requires after { from ≤ splice.now.at }
-    requires old_fits { splice.now.at + length (string_bytes splice.now.old) ≤ 1048576 }
+    requires old_fits { splice.now.at + length (string_bytes splice.now.old) ≤ text_limit }
     requires new_fits { (to + (splice.now.at - from)) + length
-        (string_bytes splice.now.new) ≤ 1048576 }
+        (string_bytes splice.now.new) ≤ text_limit }
     ensures edit { edit_of splice.exit.now ≡ inverse_of to from (edit_of splice.entry.now) }
     ensures from { result.0 ≡ splice.entry.now.at + length (string_bytes splice.entry.now.old) }
     ensures to { result.1 ≡ (to + (splice.entry.now.at - from)) + length
@@ -198,7 +200,7 @@ fn are_short(splices: &[Splice]) -> bool
         let new_at = to + (at - from);
         let end = at + splice.old.len();
         let new_end = new_at + splice.new.len();
-        if end > 1048576 || new_end > 1048576 {
+        if end > MAX_LEN || new_end > MAX_LEN {
             return false;
         }
         from = end;
@@ -252,7 +254,7 @@ pub fn apply_splices(alloc: Global, text: &[u8], splices: &Splices) -> Result<Ve
     match all_put(alloc, text, splices.as_slice())? {
         None => Err(SpliceFault::Stale),
         Some(new) => {
-            if new.len() > 1048576 {
+            if new.len() > MAX_LEN {
                 Err(SpliceFault::TooLarge)
             } else {
                 Ok(new)

@@ -5,7 +5,7 @@ pub mod Exact
 pub mod Faults
 mod Many
 pub mod MarkLaws
-mod MoveLaws
+pub mod MoveLaws
 pub mod Nodes
 mod OneFault
 mod PieceRules

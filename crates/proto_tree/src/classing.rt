@@ -1,6 +1,7 @@
 //! The tokens of a text as the grammar sees them.
 
 ghost use Rattle.std.specs.Prelude.{◌≡◌, ◌≤◌, All, IfOk, length};
+ghost use Rattle.proto_faults.specs.Texts.{text_limit};
 ghost use Rattle.proto_text.specs.SourceFacts.{IsSpan};
 ghost use Rattle.proto_tree.specs.Reads.{classed, place_at};
 
@@ -13,7 +14,7 @@ use std::alloc::Global;
 /// The class of each token, with its index.
 pub fn lexemes(alloc: Global, source: &Source, tokens: &[Token]) -> Result<Vec<Lexeme>, NoMemory>
     requires spans { All (λ t. IsSpan source.now t.span) tokens.now }
-    requires few { length tokens.now ≤ 1048576 }
+    requires few { length tokens.now ≤ text_limit }
     ensures { IfOk result (λ found. found.items ≡ classed source.now tokens.now) }
 {
     let mut found = Vec::new(alloc);

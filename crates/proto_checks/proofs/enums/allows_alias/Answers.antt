@@ -1,11 +1,10 @@
 use Rattle.std.proofs.Common.{◌∙◌, sym, ◌&&◌, codes, rules, tests}
 use Rattle.std.proofs.lemmas.Iterator.{YieldsList-from_slice}
 use Rattle.std.proofs.lemmas.Iterator.Search.{any_from_yields_List}
-use Rattle.proto_parts.specs.Options.{is_named, truth_of}
+use Rattle.proto_parts.specs.Options.{is_named, truth_of, is_true}
 use Rattle.proto_parts.specs.Parts.{OptionOf}
 use Rattle.proto_parts.specs.Scenes.{text}
 use Rattle.proto_parts.specs.Views.{option_of}
-use Rattle.proto_checks.specs.FileFlaws.{is_true}
 use Rattle.proto_faults.proofs.Lists.{any_map}
 use Rattle.proto_checks.proofs.enums.allows_alias.Goals as goal
 

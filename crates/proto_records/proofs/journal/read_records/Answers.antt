@@ -1,13 +1,13 @@
 use Rattle.std.proofs.Common.{rules, ◌≡◌, ◌≢◌, ◌≤◌, [], List, length, true, false, subst, sym, ap, ◌∙◌, arith}
 use Rattle.std.proofs.lemmas.Result.{err_from_is_err_and}
-use Rattle.proto_records.specs.Journals.{is_last_open}
+use Rattle.proto_records.specs.Journals.{is_last_open, journal_limit}
 use Rattle.proto_records.specs.declared.record.Record.{Record as RecordOf}
 use Rattle.proto_records.proofs.Lines.{less_is_left}
 use Rattle.proto_records.proofs.JournalLists.{IsReadTo, read_none_at, read_more, read_whole, none_follows, none_is_bad, too_long, is_nil, is_not_nil}
 use Rattle.proto_records.proofs.journal.read_records.Goals as goal
 
-pub returns-then-bytes-gt-MAX_LEN-clause-bad : goal.returns-then-bytes-gt-MAX_LEN-clause-bad
-returns-then-bytes-gt-MAX_LEN-clause-bad c = λ is records j. too_long c.args.bytes.now records (omega arith) j
+pub returns-then-bytes-gt-MAX_JOURNAL_LEN-clause-bad : goal.returns-then-bytes-gt-MAX_JOURNAL_LEN-clause-bad
+returns-then-bytes-gt-MAX_JOURNAL_LEN-clause-bad c = λ is records j. too_long c.args.bytes.now records (omega arith) j
 
 pub loop-left-init : goal.loop-left-init
 loop-left-init c = read_none_at c.args.bytes.now c.new-records.result.items (search rules)
@@ -48,5 +48,5 @@ pub returns-clause-ok : goal.returns-clause-ok
 returns-clause-ok c =
     let left = c.loop-left.left.now in
     let none : left ≡ [] = is_nil left c.is_empty.result c.is_empty.ensures c.loop-left-test.false in
-    let short : length c.args.bytes.now ≤ 16777216 = omega arith in
+    let short : length c.args.bytes.now ≤ journal_limit = omega arith in
     read_whole c.args.bytes.now c.loop-left.records.items left c.loop-left.invariant none short

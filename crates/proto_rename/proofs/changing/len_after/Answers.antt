@@ -1,5 +1,6 @@
 use Rattle.std.proofs.Common.{ℕ, zero, suc, ◌*◌, ◌<◌, ◌≤◌, length, ap, arith, suc-mul}
 use Rattle.std.proofs.lemmas.Nat.{mul-le}
+use Rattle.proto_faults.specs.Texts.{text_limit}
 use Rattle.proto_rename.proofs.TokensInOrder.{bytes_fit, few_tokens, in_any_text}
 use Rattle.proto_rename.proofs.changing.len_after.Goals as goal
 
@@ -34,7 +35,7 @@ overflow_mul-after c =
     let fit = bytes_fit 0 (length c.args.source.now) c.args.tokens.now c.requires.order in
     let few = few_tokens 0 (length c.args.source.now) c.args.tokens.now c.requires.order in
     let word = c.if-to-gt-MAX_LEN.false in
-    let most : length c.args.tokens.now * length c.args.to.now ≤ 1048576 * 1048576 = mul-le (length c.args.tokens.now) (length c.args.to.now) 1048576 1048576 (omega (arith, short, same, fit, few)) (omega (arith, word)) in
+    let most : length c.args.tokens.now * length c.args.to.now ≤ text_limit * text_limit = mul-le (length c.args.tokens.now) (length c.args.to.now) text_limit text_limit (omega (arith, short, same, fit, few)) (omega (arith, word)) in
     omega (arith, most)
 
 pub overflow_add-after : goal.overflow_add-after
@@ -44,7 +45,7 @@ overflow_add-after c =
     let fit = bytes_fit 0 (length c.args.source.now) c.args.tokens.now c.requires.order in
     let few = few_tokens 0 (length c.args.source.now) c.args.tokens.now c.requires.order in
     let word = c.if-to-gt-MAX_LEN.false in
-    let most : length c.args.tokens.now * length c.args.to.now ≤ 1048576 * 1048576 = mul-le (length c.args.tokens.now) (length c.args.to.now) 1048576 1048576 (omega (arith, short, same, fit, few)) (omega (arith, word)) in
+    let most : length c.args.tokens.now * length c.args.to.now ≤ text_limit * text_limit = mul-le (length c.args.tokens.now) (length c.args.to.now) text_limit text_limit (omega (arith, short, same, fit, few)) (omega (arith, word)) in
     omega (arith, most, short)
 
 pub returns-then-after-gt-MAX_LEN : goal.returns-then-after-gt-MAX_LEN

@@ -1,4 +1,5 @@
 use Rattle.std.proofs.Common.{◌≡◌, ℕ, suc, List, [], length, get_or, refl, sym, ◌∙◌, ap, ap₂, arith, subst, ◌<◌, ◌≤◌}
+use Rattle.proto_faults.specs.Texts.{text_limit}
 use Rattle.proto_text.specs.declared.kind.TokenKind.TheVariants.{Word}
 use Rattle.proto_text.specs.declared.lexer.Token.{Token}
 use Rattle.proto_text.specs.Edits.{Edit}
@@ -66,7 +67,7 @@ unreachable-requires c =
     let start = (get_or ts c.args.import.keyword (record { kind = Word; span = record { start = 0; end = 0 } })).span.start in
     let end = (get_or ts c.args.import.semicolon (record { kind = Word; span = record { start = 0; end = 0 } })).span.end in
     let e = splice (file_at files file).bytes start end [] in
-    let short = subst (λ (z : List ℕ). length z ≤ 1048576) (c.as_bytes.ensures.value ∙ c.source.ensures) c.as_bytes.ensures.short in
+    let short = subst (λ (z : List ℕ). length z ≤ text_limit) (c.as_bytes.ensures.value ∙ c.source.ensures) c.as_bytes.ensures.short in
     no_longer (file_at files file) e short refl (subst (IsSpliced (file_at files file) e) c.in-None.is c.in_ok-change.ensures)
 
 pub returns-clause-ok : goal.returns-clause-ok

@@ -1,6 +1,7 @@
 use Rattle.std.proofs.Common.{ℕ, List, get_or, [], Bor, option_map, refl, sym, ap, ◌∙◌}
+use Rattle.proto_faults.specs.Texts.{or_nothing}
 use Rattle.proto_names.specs.declared.link.SymbolId.{SymbolId}
-use Rattle.proto_findings.specs.Readings.{meant, or_nothing, reading_of}
+use Rattle.proto_findings.specs.Readings.{meant, reading_of}
 use Rattle.proto_findings.proofs.Readings.{first_is, text_by_row, text_is, text_of_row}
 use Rattle.proto_findings.proofs.reading.Reading.meant.Goals as goal
 
