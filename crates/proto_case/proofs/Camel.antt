@@ -88,7 +88,7 @@ no_upper c out b h = go (nat_lt b 97) (nat_lt b 123) refl refl
     go true y ex ey = h
     go false false ex ey = h
     go false true ex ey = false_from_ne_true (b - 32 == c) (λ q.
-      let d : b - 32 ≡ c = eqb-true (b - 32) c q in
-      let low = ltb-false b 97 ex in
-      let high = ltb-true b 123 ey in
-      elim out [ inl l ↦ absurd (omega (arith, d, low, l)) | inr l ↦ absurd (omega (arith, d, high, l)) ])
+        let d : b - 32 ≡ c = eqb-true (b - 32) c q in
+        let low = ltb-false b 97 ex in
+        let high = ltb-true b 123 ey in
+        elim out [ inl l ↦ absurd (omega (arith, d, low, l)) | inr l ↦ absurd (omega (arith, d, high, l)) ])

@@ -57,7 +57,7 @@ escape_of b =
     else (if b == ascii.lower_f then Single ascii.form_feed
     else (if b == ascii.lower_r then Single ascii.carriage_return
     else (if b == ascii.quote || b == ascii.apostrophe || b == ascii.question_mark
-        || b == ascii.backslash then Single b
+    || b == ascii.backslash then Single b
     else Unknown)))))))))
 
 -- the value of a digit: a to f and A to F are 10 to 15
