@@ -1,11 +1,11 @@
 -- Entry names, character by character.
-use Rattle.std.proofs.Common.{◌≡◌, ◌≢◌, ℕ, ◌+◌, ◌-◌, ◌/◌, ◌<◌, ◌≤◌, Bool, true, false, cond, ◌==◌, List, [], ◌∷◌, ◌++◌, refl, sym, ap, ◌∙◌, if◌then◌else◌, inl, inr, arith, append_assoc}
+use Rattle.std.proofs.Common.{◌≡◌, ◌≢◌, ℕ, ◌+◌, ◌-◌, ◌/◌, ◌<◌, ◌≤◌, Bool, true, false, cond, ◌==◌, List, [], ◌∷◌, ◌++◌, refl, sym, ap, ◌∙◌, if◌then◌else◌, ◌⊎◌, inl, inr, arith, append_assoc}
 use Rattle.std.specs.Prelude.{nat_lt}
 use Rattle.std.specs.Char.{to_ascii_uppercase}
-use Rattle.std.proofs.lemmas.Bool.{cases_Bool, cases_lt, cond-false, eqb-true, le-ltb}
+use Rattle.std.proofs.lemmas.Bool.{cases_Bool, cases_lt, cond-false, eqb-true, false_from_ne_true, le-ltb, ltb-false, ltb-true}
 use Rattle.std.proofs.lemmas.Str.{encode_ascii}
 use lib.Utf8.{encode, next}
-use Rattle.proto_case.specs.Camel.{upper, camel_from}
+use Rattle.proto_case.specs.Camel.{camel_from}
 
 abbrev AreHigh : List ℕ → Type 0
 AreHigh [] = Unit {0}
@@ -18,17 +18,14 @@ other b ne = elim (cases_Bool (b == 95)) [
 ]
 
 -- a character that is no `_`
-one : (up : Bool) (b : ℕ) (rest : List ℕ) → b ≢ 95 → camel_from up (b ∷ rest) ≡ (if up then upper b else b) ∷ camel_from false rest
-one up b rest ne = cond-false (b == 95) (camel_from true rest) ((if up then upper b else b) ∷ camel_from false rest) (other b ne)
-
-upper_is : (b : ℕ) → upper b ≡ to_ascii_uppercase b
-upper_is b = grind arith
+one : (up : Bool) (b : ℕ) (rest : List ℕ) → b ≢ 95 → camel_from up (b ∷ rest) ≡ (if up then to_ascii_uppercase b else b) ∷ camel_from false rest
+one up b rest ne = cond-false (b == 95) (camel_from true rest) ((if up then to_ascii_uppercase b else b) ∷ camel_from false rest) (other b ne)
 
 upper_high : (b : ℕ) → 128 ≤ b → to_ascii_uppercase b ≡ b
 upper_high b h = cond-false (nat_lt b 97) b (cond (nat_lt b 123) (b - 32) b) (le-ltb b 97 (omega (arith, h))) ∙ cond-false (nat_lt b 123) (b - 32) b (le-ltb b 123 (omega (arith, h)))
 
-same_high : (up : Bool) (b : ℕ) → 128 ≤ b → (if up then upper b else b) ≡ b
-same_high true b h = upper_is b ∙ upper_high b h
+same_high : (up : Bool) (b : ℕ) → 128 ≤ b → (if up then to_ascii_uppercase b else b) ≡ b
+same_high true b h = upper_high b h
 same_high false b h = refl
 
 many : (up : Bool) (b : ℕ) (bs rest : List ℕ) → 128 ≤ b → AreHigh bs → camel_from up ((b ∷ bs) ++ rest) ≡ (b ∷ bs) ++ camel_from false rest
@@ -52,21 +49,13 @@ letter up c x rest ne e = elim (cases_lt c 128) [
   | inl low ↦
       ap (λ (bs : List ℕ). camel_from up (bs ++ rest)) (encode_ascii c low)
       ∙ one up c rest ne
-      ∙ ap (λ (d : ℕ). d ∷ camel_from false rest) (written up c ∙ sym e)
+      ∙ ap (λ (d : ℕ). d ∷ camel_from false rest) (sym e)
       ∙ sym (ap (λ (bs : List ℕ). bs ++ camel_from false rest) (encode_ascii x (small up c x low e)))
   | inr big ↦
       high up c rest big
-      ∙ ap (λ (d : ℕ). encode d ++ camel_from false rest) (sym (e ∙ kept up c big))
+      ∙ ap (λ (d : ℕ). encode d ++ camel_from false rest) (sym (e ∙ same_high up c big))
 ]
   where
-    written : (up : Bool) (c : ℕ) → (if up then upper c else c) ≡ (if up then to_ascii_uppercase c else c)
-    written true c = upper_is c
-    written false c = refl
-
-    kept : (up : Bool) (c : ℕ) → 128 ≤ c → (if up then to_ascii_uppercase c else c) ≡ c
-    kept true c h = upper_high c h
-    kept false c h = refl
-
     lower : (c : ℕ) → to_ascii_uppercase c ≤ c
     lower c = grind arith
 
@@ -90,3 +79,16 @@ pub line_step : (up : Bool) (c : ℕ) (all before rest name : List ℕ) → c �
 line_step up c all before rest name is b h =
     let line : before ≡ 95 ∷ rest = b ∙ ap (λ (d : ℕ). encode d ++ rest) is ∙ ap (λ (bs : List ℕ). bs ++ rest) (encode_ascii 95 (omega arith)) in
     ap (λ (bs : List ℕ). name ++ bs) (sym (ap (camel_from up) line)) ∙ h
+
+-- a byte that is no upper-case letter comes of no other
+pub no_upper : (c : ℕ) → (c < 65) ⊎ (90 < c) → (b : ℕ) → (b == c) ≡ false → (to_ascii_uppercase b == c) ≡ false
+no_upper c out b h = go (nat_lt b 97) (nat_lt b 123) refl refl
+  where
+    go : (x y : Bool) → nat_lt b 97 ≡ x → nat_lt b 123 ≡ y → (cond x b (cond y (b - 32) b) == c) ≡ false
+    go true y ex ey = h
+    go false false ex ey = h
+    go false true ex ey = false_from_ne_true (b - 32 == c) (λ q.
+        let d : b - 32 ≡ c = eqb-true (b - 32) c q in
+        let low = ltb-false b 97 ex in
+        let high = ltb-true b 123 ey in
+        elim out [ inl l ↦ absurd (omega (arith, d, low, l)) | inr l ↦ absurd (omega (arith, d, high, l)) ])

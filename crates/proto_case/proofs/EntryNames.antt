@@ -1,23 +1,14 @@
 -- The entry name of a word is another word (for the crates above).
 use Rattle.std.proofs.Common.{◌≡◌, ◌≢◌, ℕ, Bool, true, false, ◌||◌, List, [], ◌∷◌, ◌++◌, length, refl, sym, ◌∙◌, ap, inl, inr, arith, length-append, if◌then◌else◌}
-use Rattle.std.specs.Prelude.{◌-◌, ◌&&◌, ◌==◌, nat_le}
+use Rattle.std.specs.Prelude.{◌==◌, codes}
+use Rattle.std.specs.Char.{to_ascii_uppercase}
 use Rattle.std.specs.List.{list_any}
-use Rattle.std.proofs.lemmas.Bool.{cases_Bool, cond-true, cond-false, false_from_ne_true, and_parts, or_parts, eqb-true, leb-true}
-use Rattle.proto_case.specs.Camel.{upper, camel_from, entry_name}
+use Rattle.std.proofs.lemmas.Bool.{cases_Bool, cond-true, cond-false, or_parts}
+use Rattle.proto_case.specs.Camel.{camel_from, entry_name}
+use Rattle.proto_case.proofs.Camel.{no_upper}
 
 abbrev is_line : ℕ → Bool
 is_line b = b == 95
-
-line_not_upper : (b : ℕ) → (b == 95) ≡ false → (upper b == 95) ≡ false
-line_not_upper b h = elim (cases_Bool (nat_le 97 b && nat_le b 122)) [
-  | inl low ↦ false_from_ne_true (upper b == 95) (λ q.
-      let e : upper b ≡ b - 32 = cond-true (nat_le 97 b && nat_le b 122) (b - 32) b low in
-      let u : upper b ≡ 95 = eqb-true (upper b) 95 q in
-      let d : b - 32 ≡ 95 = sym e ∙ u in
-      let l = leb-true b 122 (and_parts (nat_le 97 b) (nat_le b 122) low).1 in
-      absurd (omega (arith, d, l)))
-  | inr other ↦ ap (λ z. z == 95) (cond-false (nat_le 97 b && nat_le b 122) (b - 32) b other) ∙ h
-]
 
 either_false : (a b : Bool) → a ≡ false → b ≡ false → (a || b) ≡ false
 either_false a b ha hb = ap (λ z. z || b) ha ∙ hb
@@ -30,14 +21,14 @@ any_append p (x ∷ xs) ys hx hy = let q = or_parts (p x) (list_any p xs) hx in 
 no_line : (up : Bool) (word : List ℕ) → list_any is_line (camel_from up word) ≡ false
 no_line up [] = refl
 no_line up (b ∷ bs) = elim (cases_Bool (b == 95)) [
-  | inl line ↦ ap (list_any is_line) (cond-true (b == 95) (camel_from true bs) ((if up then upper b else b) ∷ camel_from false bs) line) ∙ no_line true bs
+  | inl line ↦ ap (list_any is_line) (cond-true (b == 95) (camel_from true bs) ((if up then to_ascii_uppercase b else b) ∷ camel_from false bs) line) ∙ no_line true bs
   | inr other ↦
-      ap (list_any is_line) (cond-false (b == 95) (camel_from true bs) ((if up then upper b else b) ∷ camel_from false bs) other)
-      ∙ either_false ((if up then upper b else b) == 95) (list_any is_line (camel_from false bs)) (go up other) (no_line false bs)
+      ap (list_any is_line) (cond-false (b == 95) (camel_from true bs) ((if up then to_ascii_uppercase b else b) ∷ camel_from false bs) other)
+      ∙ either_false ((if up then to_ascii_uppercase b else b) == 95) (list_any is_line (camel_from false bs)) (go up other) (no_line false bs)
 ]
   where
-    go : (up : Bool) → (b == 95) ≡ false → ((if up then upper b else b) == 95) ≡ false
-    go true h = line_not_upper b h
+    go : (up : Bool) → (b == 95) ≡ false → ((if up then to_ascii_uppercase b else b) == 95) ≡ false
+    go true h = no_upper 95 (inr (omega arith)) b h
     go false h = h
 
 -- and so a word without one keeps its length
@@ -45,13 +36,13 @@ same_length : (up : Bool) (word : List ℕ) → list_any is_line word ≡ false 
 same_length up [] h = refl
 same_length up (b ∷ bs) h =
     let q = or_parts (b == 95) (list_any is_line bs) h in
-    let e = ap length (cond-false (b == 95) (camel_from true bs) ((if up then upper b else b) ∷ camel_from false bs) q.0) in
+    let e = ap length (cond-false (b == 95) (camel_from true bs) ((if up then to_ascii_uppercase b else b) ∷ camel_from false bs) q.0) in
     let r = same_length false bs q.1 in
     omega (arith, e, r)
 
 pub entry_differs : (word : List ℕ) → entry_name word ≢ word
 entry_differs word h =
-    let suffix = 69 ∷ 110 ∷ 116 ∷ 114 ∷ 121 ∷ [] in
+    let suffix = codes "Entry" in
     let none : list_any is_line word ≡ false = ap (list_any is_line) (sym h) ∙ any_append is_line (camel_from true word) suffix (no_line true word) refl in
     let l = same_length true word none in
     let a = length-append (camel_from true word) suffix in

@@ -3,6 +3,7 @@
 use Rattle.std.specs.Prelude.{ℕ, Bool, true, false, not, ◌&&◌, ◌||◌, ◌==◌, if◌then◌else◌, [], ◌∷◌, ◌++◌, Option, Some, None}
 use Rattle.std.specs.Char.{is_ascii_alphanumeric, is_ascii_digit, is_ascii_lowercase, is_ascii_uppercase, to_ascii_uppercase}
 use Rattle.std.specs.List.{list_all}
+use Rattle.proto_faults.specs.Ascii as ascii
 use Rattle.proto_faults.specs.Texts.{Text}
 
 -- ---- lower snake, upper snake
@@ -10,14 +11,16 @@ use Rattle.proto_faults.specs.Texts.{Text}
 -- no `_` stands at the end, and no two beside each other
 abbrev pub are_apart : Text → Bool
 are_apart [] = true
-are_apart (b ∷ []) = not (b == 95)
-are_apart (b ∷ c ∷ rest) = not (b == 95 && c == 95) && are_apart (c ∷ rest)
+are_apart (b ∷ []) = not (b == ascii.underscore)
+are_apart (b ∷ c ∷ rest) =
+    not (b == ascii.underscore && c == ascii.underscore) && are_apart (c ∷ rest)
 
 -- letters of one case, digits and `_`, a letter first, each `_` before something other than `_`
 abbrev pub is_snake : (ℕ → Bool) → Text → Bool
 is_snake is_letter [] = false
 is_snake is_letter (b ∷ rest) =
-    is_letter b && list_all (λ c. is_letter c || is_ascii_digit c || c == 95) rest
+    is_letter b
+    && list_all (λ c. is_letter c || is_ascii_digit c || c == ascii.underscore) rest
     && are_apart (b ∷ rest)
 
 -- a name as `foo_bar`: lower-case letters, digits and `_`, as above
@@ -47,7 +50,7 @@ begins_lower (b ∷ rest) = is_ascii_lowercase b
 abbrev pub begins_word : Option ℕ → ℕ → Text → Bool
 begins_word None b rest = false
 begins_word (Some before) b rest =
-    is_ascii_uppercase b && not (before == 95)
+    is_ascii_uppercase b && not (before == ascii.underscore)
     && (is_ascii_lowercase before || is_ascii_digit before || begins_lower rest)
 
 -- the rest of a name in upper case, with `_` before each word that begins in it; the first is the
@@ -55,7 +58,7 @@ begins_word (Some before) b rest =
 abbrev pub upper_behind : Option ℕ → Text → Text
 upper_behind before [] = []
 upper_behind before (b ∷ rest) =
-    (if begins_word before b rest then 95 ∷ [] else [])
+    (if begins_word before b rest then ascii.underscore ∷ [] else [])
     ++ to_ascii_uppercase b ∷ upper_behind (Some b) rest
 
 -- a name in upper case, with `_` before each word but the first: `HTTPCode` gives `HTTP_CODE`

@@ -2,6 +2,7 @@
 use Rattle.std.specs.Prelude.{Bool, true, false, not, ◌&&◌, ◌||◌, ◌==◌, nat_eq, [], ◌∷◌, length, drop, codes}
 use Rattle.std.specs.Char.{is_ascii_digit}
 use Rattle.std.specs.List.{list_all, prefix_len, starts_with, take_while}
+use Rattle.proto_faults.specs.Ascii as ascii
 use Rattle.proto_faults.specs.Texts.{Text}
 
 -- nothing stands in the text
@@ -12,7 +13,8 @@ is_empty (b ∷ rest) = false
 -- a positive decimal without leading zero
 abbrev pub is_positive : Text → Bool
 is_positive [] = false
-is_positive (b ∷ rest) = is_ascii_digit b && not (b == 48) && list_all is_ascii_digit rest
+is_positive (b ∷ rest) =
+    is_ascii_digit b && not (b == ascii.zero) && list_all is_ascii_digit rest
 
 -- the text begins with a name, and behind that has nothing or a positive decimal
 abbrev pub is_numbered : Text → Text → Bool
@@ -32,5 +34,5 @@ behind_digits s = drop (prefix_len is_ascii_digit s) s
 abbrev pub is_version : Text → Bool
 is_version [] = false
 is_version (b ∷ rest) =
-    b == 118 && is_positive (take_while is_ascii_digit rest)
+    b == ascii.lower_v && is_positive (take_while is_ascii_digit rest)
     && is_stage (behind_digits rest)

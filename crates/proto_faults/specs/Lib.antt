@@ -1,3 +1,4 @@
+pub mod Ascii
 pub mod FaultTable
 pub mod GivenFiles
 pub mod Texts

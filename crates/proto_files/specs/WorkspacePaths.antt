@@ -7,6 +7,7 @@ use Rattle.std.specs.Cmp.Lexicographic.{slice_cmp}
 use Rattle.std.specs.Prelude.{nat_eq}
 use Rattle.std.specs.declared.cmp.Ordering.{Ordering}
 use Rattle.std.specs.declared.cmp.Ordering.TheVariants.{Less}
+use Rattle.proto_faults.specs.Ascii as ascii
 use Rattle.proto_faults.specs.Texts.{Text, Path}
 
 -- whether a byte is one of those from the lowest to the highest
@@ -16,8 +17,9 @@ is_between low high b = nat_le low b && nat_le b high
 -- an ASCII letter, a digit, `_`, `-` or `.`
 abbrev pub is_path_byte : ℕ → Bool
 is_path_byte b =
-    is_between 65 90 b || is_between 97 122 b || is_between 48 57 b
-    || b == 95 || b == 45 || b == 46
+    is_between ascii.upper_a ascii.upper_z b || is_between ascii.lower_a ascii.lower_z b
+    || is_between ascii.zero ascii.nine b
+    || b == ascii.underscore || b == ascii.hyphen || b == ascii.dot
 
 -- what stands between the slashes of a path: of these characters, not empty, neither `.` nor `..`
 abbrev pub is_path_part : Text → Bool
@@ -30,13 +32,14 @@ pub record IsWorkspacePath (path : Path) : Type 0 where
   pub not_empty : 0 < length path
   pub short : length path ≤ 255
   pub ending : (front : Text) × (path ≡ front ++ codes ".proto")
-  pub parted : (parts : List Text) × (path ≡ join_with_byte 47 parts) × AllPass is_path_part parts
+  pub parted :
+    (parts : List Text) × (path ≡ join_with_byte ascii.slash parts) × AllPass is_path_part parts
 
 -- whether a text is the path of a file of a workspace
 abbrev pub is_workspace_path : Path → Bool
 is_workspace_path path =
     nat_le (length path) 255 && ends_with nat_eq path (codes ".proto")
-    && list_all is_path_part (slice_split (λ b. b == 47) path)
+    && list_all is_path_part (slice_split (λ b. b == ascii.slash) path)
 
 -- the order of paths, by their bytes
 abbrev pub path_cmp : Path → Path → Ordering

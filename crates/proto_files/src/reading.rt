@@ -101,6 +101,8 @@ fn parse_file(alloc: Global, file: LexedFile) -> Result<ReadFile, SchemaFault>
     }
 }
 
+// As `lex_files`, one stage on: what is read, what it gives and its fault are types of their own.
+
 /// The files with their trees, or the fault of the first whose tokens have none.
 pub fn parse_files(alloc: Global, files: Vec<LexedFile>) -> Result<Vec<ReadFile>, SchemaFault>
     requires { All IsLexedFile files.items }

@@ -4,24 +4,25 @@ use Rattle.std.specs.Char.{digit_char}
 use Rattle.std.specs.List.{list_all}
 use Rattle.std.specs.Cmp.Lexicographic.{slice_cmp}
 use Rattle.std.specs.Ordering.{nat_cmp, is_lt}
+use Rattle.proto_faults.specs.Ascii as ascii
 use Rattle.proto_faults.specs.Texts.{Text}
 
 -- what stands in a string for a byte of a text
 abbrev pub escaped : ℕ → Text
 escaped b =
-    if b == 34 then codes "\\\"" else
-    (if b == 92 then codes "\\\\" else
-    (if b == 8 then codes "\\b" else
-    (if b == 12 then codes "\\f" else
-    (if b == 10 then codes "\\n" else
-    (if b == 13 then codes "\\r" else
-    (if b == 9 then codes "\\t" else
-    (if nat_lt b 32 then codes "\\u00" ++ digit_char (b / 16) ∷ digit_char (b % 16) ∷ []
+    if b == ascii.quote then codes "\\\"" else
+    (if b == ascii.backslash then codes "\\\\" else
+    (if b == ascii.backspace then codes "\\b" else
+    (if b == ascii.form_feed then codes "\\f" else
+    (if b == ascii.line_feed then codes "\\n" else
+    (if b == ascii.carriage_return then codes "\\r" else
+    (if b == ascii.tab then codes "\\t" else
+    (if nat_lt b ascii.space then codes "\\u00" ++ digit_char (b / 16) ∷ digit_char (b % 16) ∷ []
     else b ∷ [])))))))
 
 -- a text between quotes
 unfoldable pub quoted : Text → Text
-quoted text = 34 ∷ (flat_map escaped text ++ 34 ∷ [])
+quoted text = ascii.quote ∷ (flat_map escaped text ++ ascii.quote ∷ [])
 
 -- the literal of a truth value
 abbrev pub boolean_text : Bool → Text
@@ -31,11 +32,11 @@ boolean_text false = codes "false"
 -- texts with a comma between two
 abbrev pub separated : List Text → Text
 separated [] = []
-separated (t ∷ ts) = t ++ flat_map (λ u. 44 ∷ u) ts
+separated (t ∷ ts) = t ++ flat_map (λ u. ascii.comma ∷ u) ts
 
 -- the values of an array between brackets, with a comma between two
 unfoldable pub array_text : List Text → Text
-array_text texts = 91 ∷ (separated texts ++ 93 ∷ [])
+array_text texts = ascii.open_bracket ∷ (separated texts ++ ascii.close_bracket ∷ [])
 
 -- a key of an object and, where it is there, the text of its value
 abbrev pub Slot : Type 0
@@ -45,11 +46,12 @@ Slot = Text × Option Text
 abbrev pub member_texts : List Slot → List Text
 member_texts [] = []
 member_texts ((key, None) ∷ slots) = member_texts slots
-member_texts ((key, Some text) ∷ slots) = (quoted key ++ 58 ∷ text) ∷ member_texts slots
+member_texts ((key, Some text) ∷ slots) =
+    (quoted key ++ ascii.colon ∷ text) ∷ member_texts slots
 
 -- the members that are there, in the order of the slots
 unfoldable pub object_text : List Slot → Text
-object_text slots = 123 ∷ (separated (member_texts slots) ++ 125 ∷ [])
+object_text slots = ascii.open_brace ∷ (separated (member_texts slots) ++ ascii.close_brace ∷ [])
 
 -- an array that is left out where it has no items
 unfoldable pub array_if_any : List Text → Option Text

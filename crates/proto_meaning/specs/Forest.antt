@@ -1,12 +1,13 @@
 -- The names of a workspace as a forest: each name is one word more than another name, or a word.
 use Rattle.std.specs.Prelude.{◌≡◌, ℕ, zero, suc, ◌<◌, ◌≤◌, List, [], ◌∷◌, ◌++◌, length, get_or, Option, Some}
 use Rattle.proto_meaning.specs.Joined.{IsPlain}
+use Rattle.proto_faults.specs.Ascii as ascii
 use Rattle.proto_faults.specs.Texts.{Text}
 
 -- a word right below a name, as text: after the name and a dot, or alone below the empty name
 abbrev pub under : Text → Text → Text
 under [] word = word
-under (b ∷ bs) word = (b ∷ bs) ++ 46 ∷ word
+under (b ∷ bs) word = (b ∷ bs) ++ ascii.dot ∷ word
 
 -- the text of a name by its number: 0 is the empty name, and the others follow in order
 abbrev pub front : List Text → ℕ → Text

@@ -1,6 +1,7 @@
 -- A full name as text.
 use Rattle.std.specs.Prelude.{◌≡◌, ◌≢◌, false, ◌==◌, [], ◌∷◌, ◌++◌}
 use Rattle.std.specs.List.{list_any}
+use Rattle.proto_faults.specs.Ascii as ascii
 use Rattle.proto_faults.specs.Texts.{Text}
 use Rattle.proto_meaning.specs.Names.{Word, Name}
 
@@ -8,11 +9,11 @@ use Rattle.proto_meaning.specs.Names.{Word, Name}
 abbrev pub joined : Name → Text
 joined [] = []
 joined (w ∷ []) = w
-joined (w ∷ v ∷ rest) = w ++ 46 ∷ joined (v ∷ rest)
+joined (w ∷ v ∷ rest) = w ++ ascii.dot ∷ joined (v ∷ rest)
 
 -- a word that is not empty and has no dot
 abbrev pub IsPlain : Word → Type 0
-IsPlain word = (list_any (λ b. b == 46) word ≡ false) × (word ≢ [])
+IsPlain word = (list_any (λ b. b == ascii.dot) word ≡ false) × (word ≢ [])
 
 -- each word of a name is plain
 abbrev pub ArePlain : Name → Type 0

@@ -58,12 +58,16 @@ pub record IsLinked (w : Workspace) : Type 0 where
       → (s : Symbol) → Contains w.symbols s → meaning w r ≡ Some s.name
       → r.is_method ≡ true → s.kind ≢ Enum
 
+-- a generated entry with the word is declared right below the parent
+abbrev pub HasEntry : Workspace → Name → Word → Type 0
+HasEntry w parent word =
+    (s : Symbol) × Contains w.symbols s × (s.name ≡ parent ++ word ∷ []) × (s.kind ≡ Entry)
+
 -- the map field's entry is there, and neither the old nor the new entry has the field's name
 abbrev pub EntryFits : Workspace → Renaming → Option (Word × Word) → Type 0
 EntryFits w e None = Unit {0}
 EntryFits w e (Some p) =
-    (p.0 ≢ e.old) × (p.1 ≢ e.new)
-    × ((s : Symbol) × Contains w.symbols s × (s.name ≡ e.parent ++ p.0 ∷ []) × (s.kind ≡ Entry))
+    (p.0 ≢ e.old) × (p.1 ≢ e.new) × HasEntry w e.parent p.0
 
 -- what is renamed is declared, and is no package and no generated entry; the entry that goes along,
 -- if there is one, fits
@@ -80,8 +84,7 @@ pub record IsFree (e : Renaming) (w : Workspace) : Type 0 where
 -- the old word of the entry, if there is one, is that of a generated entry right below the parent
 abbrev pub EntryStands : Workspace → Renaming → Option (Word × Word) → Type 0
 EntryStands w e None = Unit {0}
-EntryStands w e (Some p) =
-    (s : Symbol) × Contains w.symbols s × (s.name ≡ e.parent ++ p.0 ∷ []) × (s.kind ≡ Entry)
+EntryStands w e (Some p) = HasEntry w e.parent p.0
 
 -- the name map's old names are a field's, and those of its entry
 pub record IsDeletion (e : Renaming) (w : Workspace) : Type 0 where

@@ -1,6 +1,6 @@
 -- What a tree declares, by the indices of its tokens: each symbol of the language beside or below
 -- the others.
-use Rattle.std.specs.Prelude.{◌≡◌, ℕ, ◌+◌, ◌<◌, ◌≤◌, List, [], ◌∷◌, ◌++◌, map, Option, Some, None}
+use Rattle.std.specs.Prelude.{◌≡◌, ℕ, ◌+◌, ◌<◌, ◌≤◌, List, [], ◌∷◌, ◌++◌, map, codes, Option, Some, None}
 use Rattle.std.specs.List.{All}
 use Rattle.proto_meaning.specs.Names.{Kind, Package, Message, Entry, Enum, Service, Field, EntryField, Oneof, Value, Method}
 use Rattle.proto_meaning.specs.Skeleton.{Source, Token, EntryOf, Given}
@@ -40,11 +40,11 @@ place above last kind = record { above = above; last = last; kind = kind }
 
 -- `key`, the name of the first field of a map field's entry
 abbrev pub key_word : Text
-key_word = 107 ∷ 101 ∷ 121 ∷ []
+key_word = codes "key"
 
 -- `value`, the name of its second field
 abbrev pub value_word : Text
-value_word = 118 ∷ 97 ∷ 108 ∷ 117 ∷ 101 ∷ []
+value_word = codes "value"
 
 -- one symbol, and others beside it: the values of an enum, the fields of a oneof
 abbrev pub beside : List (Source ℕ) → ℕ → Kind → Kind → List ℕ → List Placed

@@ -52,6 +52,9 @@ pub fn message_options<'a>(
     Ok(found)
 }
 
+// One loop for each kind of block: what stands in each is a type of its own, and a trait over these
+// would be as long as the loops.
+
 fn push_enum_option<'a>(found: &mut Vec<OptionAt<'a>>, item: &'a EnumItem) -> Result<(), NoMemory>
     ensures { OnOk result (map option_of found.new.items
         ≡ map option_of found.old.items ++ options_in (enum_item_tree item.now)) }

@@ -50,6 +50,9 @@ fn push_reserved_ranges<'a>(
     }
 }
 
+// One loop for each kind of range: a loop that is passed what it pushes would need a closure, whose
+// clauses are longer than the loop.
+
 /// The ranges that a message reserves, in order.
 pub fn reserved_ranges<'a>(
     alloc: Global,

@@ -19,7 +19,7 @@ use Rattle.proto_text.specs.Edits.{Edit, Puts}
 use Rattle.proto_text.specs.Pieces.{Piece, IsRun, IsLexeme, ArePieces, IsPieces, text_of}
 use Rattle.proto_text.specs.SourceFacts.{text_at}
 use Rattle.proto_text.specs.Tokens.{Lexeme, lexeme_at, lexeme_if, lexemes, token_at, tokens_from}
-use Rattle.proto_text.specs.Renames.{IsWord, SameButWords, after, edit_if as piece_edit, edits_from}
+use Rattle.proto_text.specs.Renames.{IsWord, SameButWords, after, edits_from}
 use Rattle.proto_text.proofs.WordChange.{words_may_change}
 use Rattle.proto_text.proofs.PieceEdits.{edits_change_pieces}
 use Rattle.proto_text.proofs.Reading.{tokens_read_pieces}
@@ -104,7 +104,7 @@ tail_of (l ∷ ls) = ls
 edits_step : (text : List ℕ) (c : Change) (n at : ℕ) (kind : PieceKind) (bytes : List ℕ) (ts : List Token) (ls : List Lexeme) (es : List Edit)
     → map (lexeme_at text) (token_at kind at (length bytes) ++ ts) ≡ lexeme_if kind bytes ++ ls
     → (map (lexeme_at text) ts ≡ ls → es ≡ token_edits text c (next_of kind n) ts)
-    → piece_edit at (piece kind bytes, change_of kind (c n)) ++ es ≡ token_edits text c n (token_at kind at (length bytes) ++ ts)
+    → edit_if (change_of kind (c n)) at bytes ++ es ≡ token_edits text c n (token_at kind at (length bytes) ++ ts)
 edits_step text c n at Blank bytes ts ls es h k = k h
 edits_step text c n at LineComment bytes ts ls es h k = k h
 edits_step text c n at BlockComment bytes ts ls es h k = k h
@@ -113,7 +113,7 @@ edits_step text c n at (Solid kind) bytes ts ls es h k = by (c n)
     there : text_at text (record { start = at; end = at + length bytes }) ≡ bytes
     there = ap head_text h
 
-    by : (o : Option (List ℕ)) → piece_edit at (piece (Solid kind) bytes, o) ++ es ≡ edit_if o at (text_at text (record { start = at; end = at + length bytes })) ++ token_edits text c (suc n) ts
+    by : (o : Option (List ℕ)) → edit_if o at bytes ++ es ≡ edit_if o at (text_at text (record { start = at; end = at + length bytes })) ++ token_edits text c (suc n) ts
     by None = k (ap tail_of h)
     by (Some w) =
         ap (λ (l : List Edit). record { at = at; old = bytes; new = w } ∷ l) (k (ap tail_of h))

@@ -1,6 +1,7 @@
 -- Tests over bytes: octal and hexadecimal digits, as the language specification has them.
 use Rattle.std.specs.Prelude.{◌≡◌, ℕ, Bool, true, false, ◌&&◌, ◌||◌, ◌==◌, List, [], ◌∷◌, nat_le}
 use Rattle.std.specs.List.{AllByRecursion}
+use Rattle.proto_faults.specs.Ascii as ascii
 use Rattle.proto_text.specs.Classes.{is_digit}
 
 -- each byte passes
@@ -14,12 +15,14 @@ Stops p (b ∷ bytes) = p b ≡ false
 
 -- the byte is `\`
 abbrev pub is_backslash : ℕ → Bool
-is_backslash b = b == 92
+is_backslash b = b == ascii.backslash
 
 -- a digit 0 to 7
 abbrev pub is_octal : ℕ → Bool
-is_octal b = nat_le 48 b && nat_le b 55
+is_octal b = nat_le ascii.zero b && nat_le b ascii.seven
 
 -- a digit 0 to 9, or a letter a to f or A to F
 abbrev pub is_hex : ℕ → Bool
-is_hex b = is_digit b || (nat_le 97 b && nat_le b 102) || (nat_le 65 b && nat_le b 70)
+is_hex b =
+    is_digit b || (nat_le ascii.lower_a b && nat_le b ascii.lower_f)
+    || (nat_le ascii.upper_a b && nat_le b ascii.upper_f)

@@ -1,12 +1,13 @@
 -- Lines and columns of this product, both counted from 1 and in bytes.
 use Rattle.std.specs.Prelude.{ℕ, ◌+◌, ◌==◌, take}
 use Rattle.std.specs.List.{count_by, suffix_len}
+use Rattle.proto_faults.specs.Ascii as ascii
 use Rattle.proto_faults.specs.Texts.{Text}
 use Rattle.proto_text.specs.Pieces.{is_in_line}
 
 -- 1, and the line feeds among the bytes
 abbrev pub line_behind : Text → ℕ
-line_behind front = 1 + count_by (λ b. b == 10) front
+line_behind front = 1 + count_by (λ b. b == ascii.line_feed) front
 
 -- 1, and the bytes since the last line feed
 abbrev pub column_behind : Text → ℕ

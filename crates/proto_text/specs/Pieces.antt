@@ -2,6 +2,7 @@
 -- language specification. That numbers are whole is a choice of this profile.
 use Rattle.std.specs.Prelude.{◌≡◌, ℕ, Bool, true, false, not, List, [], ◌∷◌, ◌++◌, ◌==◌, ◌&&◌, ◌||◌, ◌⊎◌, if◌then◌else◌}
 use Rattle.std.specs.List.{list_all}
+use Rattle.proto_faults.specs.Ascii as ascii
 use Rattle.proto_text.specs.declared.class.Class.{Class}
 use Rattle.proto_text.specs.declared.class.Class.TheVariants.{Space, Letter, Digit, Quote, Mark, Slash, Other}
 use Rattle.proto_text.specs.declared.kind.TokenKind.TheVariants.{Word, Number, Text, Punctuation}
@@ -26,35 +27,39 @@ IsRun class (b ∷ bytes) = (class_of b ≡ class) × Each is_identifier bytes
 abbrev pub is_hex_tail : List ℕ → Bool
 is_hex_tail [] = false
 is_hex_tail (x ∷ []) = false
-is_hex_tail (x ∷ d ∷ ds) = (x == 120 || x == 88) && list_all is_hex (d ∷ ds)
+is_hex_tail (x ∷ d ∷ ds) = (x == ascii.lower_x || x == ascii.upper_x) && list_all is_hex (d ∷ ds)
 
 -- `0`, a digit 1 to 9 and digits, `0` and octal digits, or `0x` or `0X` and hexadecimal digits
 abbrev pub is_number : List ℕ → Bool
 is_number [] = false
 is_number (b ∷ bytes) =
-    if b == 48 then (list_all is_octal bytes || is_hex_tail bytes)
+    if b == ascii.zero then (list_all is_octal bytes || is_hex_tail bytes)
     else list_all is_digit (b ∷ bytes)
 
 -- a byte other than a line feed
 abbrev pub is_in_line : ℕ → Bool
-is_in_line b = not (b == 10)
+is_in_line b = not (b == ascii.line_feed)
 
 -- a byte that makes a slash before it a comment
 abbrev pub opens_comment : ℕ → Bool
-opens_comment b = b == 47 || b == 42
+opens_comment b = b == ascii.slash || b == ascii.star
 
 -- no `*/` stands in the bytes
 abbrev pub HasNoClose : List ℕ → Type 0
-HasNoClose bytes = (front back : List ℕ) → bytes ≡ front ++ 42 ∷ 47 ∷ back → ⊥
+HasNoClose bytes =
+    (front back : List ℕ) → bytes ≡ front ++ ascii.star ∷ ascii.slash ∷ back → ⊥
 
 -- `//`, and bytes that are no line feed
 abbrev pub IsLineComment : List ℕ → Type 0
-IsLineComment bytes = (body : List ℕ) × (bytes ≡ 47 ∷ 47 ∷ body) × Each is_in_line body
+IsLineComment bytes =
+    (body : List ℕ) × (bytes ≡ ascii.slash ∷ ascii.slash ∷ body) × Each is_in_line body
 
 -- `/*`, bytes in which no `*/` stands, and `*/`
 abbrev pub IsBlockComment : List ℕ → Type 0
 IsBlockComment bytes =
-    (body : List ℕ) × (bytes ≡ 47 ∷ 42 ∷ (body ++ 42 ∷ 47 ∷ [])) × HasNoClose body
+    (body : List ℕ)
+    × (bytes ≡ ascii.slash ∷ ascii.star ∷ (body ++ ascii.star ∷ ascii.slash ∷ []))
+    × HasNoClose body
 
 -- the bytes are a piece of the kind
 abbrev pub IsLexeme : PieceKind → List ℕ → Type 0
@@ -106,7 +111,8 @@ abbrev pub IsFault : LexFault → List ℕ → Type 0
 IsFault BadChar rest =
     (c : ℕ) × (more : List ℕ) × (rest ≡ c ∷ more)
     × ((class_of c ≡ Other) ⊎ ((class_of c ≡ Slash) × Stops opens_comment more))
-IsFault OpenComment rest = (more : List ℕ) × (rest ≡ 47 ∷ 42 ∷ more) × HasNoClose more
+IsFault OpenComment rest =
+    (more : List ℕ) × (rest ≡ ascii.slash ∷ ascii.star ∷ more) × HasNoClose more
 IsFault OpenString rest =
     (c : ℕ) × (more : List ℕ) × (rest ≡ c ∷ more) × (class_of c ≡ Quote)
     × ((body back : List ℕ) → more ≡ body ++ c ∷ back → is_body false c body ≡ true → ⊥)

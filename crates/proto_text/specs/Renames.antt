@@ -6,6 +6,7 @@ use Rattle.proto_text.specs.declared.class.Class.TheVariants.{Letter}
 use Rattle.proto_text.specs.declared.kind.PieceKind.TheVariants.{Solid}
 use Rattle.proto_text.specs.declared.kind.TokenKind.TheVariants.{Word}
 use Rattle.proto_text.specs.Pieces.{Piece, IsRun, IsPieces, text_of}
+use Rattle.proto_text.specs.Texts.{edit_if}
 
 -- a piece that is a word token
 abbrev pub IsWord : Piece → Type 0
@@ -29,15 +30,11 @@ abbrev pub after : Piece × Option Text → Piece
 after (p, None) = p
 after (p, Some bytes) = record p { bytes = bytes }
 
--- the edit of a piece at an offset, if other bytes come in its place
-abbrev pub edit_if : ℕ → Piece × Option Text → List Edit
-edit_if at (p, None) = []
-edit_if at (p, Some bytes) = record { at = at; old = p.bytes; new = bytes } ∷ []
-
 -- the edits of pieces that begin at an offset
 abbrev pub edits_from : ℕ → List (Piece × Option Text) → List Edit
 edits_from at [] = []
-edits_from at (c ∷ cs) = edit_if at c ++ edits_from (at + length c.0.bytes) cs
+edits_from at (c ∷ cs) =
+    edit_if c.1 at c.0.bytes ++ edits_from (at + length c.0.bytes) cs
 
 -- To edit a text at its pieces is to put other pieces in their place.
 abbrev pub EditsChangePieces : Type 0

@@ -1,6 +1,7 @@
 -- The first piece of a text, from its first bytes: the same sets as functions.
 use Rattle.std.specs.Prelude.{ℕ, ◌+◌, suc, Bool, false, List, [], ◌∷◌, ◌==◌, ◌&&◌, take, if◌then◌else◌, Option, Some, None, option_map, Result, Ok, Err}
 use Rattle.std.specs.List.{prefix_len}
+use Rattle.proto_faults.specs.Ascii as ascii
 use Rattle.proto_text.specs.declared.class.Class.{Class}
 use Rattle.proto_text.specs.declared.class.Class.TheVariants.{Space, Letter, Digit, Quote, Mark, Slash, Other}
 use Rattle.proto_text.specs.declared.kind.TokenKind.TheVariants.{Word, Number, Text, Punctuation}
@@ -16,8 +17,8 @@ use Rattle.proto_text.specs.Pieces.{is_number, is_in_line}
 unfoldable pub close_len : Bool → List ℕ → Option ℕ
 close_len star [] = None
 close_len star (b ∷ bytes) =
-    if star && b == 47 then Some 1
-    else option_map suc (close_len (b == 42) bytes)
+    if star && b == ascii.slash then Some 1
+    else option_map suc (close_len (b == ascii.star) bytes)
 
 -- what begins some bytes: a piece of a kind, so many bytes long, or a fault
 abbrev pub Found : Type 0
@@ -32,8 +33,8 @@ block_found (Some n) = Ok (BlockComment, 2 + n)
 unfoldable pub comment_at : List ℕ → Found
 comment_at [] = Err BadChar
 comment_at (b ∷ bytes) =
-    if b == 47 then Ok (LineComment, 2 + prefix_len is_in_line bytes)
-    else (if b == 42 then block_found (close_len false bytes)
+    if b == ascii.slash then Ok (LineComment, 2 + prefix_len is_in_line bytes)
+    else (if b == ascii.star then block_found (close_len false bytes)
     else Err BadChar)
 
 -- the first n bytes as a number, if they are one

@@ -2,6 +2,7 @@
 use Rattle.std.specs.Prelude.{◌≡◌, ℕ, zero, suc, ◌+◌, ◌-◌, ◌<◌, ◌≤◌, ◌^◌, ◌⊎◌, ◌==◌, ◌||◌, Bool, true, false, not, All, List, [], ◌∷◌, ◌++◌, length, take, drop, map, nat_lt, if◌then◌else◌}
 use Rattle.std.specs.Fmt.{decimal}
 use Rattle.std.specs.Str.{IsUtf8}
+use Rattle.proto_faults.specs.Ascii as ascii
 use Rattle.proto_text.specs.declared.kind.TokenKind.{TokenKind}
 use Rattle.proto_text.specs.declared.kind.TokenKind.TheVariants.{Word, Number, Text, Punctuation}
 use Rattle.proto_text.specs.declared.lexer.Token.{Token}
@@ -125,11 +126,13 @@ TokensAreMoved =
 
 -- bytes that stand in quotes as they are: no quote, no backslash, no line feed, no U+0000
 abbrev pub is_plain : ℕ → Bool
-is_plain b = not (b == 34 || b == 39 || b == 92 || b == 10 || b == 0)
+is_plain b =
+    not (b == ascii.quote || b == ascii.apostrophe || b == ascii.backslash
+    || b == ascii.line_feed || b == ascii.nul)
 
 -- the bytes between two `"`
 abbrev pub quoted : List ℕ → List ℕ
-quoted value = 34 ∷ (value ++ 34 ∷ [])
+quoted value = ascii.quote ∷ (value ++ ascii.quote ∷ [])
 
 -- Plain bytes in quotes are a string token, which stands for them.
 abbrev pub QuotedStandsForItself : Type 0

@@ -3,6 +3,7 @@
 use Rattle.std.specs.Prelude.{◌≡◌, ℕ, ◌+◌, ◌-◌, ◌*◌, ◌<◌, ◌≤◌, suc, min, Bool, true, false, not, List, [], ◌∷◌, ◌++◌, ◌==◌, ◌&&◌, ◌||◌, ◌⊎◌, nat_le, nat_lt, length, take, if◌then◌else◌, Option, Some, None, option_map}
 use Rattle.std.specs.List.{prefix_len}
 use Rattle.std.specs.Str.{IsUtf8}
+use Rattle.proto_faults.specs.Ascii as ascii
 use Rattle.proto_faults.specs.Texts.{Text}
 use Rattle.proto_text.specs.declared.class.Class.TheVariants.{Quote}
 use Rattle.proto_text.specs.declared.ending.Step.{Step}
@@ -18,10 +19,10 @@ use Rattle.proto_text.specs.Bytes.{Each, Stops, is_octal, is_hex}
 -- ends it; else it goes on, and the next byte is escaped or not.
 abbrev pub step_of : Bool → ℕ → ℕ → Step
 step_of escaped quote b =
-    if b == 10 || b == 0 then Breaks
+    if b == ascii.line_feed || b == ascii.nul then Breaks
     else (if escaped then GoesOn false
     else (if b == quote then Ends
-    else GoesOn (b == 92)))
+    else GoesOn (b == ascii.backslash)))
 
 -- a byte that neither breaks nor ends the string is of its body, if the bytes behind it are
 abbrev pub body_after : Step → (Bool → Bool) → Bool
@@ -47,20 +48,23 @@ IsQuoted bytes quote body =
 unfoldable pub escape_of : ℕ → Escape
 escape_of b =
     if is_octal b then Octal
-    else (if b == 120 then Hexadecimal
-    else (if b == 97 then Single 7
-    else (if b == 98 then Single 8
-    else (if b == 116 then Single 9
-    else (if b == 110 then Single 10
-    else (if b == 118 then Single 11
-    else (if b == 102 then Single 12
-    else (if b == 114 then Single 13
-    else (if b == 34 || b == 39 || b == 63 || b == 92 then Single b
+    else (if b == ascii.lower_x then Hexadecimal
+    else (if b == ascii.lower_a then Single ascii.bell
+    else (if b == ascii.lower_b then Single ascii.backspace
+    else (if b == ascii.lower_t then Single ascii.tab
+    else (if b == ascii.lower_n then Single ascii.line_feed
+    else (if b == ascii.lower_v then Single ascii.vertical_tab
+    else (if b == ascii.lower_f then Single ascii.form_feed
+    else (if b == ascii.lower_r then Single ascii.carriage_return
+    else (if b == ascii.quote || b == ascii.apostrophe || b == ascii.question_mark
+    || b == ascii.backslash then Single b
     else Unknown)))))))))
 
 -- the value of a digit: a to f and A to F are 10 to 15
 abbrev pub digit_value : ℕ → ℕ
-digit_value b = if is_digit b then b - 48 else (if nat_le 97 b then b - 87 else b - 55)
+digit_value b =
+    if is_digit b then b - ascii.zero
+    else (if nat_le ascii.lower_a b then b - (ascii.lower_a - 10) else b - (ascii.upper_a - 10))
 
 -- the number of the digits to a base, behind digits whose number is front
 abbrev pub number_in : ℕ → ℕ → Text → ℕ
@@ -69,11 +73,12 @@ number_in base front (d ∷ ds) = number_in base (front * base + digit_value d) 
 
 -- a byte that is no backslash
 abbrev pub IsPlain : Text → ℕ → Type 0
-IsPlain bytes value = (bytes ≡ value ∷ []) × ((value == 92) ≡ false)
+IsPlain bytes value = (bytes ≡ value ∷ []) × ((value == ascii.backslash) ≡ false)
 
 -- a backslash and one character, which stand for one byte
 abbrev pub IsSingle : Text → ℕ → Type 0
-IsSingle bytes value = (b : ℕ) × (bytes ≡ 92 ∷ b ∷ []) × (escape_of b ≡ Single value)
+IsSingle bytes value =
+    (b : ℕ) × (bytes ≡ ascii.backslash ∷ b ∷ []) × (escape_of b ≡ Single value)
 
 -- one to limit digits, as many as there are
 pub record IsDigits (is : ℕ → Bool) (limit : ℕ) (digits rest : Text) : Type 0 where
@@ -85,13 +90,14 @@ pub record IsDigits (is : ℕ → Bool) (limit : ℕ) (digits rest : Text) : Typ
 -- a backslash and one to three octal digits, whose number is below 256
 abbrev pub IsOctal : Text → ℕ → Text → Type 0
 IsOctal bytes value rest =
-    (digits : List ℕ) × (bytes ≡ 92 ∷ digits) × IsDigits is_octal 3 digits rest
+    (digits : List ℕ) × (bytes ≡ ascii.backslash ∷ digits) × IsDigits is_octal 3 digits rest
     × (value ≡ number_in 8 0 digits) × (nat_lt value 256 ≡ true)
 
 -- a backslash, `x` and one or two hexadecimal digits
 abbrev pub IsHexadecimal : Text → ℕ → Text → Type 0
 IsHexadecimal bytes value rest =
-    (b : ℕ) × (digits : List ℕ) × (bytes ≡ 92 ∷ b ∷ digits) × (escape_of b ≡ Hexadecimal)
+    (b : ℕ) × (digits : List ℕ)
+    × (bytes ≡ ascii.backslash ∷ b ∷ digits) × (escape_of b ≡ Hexadecimal)
     × IsDigits is_hex 2 digits rest × (value ≡ number_in 16 0 digits) × (nat_lt value 256 ≡ true)
 
 -- bytes before rest that stand for one byte
@@ -159,4 +165,4 @@ escape_at (b ∷ bytes) = escape_after (escape_of b) b bytes
 -- the byte that the first bytes stand for, and how many these are
 unfoldable pub unit_at : Text → Option (ℕ × ℕ)
 unit_at [] = None
-unit_at (b ∷ bytes) = if b == 92 then escape_at bytes else Some (b, 1)
+unit_at (b ∷ bytes) = if b == ascii.backslash then escape_at bytes else Some (b, 1)

@@ -1,6 +1,6 @@
 -- Pieces, and the readers that read exactly these.
-use Rattle.std.proofs.Common.{◌≡◌, ℕ, Bool, true, false, List, [], ◌∷◌, ◌++◌, Some, refl, sym, ap, subst, ◌∙◌, ◌⊎◌, inl, inr}
-use Rattle.std.specs.Prelude.{◌||◌}
+use Rattle.std.proofs.Common.{◌≡◌, ℕ, Bool, true, false, List, [], ◌∷◌, ◌++◌, Option, Some, None, refl, sym, ap, subst, ◌∙◌, ◌⊎◌, inl, inr}
+use Rattle.std.specs.Prelude.{◌||◌, is_some}
 use Rattle.proto_tree.specs.declared.class.Class.{Class}
 use Rattle.proto_tree.specs.declared.class.Class.TheVariants as class
 use Rattle.proto_tree.specs.declared.class.Want.{Want}
@@ -61,20 +61,32 @@ stops_never : (r : List Lexeme) → Stops never r
 stops_never [] = tt
 stops_never (l ∷ r) = refl
 
+-- looks for what makes a piece, and shows that it does
+abbrev pub Finds : {A : Type 0} → (A → Piece) → Type 0
+Finds {A = A} make = (u : Piece) → Option ((x : A) × (make x ≡ u))
+
+-- whether a piece is made so
+abbrev pub is : {A : Type 0} {make : A → Piece} → Finds make → Piece → Bool
+is find u = is_some (find u)
+
+found : {B : Type 0} (o : Option B) → is_some o ≡ true → B
+found None e = absurd cc
+found (Some x) e = x
+
 -- what a reader of one kind of piece reads
-pub made_on : {A : Type 0} {loud : Class → Bool} {first : Class → Bool} {p : Reader A} (P : Piece → Bool) (make : A → Piece)
-    → IsExact loud true first never (λ x. flat_piece (make x)) p → ((x : A) → P (make x) ≡ true) → ((u : Piece) → P u ≡ true → (x : A) × (make x ≡ u))
-    → ((x : A) (text : List Lexeme) → Fit (flat_piece (make x)) text → HasEnd (make x) text) → IsOn P first (made make p)
-made_on {A = A} {first = first} {p = p} P make h yes_P all_P ends = record {
-  begins = λ u e text fit. let x = all_P u e in h.begins x.0 text (rw x.1 fit);
-  end = λ u e text fit. let x = all_P u e in subst (λ v. HasEnd v text) x.1 (ends x.0 text (rw x.1 fit));
+pub made_on : {A : Type 0} {loud : Class → Bool} {first : Class → Bool} {p : Reader A} (make : A → Piece) (find : Finds make)
+    → IsExact loud true first never (λ x. flat_piece (make x)) p → ((x : A) → is find (make x) ≡ true)
+    → ((x : A) (text : List Lexeme) → Fit (flat_piece (make x)) text → HasEnd (make x) text) → IsOn (is find) first (made make p)
+made_on {A = A} {first = first} {p = p} make find h finds ends = record {
+  begins = λ u e text fit. let x = found (find u) e in h.begins x.0 text (rw x.1 fit);
+  end = λ u e text fit. let x = found (find u) e in subst (λ v. HasEnd v text) x.1 (ends x.0 text (rw x.1 fit));
   sound = λ s u r e.
       let a = bind_ok (p s) (λ x. Some (make x.0, x.1)) (u, r) e in
-      let Q : Piece × List Lexeme → Type 0 = λ y. (P y.0 ≡ true) × (text : List Lexeme) × (s ≡ text ++ y.1) × Fit (flat_piece y.0) text in
+      let Q : Piece × List Lexeme → Type 0 = λ y. (is find y.0 ≡ true) × (text : List Lexeme) × (s ≡ text ++ y.1) × Fit (flat_piece y.0) text in
       let t = h.sound s a.0.0 a.0.1 a.1 in
-      subst Q (some_is (make a.0.0, a.0.1) (u, r) a.2) (yes_P a.0.0, t.0, t.1, t.2);
+      subst Q (some_is (make a.0.0, a.0.1) (u, r) a.2) (finds a.0.0, t.0, t.1, t.2);
   complete = λ u e text r fit.
-      let x = all_P u e in
+      let x = found (find u) e in
       let f : p (text ++ r) ≡ Some (x.0, r) = h.complete x.0 text r (rw x.1 fit) (stops_never r) in
       rw (f, x.1) refl;
 }
@@ -113,146 +125,77 @@ or_on {P = P} {Q = Q} {first_p = first_p} {first_q = first_q} {p = p} {q = q} w 
 
 -- ---- the kinds of pieces
 
-abbrev pub is_close : Piece → Bool
-is_close (piece.Close i) = true
-is_close _ = false
+abbrev pub find_close : Finds (λ (x : ℕ). piece.Close x)
+find_close (piece.Close i) = Some (i, refl)
+find_close _ = None
 
-all_close : (u : Piece) → is_close u ≡ true → (x : ℕ) × ((piece.Close x) ≡ u)
-all_close (piece.Close i) e = (i, refl)
-all_close _ e = absurd cc
+abbrev pub find_syntax : Finds (λ (x : Syntax). piece.Statement (statement.Syntax x))
+find_syntax (piece.Statement (statement.Syntax x)) = Some (x, refl)
+find_syntax _ = None
 
-abbrev pub is_syntax : Piece → Bool
-is_syntax (piece.Statement (statement.Syntax x)) = true
-is_syntax _ = false
+abbrev pub find_import : Finds (λ (x : Import). piece.Statement (statement.Import x))
+find_import (piece.Statement (statement.Import x)) = Some (x, refl)
+find_import _ = None
 
-all_syntax : (u : Piece) → is_syntax u ≡ true → (x : Syntax) × (piece.Statement (statement.Syntax x) ≡ u)
-all_syntax (piece.Statement (statement.Syntax x)) e = (x, refl)
-all_syntax _ e = absurd cc
+abbrev pub find_package : Finds (λ (x : Package). piece.Statement (statement.Package x))
+find_package (piece.Statement (statement.Package x)) = Some (x, refl)
+find_package _ = None
 
-abbrev pub is_import : Piece → Bool
-is_import (piece.Statement (statement.Import x)) = true
-is_import _ = false
+abbrev pub find_option : Finds (λ (x : Option_). piece.Statement (statement.Option x))
+find_option (piece.Statement (statement.Option x)) = Some (x, refl)
+find_option _ = None
 
-all_import : (u : Piece) → is_import u ≡ true → (x : Import) × (piece.Statement (statement.Import x) ≡ u)
-all_import (piece.Statement (statement.Import x)) e = (x, refl)
-all_import _ e = absurd cc
+abbrev pub find_field : Finds (λ (x : Field). piece.Statement (statement.Field x))
+find_field (piece.Statement (statement.Field x)) = Some (x, refl)
+find_field _ = None
 
-abbrev pub is_package : Piece → Bool
-is_package (piece.Statement (statement.Package x)) = true
-is_package _ = false
+abbrev pub find_map_field : Finds (λ (x : MapField). piece.Statement (statement.MapField x))
+find_map_field (piece.Statement (statement.MapField x)) = Some (x, refl)
+find_map_field _ = None
 
-all_package : (u : Piece) → is_package u ≡ true → (x : Package) × (piece.Statement (statement.Package x) ≡ u)
-all_package (piece.Statement (statement.Package x)) e = (x, refl)
-all_package _ e = absurd cc
+abbrev pub find_reserved : Finds (λ (x : Reserved ℕ). piece.Statement (statement.Reserved x))
+find_reserved (piece.Statement (statement.Reserved x)) = Some (x, refl)
+find_reserved _ = None
 
-abbrev pub is_option : Piece → Bool
-is_option (piece.Statement (statement.Option x)) = true
-is_option _ = false
+abbrev pub find_extensions : Finds (λ (x : Extensions). piece.Statement (statement.Extensions x))
+find_extensions (piece.Statement (statement.Extensions x)) = Some (x, refl)
+find_extensions _ = None
 
-all_option : (u : Piece) → is_option u ≡ true → (x : Option_) × (piece.Statement (statement.Option x) ≡ u)
-all_option (piece.Statement (statement.Option x)) e = (x, refl)
-all_option _ e = absurd cc
+abbrev pub find_value : Finds (λ (x : Value). piece.Statement (statement.Value x))
+find_value (piece.Statement (statement.Value x)) = Some (x, refl)
+find_value _ = None
 
-abbrev pub is_field : Piece → Bool
-is_field (piece.Statement (statement.Field x)) = true
-is_field _ = false
+abbrev pub find_enum_reserved : Finds (λ (x : Reserved Signed). piece.Statement (statement.EnumReserved x))
+find_enum_reserved (piece.Statement (statement.EnumReserved x)) = Some (x, refl)
+find_enum_reserved _ = None
 
-all_field : (u : Piece) → is_field u ≡ true → (x : Field) × (piece.Statement (statement.Field x) ≡ u)
-all_field (piece.Statement (statement.Field x)) e = (x, refl)
-all_field _ e = absurd cc
+abbrev pub find_empty : Finds (λ (x : ℕ). piece.Statement (statement.Empty x))
+find_empty (piece.Statement (statement.Empty x)) = Some (x, refl)
+find_empty _ = None
 
-abbrev pub is_map_field : Piece → Bool
-is_map_field (piece.Statement (statement.MapField x)) = true
-is_map_field _ = false
+abbrev pub find_message : Finds (λ (x : Heading × ℕ). piece.Open (header.Message x.0) x.1)
+find_message (piece.Open (header.Message h) i) = Some ((h, i), refl)
+find_message _ = None
 
-all_map_field : (u : Piece) → is_map_field u ≡ true → (x : MapField) × (piece.Statement (statement.MapField x) ≡ u)
-all_map_field (piece.Statement (statement.MapField x)) e = (x, refl)
-all_map_field _ e = absurd cc
+abbrev pub find_oneof : Finds (λ (x : Heading × ℕ). piece.Open (header.Oneof x.0) x.1)
+find_oneof (piece.Open (header.Oneof h) i) = Some ((h, i), refl)
+find_oneof _ = None
 
-abbrev pub is_reserved : Piece → Bool
-is_reserved (piece.Statement (statement.Reserved x)) = true
-is_reserved _ = false
+abbrev pub find_enum : Finds (λ (x : Heading × ℕ). piece.Open (header.Enum x.0) x.1)
+find_enum (piece.Open (header.Enum h) i) = Some ((h, i), refl)
+find_enum _ = None
 
-all_reserved : (u : Piece) → is_reserved u ≡ true → (x : Reserved ℕ) × (piece.Statement (statement.Reserved x) ≡ u)
-all_reserved (piece.Statement (statement.Reserved x)) e = (x, refl)
-all_reserved _ e = absurd cc
+abbrev pub find_service : Finds (λ (x : Heading × ℕ). piece.Open (header.Service x.0) x.1)
+find_service (piece.Open (header.Service h) i) = Some ((h, i), refl)
+find_service _ = None
 
-abbrev pub is_extensions : Piece → Bool
-is_extensions (piece.Statement (statement.Extensions x)) = true
-is_extensions _ = false
-
-all_extensions : (u : Piece) → is_extensions u ≡ true → (x : Extensions) × (piece.Statement (statement.Extensions x) ≡ u)
-all_extensions (piece.Statement (statement.Extensions x)) e = (x, refl)
-all_extensions _ e = absurd cc
-
-abbrev pub is_value : Piece → Bool
-is_value (piece.Statement (statement.Value x)) = true
-is_value _ = false
-
-all_value : (u : Piece) → is_value u ≡ true → (x : Value) × (piece.Statement (statement.Value x) ≡ u)
-all_value (piece.Statement (statement.Value x)) e = (x, refl)
-all_value _ e = absurd cc
-
-abbrev pub is_enum_reserved : Piece → Bool
-is_enum_reserved (piece.Statement (statement.EnumReserved x)) = true
-is_enum_reserved _ = false
-
-all_enum_reserved : (u : Piece) → is_enum_reserved u ≡ true → (x : Reserved Signed) × (piece.Statement (statement.EnumReserved x) ≡ u)
-all_enum_reserved (piece.Statement (statement.EnumReserved x)) e = (x, refl)
-all_enum_reserved _ e = absurd cc
-
-abbrev pub is_empty : Piece → Bool
-is_empty (piece.Statement (statement.Empty x)) = true
-is_empty _ = false
-
-all_empty : (u : Piece) → is_empty u ≡ true → (x : ℕ) × (piece.Statement (statement.Empty x) ≡ u)
-all_empty (piece.Statement (statement.Empty x)) e = (x, refl)
-all_empty _ e = absurd cc
-
-abbrev pub opens_message : Piece → Bool
-opens_message (piece.Open (header.Message h) i) = true
-opens_message _ = false
-
-all_opens_message : (u : Piece) → opens_message u ≡ true → (x : Heading × ℕ) × (piece.Open (header.Message x.0) x.1 ≡ u)
-all_opens_message (piece.Open (header.Message h) i) e = ((h, i), refl)
-all_opens_message _ e = absurd cc
-
-abbrev pub opens_oneof : Piece → Bool
-opens_oneof (piece.Open (header.Oneof h) i) = true
-opens_oneof _ = false
-
-all_opens_oneof : (u : Piece) → opens_oneof u ≡ true → (x : Heading × ℕ) × (piece.Open (header.Oneof x.0) x.1 ≡ u)
-all_opens_oneof (piece.Open (header.Oneof h) i) e = ((h, i), refl)
-all_opens_oneof _ e = absurd cc
-
-abbrev pub opens_enum : Piece → Bool
-opens_enum (piece.Open (header.Enum h) i) = true
-opens_enum _ = false
-
-all_opens_enum : (u : Piece) → opens_enum u ≡ true → (x : Heading × ℕ) × (piece.Open (header.Enum x.0) x.1 ≡ u)
-all_opens_enum (piece.Open (header.Enum h) i) e = ((h, i), refl)
-all_opens_enum _ e = absurd cc
-
-abbrev pub opens_service : Piece → Bool
-opens_service (piece.Open (header.Service h) i) = true
-opens_service _ = false
-
-all_opens_service : (u : Piece) → opens_service u ≡ true → (x : Heading × ℕ) × (piece.Open (header.Service x.0) x.1 ≡ u)
-all_opens_service (piece.Open (header.Service h) i) e = ((h, i), refl)
-all_opens_service _ e = absurd cc
-
-abbrev pub is_method : Piece → Bool
-is_method (piece.Statement (statement.Method s i)) = true
-is_method (piece.Open (header.Method s) i) = true
-is_method _ = false
-
-abbrev method_of : Signature × Ending → Piece
+abbrev pub method_of : Signature × Ending → Piece
 method_of x = method_piece x.0 x.1
 
-all_method : (u : Piece) → is_method u ≡ true → (x : Signature × Ending) × (method_of x ≡ u)
-all_method (piece.Statement (statement.Method s i)) e = ((s, ending.Semicolon i), refl)
-all_method (piece.Open (header.Method s) i) e = ((s, ending.Open i), refl)
-all_method _ e = absurd cc
+abbrev pub find_method : Finds method_of
+find_method (piece.Statement (statement.Method s i)) = Some ((s, ending.Semicolon i), refl)
+find_method (piece.Open (header.Method s) i) = Some ((s, ending.Open i), refl)
+find_method _ = None
 
 -- ---- their ends
 
@@ -282,66 +225,66 @@ heading_calm c e h t fit =
 abbrev quiet : (w : Want) → IsExact never true (fits w) never (λ i. mark w i ∷ []) (token w)
 quiet w = token-exact never w (λ c e. refl)
 
-close_on : IsOn is_close (fits (want.One class.Close)) (made piece.Close (token (want.One class.Close)))
-close_on = made_on is_close piece.Close (quiet (want.One class.Close)) (λ x. refl) all_close one_closing
+close_on : IsOn (is find_close) (fits (want.One class.Close)) (made piece.Close (token (want.One class.Close)))
+close_on = made_on piece.Close find_close (quiet (want.One class.Close)) (λ x. refl) one_closing
 
 heading-exact : (c : Class) → IsExact never true (fits (want.One c)) never (λ x. flat_heading c x.0 ++ one class.Open x.1) (heading_at c)
 heading-exact c = renamed (λ x. flat_heading c x.0 ++ one class.Open x.1) (λ x. (record { keyword = x.0; name = x.1.0 }, x.1.1)) (λ x. (x.0.keyword, (x.0.name, x.1))) (λ x. refl)
     (token_then (quiet (want.One c)) (token_then (quiet want.Name) (quiet (want.One class.Open))))
 
-opened_on : (c : Class) (make : Heading → Header) (P : Piece → Bool) → apart (fits (want.One c)) is_brace ≡ true → ((h : Heading) → flat_heading c h ≡ flat_header (make h)) → ((h : Heading) (i : ℕ) → P (piece.Open (make h) i) ≡ true)
-    → ((u : Piece) → P u ≡ true → (x : Heading × ℕ) × (piece.Open (make x.0) x.1 ≡ u)) → IsOn P (fits (want.One c)) (opened make c)
-opened_on c make P e same yes_P all_P = made_on P (λ x. piece.Open (make x.0) x.1) opened-exact (λ x. yes_P x.0 x.1) all_P
+opened_on : (c : Class) (make : Heading → Header) (find : Finds (λ (x : Heading × ℕ). piece.Open (make x.0) x.1)) → apart (fits (want.One c)) is_brace ≡ true → ((h : Heading) → flat_heading c h ≡ flat_header (make h)) → ((h : Heading) (i : ℕ) → is find (piece.Open (make h) i) ≡ true)
+    → IsOn (is find) (fits (want.One c)) (opened make c)
+opened_on c make find e same finds = made_on (λ x. piece.Open (make x.0) x.1) find opened-exact (λ x. finds x.0 x.1)
     (λ x text fit. opening (flat_header (make x.0)) x.1 text (λ t h. heading_calm c e x.0 t (subst (λ ms. Fit ms t) (sym (same x.0)) h)) fit) where
       opened-exact : IsExact never true (fits (want.One c)) never (λ x. flat_piece (piece.Open (make x.0) x.1)) (heading_at c)
       opened-exact = let same_flat : (λ (x : Heading × ℕ). flat_heading c x.0 ++ one class.Open x.1) ≡ (λ x. flat_header (make x.0) ++ one class.Open x.1) = λ i x. same x.0 i ++ one class.Open x.1 in subst (λ f. IsExact never true (fits (want.One c)) never f (heading_at c)) same_flat (heading-exact c)
 
-message_on : IsOn opens_message (fits (want.One class.Message)) (opened header.Message class.Message)
-message_on = opened_on class.Message header.Message opens_message refl (λ h. refl) (λ h i. refl) all_opens_message
+message_on : IsOn (is find_message) (fits (want.One class.Message)) (opened header.Message class.Message)
+message_on = opened_on class.Message header.Message find_message refl (λ h. refl) (λ h i. refl)
 
-oneof_on : IsOn opens_oneof (fits (want.One class.Oneof)) (opened header.Oneof class.Oneof)
-oneof_on = opened_on class.Oneof header.Oneof opens_oneof refl (λ h. refl) (λ h i. refl) all_opens_oneof
+oneof_on : IsOn (is find_oneof) (fits (want.One class.Oneof)) (opened header.Oneof class.Oneof)
+oneof_on = opened_on class.Oneof header.Oneof find_oneof refl (λ h. refl) (λ h i. refl)
 
-enum_on : IsOn opens_enum (fits (want.One class.Enum)) (opened header.Enum class.Enum)
-enum_on = opened_on class.Enum header.Enum opens_enum refl (λ h. refl) (λ h i. refl) all_opens_enum
+enum_on : IsOn (is find_enum) (fits (want.One class.Enum)) (opened header.Enum class.Enum)
+enum_on = opened_on class.Enum header.Enum find_enum refl (λ h. refl) (λ h i. refl)
 
-service_on : IsOn opens_service (fits (want.One class.Service)) (opened header.Service class.Service)
-service_on = opened_on class.Service header.Service opens_service refl (λ h. refl) (λ h i. refl) all_opens_service
+service_on : IsOn (is find_service) (fits (want.One class.Service)) (opened header.Service class.Service)
+service_on = opened_on class.Service header.Service find_service refl (λ h. refl) (λ h i. refl)
 
-empty_on : IsOn is_empty (fits (want.One class.Semicolon)) (stated statement.Empty (token (want.One class.Semicolon)))
+empty_on : IsOn (is find_empty) (fits (want.One class.Semicolon)) (stated statement.Empty (token (want.One class.Semicolon)))
 empty_on =
     let rule : IsExact is_brace true (fits (want.One class.Semicolon)) never (λ i. one class.Semicolon i) (token (want.One class.Semicolon)) = tok (want.One class.Semicolon) refl in
-    made_on is_empty (λ i. piece.Statement (statement.Empty i)) rule (λ x. refl) all_empty rule.calm
+    made_on (λ i. piece.Statement (statement.Empty i)) find_empty rule (λ x. refl) rule.calm
 
-syntax_on : IsOn is_syntax (fits (want.One class.Syntax)) (stated statement.Syntax syntax_at)
-syntax_on = made_on is_syntax (λ x. piece.Statement (statement.Syntax x)) syntax-exact (λ x. refl) all_syntax syntax-exact.calm
+syntax_on : IsOn (is find_syntax) (fits (want.One class.Syntax)) (stated statement.Syntax syntax_at)
+syntax_on = made_on (λ x. piece.Statement (statement.Syntax x)) find_syntax syntax-exact (λ x. refl) syntax-exact.calm
 
-import_on : IsOn is_import (fits (want.One class.Import)) (stated statement.Import import_at)
-import_on = made_on is_import (λ x. piece.Statement (statement.Import x)) import-exact (λ x. refl) all_import import-exact.calm
+import_on : IsOn (is find_import) (fits (want.One class.Import)) (stated statement.Import import_at)
+import_on = made_on (λ x. piece.Statement (statement.Import x)) find_import import-exact (λ x. refl) import-exact.calm
 
-package_on : IsOn is_package (fits (want.One class.Package)) (stated statement.Package package_at)
-package_on = made_on is_package (λ x. piece.Statement (statement.Package x)) package-exact (λ x. refl) all_package package-exact.calm
+package_on : IsOn (is find_package) (fits (want.One class.Package)) (stated statement.Package package_at)
+package_on = made_on (λ x. piece.Statement (statement.Package x)) find_package package-exact (λ x. refl) package-exact.calm
 
-option_on : IsOn is_option (fits (want.One class.Option)) (stated statement.Option option_at)
-option_on = made_on is_option (λ x. piece.Statement (statement.Option x)) option-exact (λ x. refl) all_option option-exact.calm
+option_on : IsOn (is find_option) (fits (want.One class.Option)) (stated statement.Option option_at)
+option_on = made_on (λ x. piece.Statement (statement.Option x)) find_option option-exact (λ x. refl) option-exact.calm
 
-field_on : IsOn is_field starts_field (stated statement.Field field_at)
-field_on = made_on is_field (λ x. piece.Statement (statement.Field x)) field-exact (λ x. refl) all_field field-exact.calm
+field_on : IsOn (is find_field) starts_field (stated statement.Field field_at)
+field_on = made_on (λ x. piece.Statement (statement.Field x)) find_field field-exact (λ x. refl) field-exact.calm
 
-map_field_on : IsOn is_map_field (fits (want.One class.Map)) (stated statement.MapField map_field_at)
-map_field_on = made_on is_map_field (λ x. piece.Statement (statement.MapField x)) map_field-exact (λ x. refl) all_map_field map_field-exact.calm
+map_field_on : IsOn (is find_map_field) (fits (want.One class.Map)) (stated statement.MapField map_field_at)
+map_field_on = made_on (λ x. piece.Statement (statement.MapField x)) find_map_field map_field-exact (λ x. refl) map_field-exact.calm
 
-reserved_on : IsOn is_reserved (fits (want.One class.Reserved)) (stated statement.Reserved (reserved_at (token (want.One class.Number))))
-reserved_on = made_on is_reserved (λ x. piece.Statement (statement.Reserved x)) reserved-exact (λ x. refl) all_reserved reserved-exact.calm
+reserved_on : IsOn (is find_reserved) (fits (want.One class.Reserved)) (stated statement.Reserved (reserved_at (token (want.One class.Number))))
+reserved_on = made_on (λ x. piece.Statement (statement.Reserved x)) find_reserved reserved-exact (λ x. refl) reserved-exact.calm
 
-extensions_on : IsOn is_extensions (fits (want.One class.Extensions)) (stated statement.Extensions extensions_at)
-extensions_on = made_on is_extensions (λ x. piece.Statement (statement.Extensions x)) extensions-exact (λ x. refl) all_extensions extensions-exact.calm
+extensions_on : IsOn (is find_extensions) (fits (want.One class.Extensions)) (stated statement.Extensions extensions_at)
+extensions_on = made_on (λ x. piece.Statement (statement.Extensions x)) find_extensions extensions-exact (λ x. refl) extensions-exact.calm
 
-value_on : IsOn is_value (fits want.ValueName) (stated statement.Value value_at)
-value_on = made_on is_value (λ x. piece.Statement (statement.Value x)) value-exact (λ x. refl) all_value value-exact.calm
+value_on : IsOn (is find_value) (fits want.ValueName) (stated statement.Value value_at)
+value_on = made_on (λ x. piece.Statement (statement.Value x)) find_value value-exact (λ x. refl) value-exact.calm
 
-enum_reserved_on : IsOn is_enum_reserved (fits (want.One class.Reserved)) (stated statement.EnumReserved (reserved_at signed_at))
-enum_reserved_on = made_on is_enum_reserved (λ x. piece.Statement (statement.EnumReserved x)) enum_reserved-exact (λ x. refl) all_enum_reserved enum_reserved-exact.calm
+enum_reserved_on : IsOn (is find_enum_reserved) (fits (want.One class.Reserved)) (stated statement.EnumReserved (reserved_at signed_at))
+enum_reserved_on = made_on (λ x. piece.Statement (statement.EnumReserved x)) find_enum_reserved enum_reserved-exact (λ x. refl) enum_reserved-exact.calm
 
 abbrev flat_ending : Ending → List Mark
 flat_ending (ending.Semicolon i) = one class.Semicolon i
@@ -375,22 +318,22 @@ method_ends (s, ending.Semicolon i) text fit =
     rule.calm (s, i) text fit
 method_ends (s, ending.Open i) text fit = opening (flat_signature s) i text (λ t h. signature-exact.calm s t h) fit
 
-method_on : IsOn is_method (fits (want.One class.Rpc)) method_at
+method_on : IsOn (is find_method) (fits (want.One class.Rpc)) method_at
 unfolding method_at
-method_on = made_on is_method method_of method-exact is_yes all_method method_ends
+method_on = made_on method_of find_method method-exact is_yes method_ends
   where
-    is_yes : (x : Signature × Ending) → is_method (method_of x) ≡ true
+    is_yes : (x : Signature × Ending) → is find_method (method_of x) ≡ true
     is_yes (s, ending.Semicolon i) = refl
     is_yes (s, ending.Open i) = refl
 
 abbrev pub enum_pieces : Piece → Bool
-enum_pieces = either_of is_close (either_of is_empty (either_of is_option (either_of is_enum_reserved (is_value))))
+enum_pieces = either_of (is find_close) (either_of (is find_empty) (either_of (is find_option) (either_of (is find_enum_reserved) (is find_value))))
 
 abbrev pub begins_enum_piece : Class → Bool
 begins_enum_piece = any_of (fits (want.One class.Close)) (any_of (fits (want.One class.Semicolon)) (any_of (fits (want.One class.Option)) (any_of (fits (want.One class.Reserved)) (fits want.ValueName))))
 
 abbrev pub elsewhere : Piece → Bool
-elsewhere = either_of is_close (either_of is_empty (either_of opens_message (either_of opens_oneof (either_of opens_enum (either_of opens_service (either_of is_syntax (either_of is_import (either_of is_package (either_of is_option (either_of is_map_field (either_of is_reserved (either_of is_extensions (either_of is_method (is_field))))))))))))))
+elsewhere = either_of (is find_close) (either_of (is find_empty) (either_of (is find_message) (either_of (is find_oneof) (either_of (is find_enum) (either_of (is find_service) (either_of (is find_syntax) (either_of (is find_import) (either_of (is find_package) (either_of (is find_option) (either_of (is find_map_field) (either_of (is find_reserved) (either_of (is find_extensions) (either_of (is find_method) (is find_field))))))))))))))
 
 abbrev pub begins_elsewhere : Class → Bool
 begins_elsewhere = any_of (fits (want.One class.Close)) (any_of (fits (want.One class.Semicolon)) (any_of (fits (want.One class.Message)) (any_of (fits (want.One class.Oneof)) (any_of (fits (want.One class.Enum)) (any_of (fits (want.One class.Service)) (any_of (fits (want.One class.Syntax)) (any_of (fits (want.One class.Import)) (any_of (fits (want.One class.Package)) (any_of (fits (want.One class.Option)) (any_of (fits (want.One class.Map)) (any_of (fits (want.One class.Reserved)) (any_of (fits (want.One class.Extensions)) (any_of (fits (want.One class.Rpc)) (starts_field))))))))))))))

@@ -53,6 +53,10 @@ is_enum_kind kind.Value = true
 is_enum_kind kind.EnumReserved = true
 is_enum_kind _ = false
 
+abbrev is_enum : Context → Bool
+is_enum context.Enum = true
+is_enum _ = false
+
 else_allows : (u : Piece) → is_enum_kind (kind_of u) ≡ false → elsewhere u ≡ true
 else_allows (piece.Statement (statement.Syntax s)) e = refl
 else_allows (piece.Statement (statement.Import s)) e = refl
@@ -94,50 +98,16 @@ laws_by c P first h all_P = record {
   complete = λ u e text r fit. let f = h.complete u (all_P u e) text r fit in rw (f, e) refl;
 }
 
-not_start : (k : Kind) → allows context.Start k ≡ true → is_enum_kind k ≡ false
-not_start kind.Value e = absurd cc
-not_start kind.EnumReserved e = absurd cc
-not_start _ e = refl
-
-not_file : (k : Kind) → allows context.File k ≡ true → is_enum_kind k ≡ false
-not_file kind.Value e = absurd cc
-not_file kind.EnumReserved e = absurd cc
-not_file _ e = refl
-
-not_packaged : (k : Kind) → allows context.Packaged k ≡ true → is_enum_kind k ≡ false
-not_packaged kind.Value e = absurd cc
-not_packaged kind.EnumReserved e = absurd cc
-not_packaged _ e = refl
-
-not_message : (k : Kind) → allows context.Message k ≡ true → is_enum_kind k ≡ false
-not_message kind.Value e = absurd cc
-not_message kind.EnumReserved e = absurd cc
-not_message _ e = refl
-
-not_oneof : (k : Kind) → allows context.Oneof k ≡ true → is_enum_kind k ≡ false
-not_oneof kind.Value e = absurd cc
-not_oneof kind.EnumReserved e = absurd cc
-not_oneof _ e = refl
-
-not_service : (k : Kind) → allows context.Service k ≡ true → is_enum_kind k ≡ false
-not_service kind.Value e = absurd cc
-not_service kind.EnumReserved e = absurd cc
-not_service _ e = refl
-
-not_method : (k : Kind) → allows context.Method k ≡ true → is_enum_kind k ≡ false
-not_method kind.Value e = absurd cc
-not_method kind.EnumReserved e = absurd cc
-not_method _ e = refl
+-- it stands nowhere else
+not_in_enum : (c : Context) → is_enum c ≡ false → (k : Kind) → allows c k ≡ true → is_enum_kind k ≡ false
+not_in_enum context.Enum other k e = absurd cc
+not_in_enum c other kind.Value e = absurd cc
+not_in_enum c other kind.EnumReserved e = absurd cc
+not_in_enum c other _ e = refl
 
 pub laws : (c : Context) → Laws c
-laws context.Start = laws_by context.Start elsewhere begins_elsewhere piece_on (λ u e. else_allows u (not_start (kind_of u) e))
-laws context.File = laws_by context.File elsewhere begins_elsewhere piece_on (λ u e. else_allows u (not_file (kind_of u) e))
-laws context.Packaged = laws_by context.Packaged elsewhere begins_elsewhere piece_on (λ u e. else_allows u (not_packaged (kind_of u) e))
-laws context.Message = laws_by context.Message elsewhere begins_elsewhere piece_on (λ u e. else_allows u (not_message (kind_of u) e))
-laws context.Oneof = laws_by context.Oneof elsewhere begins_elsewhere piece_on (λ u e. else_allows u (not_oneof (kind_of u) e))
-laws context.Service = laws_by context.Service elsewhere begins_elsewhere piece_on (λ u e. else_allows u (not_service (kind_of u) e))
-laws context.Method = laws_by context.Method elsewhere begins_elsewhere piece_on (λ u e. else_allows u (not_method (kind_of u) e))
 laws context.Enum = laws_by context.Enum enum_pieces begins_enum_piece enum_piece_on enum_allows
+laws c = laws_by c elsewhere begins_elsewhere piece_on (λ u e. else_allows u (not_in_enum c refl (kind_of u) e))
 
 -- ---- braces that are open
 
