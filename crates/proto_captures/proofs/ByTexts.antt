@@ -13,6 +13,7 @@ use Rattle.proto_meaning.proofs.Basics.{name_from_same, same_from_name}
 use Rattle.proto_meaning.proofs.Joined.{joined_apart}
 use Rattle.proto_meaning.proofs.Ren.{last_parts}
 use Rattle.proto_meaning.proofs.Symbols.{shown}
+use Rattle.proto_imports.proofs.PlainNames.{plain_join}
 use Rattle.proto_names.specs.LinkOfFiles.{HoldsNames}
 use Rattle.proto_names.specs.Linking.{LinkOf, NameOf, is_visible, name_at, text_at}
 use Rattle.proto_captures.specs.NewTexts.{NewTexts}
@@ -23,10 +24,6 @@ use Rattle.proto_captures.proofs.NewlyShown.{same_truth}
 
 abbrev pub texts_for : Renaming → NewTexts
 texts_for e = record { target = joined (target e); old = e.old; new = e.new; entry = e.entry }
-
-pub plain_join : (x : List (List ℕ)) (w : List ℕ) → ArePlain x → IsPlain w → ArePlain (x ++ w ∷ [])
-plain_join [] w p q = (q, tt)
-plain_join (v ∷ x) w p q = (p.0, plain_join x w p.1 q)
 
 plain_last : (x : List (List ℕ)) (w : List ℕ) → ArePlain (x ++ w ∷ []) → IsPlain w
 plain_last [] w p = p.0

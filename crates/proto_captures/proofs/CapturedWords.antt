@@ -14,6 +14,7 @@ use Rattle.proto_meaning.specs.Names.{Reference, Workspace, fits, front_at, hit,
 use Rattle.proto_meaning.proofs.Basics.{name_from_same, same_from_name}
 use Rattle.proto_meaning.proofs.Joined.{joined_apart}
 use Rattle.proto_meaning.proofs.Rename.{hit_relative}
+use Rattle.proto_imports.proofs.PlainNames.{plain_join}
 use Rattle.proto_names.specs.LinkOfFiles.{HoldsNames}
 use Rattle.proto_names.specs.Linking.{LinkOf, is_visible}
 use Rattle.proto_rename_laws.specs.Captures.{HasScope, IsNewWord}
@@ -23,7 +24,7 @@ use Rattle.proto_captures.specs.Capturing.{bytes_before, captures_at, captures_w
 use Rattle.proto_captures.specs.NewTexts.{NewTexts, is_new_by, is_new_word}
 use Rattle.proto_captures.specs.ShownAnew.{IsDeclaredName}
 use Rattle.proto_captures.specs.ShownTexts.{first_fits, shown_below}
-use Rattle.proto_captures.proofs.ByTexts.{plain_join, shown_is, target_plain, texts_for}
+use Rattle.proto_captures.proofs.ByTexts.{shown_is, target_plain, texts_for}
 use Rattle.proto_captures.proofs.FrontLengths.{before_first, deeper, joined_begins, not_deeper, scan_from, scan_to}
 use Rattle.proto_captures.proofs.NewlyShown.{same_truth, shown_is_anew}
 

@@ -19,13 +19,14 @@ use Rattle.proto_meaning.proofs.Joined.{joined_apart}
 use Rattle.proto_meaning.proofs.Rename.{hit_relative}
 use Rattle.proto_meaning.proofs.Sound.{package_from}
 use Rattle.proto_meaning.proofs.Symbols.{one_symbol, shown}
+use Rattle.proto_imports.proofs.PlainNames.{plain_join}
 use Rattle.proto_names.specs.LinkOfFiles.{HoldsNames}
 use Rattle.proto_names.specs.Linking.{LinkOf, NameOf, name_at, text_at}
 use Rattle.proto_rename_laws.proofs.PlacesSuit.{meaning_parts}
 use Rattle.proto_captures.specs.Capturing.{bytes_before, is_cons, shown_from}
 use Rattle.proto_captures.specs.Overtaking.{fits_seen, is_marked, is_seen, overtakes_words, sees_text}
 use Rattle.proto_captures.specs.ShownTexts.{below, first_fits}
-use Rattle.proto_captures.proofs.ByTexts.{below_is, named_at, plain_join}
+use Rattle.proto_captures.proofs.ByTexts.{below_is, named_at}
 use Rattle.proto_captures.proofs.CapturedWords.{plain_take, taken}
 use Rattle.proto_captures.proofs.FrontLengths.{before_first, deeper, not_deeper, scan_from, scan_to}
 use Rattle.proto_captures.proofs.KindNamed.{found_at}

@@ -25,16 +25,16 @@ use Rattle.proto_meaning.specs.Tree.{Items, no_items, packaged, item, Member, fi
 use Rattle.proto_meaning.proofs.Edited.{map_append, map_map}
 use Rattle.proto_meaning.proofs.Items.{prefix_whole}
 use Rattle.proto_rename_laws.proofs.Declarations.{declared_by, declared_there}
-use Rattle.proto_imports.proofs.PlainNames.{name_in}
+use Rattle.proto_imports.proofs.PlainNames.{name_in, plain_join}
 use Rattle.proto_rename_laws.proofs.Scenes.{index_map}
 use Rattle.proto_table.proofs.Search.{joined_more}
 use Rattle.proto_tree.specs.Tree.{End}
 use Rattle.proto_captures.specs.Overtaking.{IsPackageSeen, fronts_from, is_marked, package_texts}
-use Rattle.proto_captures.proofs.ByTexts.{plain_join}
 use Rattle.proto_captures.proofs.Overtaken.{IsPackageIn}
 
 -- ---- a file's packages are the fronts of its package
 
+-- As EndAs of Declarations of proto_rename_laws, of another property.
 abbrev NoPackages : List Placed → Type 0
 NoPackages [] = Unit {0}
 NoPackages (p ∷ ps) = (is_package p.kind ≡ false) × NoPackages ps

@@ -25,7 +25,7 @@ use Rattle.proto_names.specs.LinkOfFiles.{IsLinkRead}
 use Rattle.proto_names.specs.Linking.{LinkOf, NameOf, name_at}
 use Rattle.proto_rename_laws.specs.Targets.{Target, IsNamed, may_rename, name_map}
 use Rattle.proto_rename_laws.proofs.NoLinkFault.{files_are_linked}
-use Rattle.proto_imports.proofs.PlainNames.{names_are_plain}
+use Rattle.proto_imports.proofs.PlainNames.{names_are_plain, plain_join}
 use Rattle.proto_meaning.specs.Grown.{at}
 use Rattle.proto_captures.specs.Aims.{IsAimedAt}
 use Rattle.proto_captures.specs.declared.aim.Aim.{Aim}
@@ -33,7 +33,7 @@ use Rattle.proto_captures.specs.Collisions.{IsNewNameTaken, IsOneTaken, IsTaken,
 use Rattle.proto_captures.specs.Looked.{HasText}
 use Rattle.proto_captures.proofs.Aimed.{may_not_package, spelled, symbol_at}
 use Rattle.proto_captures.proofs.LookedUp.{named_by}
-use Rattle.proto_captures.proofs.JoinedNames.{joined_last, lead, plain_join, plain_parts, word_is_plain}
+use Rattle.proto_captures.proofs.JoinedNames.{joined_last, lead, plain_parts, word_is_plain}
 use Rattle.proto_captures.proofs.NewNames.{below_word, collisions_are_new_names}
 
 may_not_entry : (k : Kind) → may_rename k ≡ true → k ≢ Entry

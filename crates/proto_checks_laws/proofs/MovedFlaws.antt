@@ -41,7 +41,7 @@ use Rattle.proto_checks.specs.FileFlaws.{allows_alias, block_flaws, enum_flaws, 
 use Rattle.proto_checks_laws.specs.Imports.{ImportsMoveFlaws, IsMoved, moved}
 use Rattle.proto_checks_laws.proofs.MovedParts.{any_kept, closed_ranges_moved, empty_kept, enum_ranges_moved, extension_words_moved, fields_moved, file_blocks_moved, file_options_moved, find_moved, flat_kept, flat_moved, maps_kept, maps_moved, move_block_of, move_field_of, move_option_of, none_kept, options_moved, reserved_names_moved, settings_moved, some_kept, statements_moved, values_moved}
 use Rattle.proto_checks.proofs.OptionNames.{earlier_map}
-use Rattle.proto_checks_laws.proofs.RenamedFlaws.{numbered, ranged}
+use Rattle.proto_checks_laws.proofs.RenamedFlaws.{numbered}
 
 -- ---- flaws that are others, moved
 
@@ -89,7 +89,7 @@ abbrev pub move_number_at : Move → NumberAt → NumberAt
 move_number_at g n = numbered (g n.token) n.number
 
 abbrev pub move_range_at : Move → RangeAt → RangeAt
-move_range_at g r = ranged (g r.token) r.first r.last
+move_range_at g r = record { token = g r.token; first = r.first; last = r.last }
 
 module _ (g : Move) where
   outside_moved : (limits : ℤ → Bool) (ns : List NumberAt) {ms : List NumberAt} → ms ≡ map (move_number_at g) ns → Moves g (outside limits ms) (outside limits ns)
@@ -148,12 +148,11 @@ module _ (g : Move) (a b : Scene) (is : IsMoved g a b) where
       go (range_end.Max i) = refl
 
   pub range_moved : (r : Range ℕ) → range_of b (move_range g g r) ≡ move_range_at g (range_of a r)
-  range_moved r = ap₂ (ranged (g r.first)) (number_moved r.first) (end_moved most_field g (number_at a) (number_at b) number_moved r.first r.up_to)
+  range_moved r = λ i. record { token = g r.first; first = number_moved r.first i; last = end_moved most_field g (number_at a) (number_at b) number_moved r.first r.up_to i }
 
   pub enum_range_moved : (r : Range Signed) → enum_range_of b (move_range g (move_signed g) r) ≡ move_range_at g (enum_range_of a r)
   enum_range_moved r =
-      ap (λ t. ranged t (signed_at b (move_signed g r.first)) (end_of most_value (signed_at b) (move_signed g r.first) (move_option (move_up_to g (move_signed g)) r.up_to))) (first_moved r.first)
-      ∙ ap₂ (ranged (g (first_of_signed r.first))) (signed_moved r.first) (end_moved most_value (move_signed g) (signed_at a) (signed_at b) signed_moved r.first r.up_to)
+      λ i. record { token = first_moved r.first i; first = signed_moved r.first i; last = end_moved most_value (move_signed g) (signed_at a) (signed_at b) signed_moved r.first r.up_to i }
 
   pub field_number_moved : (f : FieldOf) → number_of_field b (move_field_of g f) ≡ move_number_at g (number_of_field a f)
   field_number_moved f = ap (numbered (g f.number)) (number_moved f.number)

@@ -99,9 +99,6 @@ clashes_none s fs =
 abbrev pub numbered : ℕ → ℤ → NumberAt
 numbered token number = record { token = token; number = number }
 
-abbrev pub ranged : ℕ → ℤ → ℤ → RangeAt
-ranged token first last = record { token = token; first = first; last = last }
-
 -- ---- enums that are the same but for their values
 
 -- what is read of an enum besides its values
@@ -260,12 +257,12 @@ module _ (named : ℕ → Bool) (a b : Scene) (differ : DifferInNames named a b)
   range_same : (r : Range ℕ) → Kept (range_tokens (λ t. t) r) → range_of a r ≡ range_of b r
   range_same r k =
       let e = number_same r.first k.0 in
-      ap₂ (λ (x y : ℤ). ranged r.first x y) e (end_same (λ t. t) most_field (number_at a) (number_at b) number_same r.first r.up_to e k.1)
+      λ i. record { token = r.first; first = e i; last = end_same (λ t. t) most_field (number_at a) (number_at b) number_same r.first r.up_to e k.1 i }
 
   enum_range_same : (r : Range Signed) → Kept (range_tokens (λ (s : Signed). s.number) r) → enum_range_of a r ≡ enum_range_of b r
   enum_range_same r k =
       let e = signed_same r.first k.0 in
-      ap₂ (λ (x y : ℤ). ranged (first_of_signed r.first) x y) e (end_same (λ (s : Signed). s.number) most_value (signed_at a) (signed_at b) signed_same r.first r.up_to e k.1)
+      λ i. record { token = first_of_signed r.first; first = e i; last = end_same (λ (s : Signed). s.number) most_value (signed_at a) (signed_at b) signed_same r.first r.up_to e k.1 i }
 
   field_number_same : (f : FieldOf) → Kept (field_tokens a f) → number_of_field a f ≡ number_of_field b f
   field_number_same f k = ap (λ (n : ℤ). numbered f.number n) (number_same f.number (field_kept f k).3.0)

@@ -17,10 +17,8 @@ use Rattle.proto_parts.specs.Parts.{FieldOf, statements, fields_in, values_in, r
 use Rattle.proto_parts.specs.Scenes.{Scene, text, number_at, signed_at}
 use Rattle.proto_numbers.specs.NumberFlaws.{is_within, most_field, most_value, least_value, range_of, enum_range_of, end_of}
 use Rattle.proto_numbers.proofs.CappedNumbers.{Alike, AlikeCaps, is_near, within_alike, near_within, same_near, past_or_none, capped, alike_at, alike_signed, alike_end}
-use Rattle.proto_descriptors.specs.declared.enumeration.EnumReservedRange.{EnumReservedRange}
-use Rattle.proto_descriptors.specs.declared.message.NumberRange.{NumberRange}
 use Rattle.proto_described.specs.Capped.{CapsKeepTheDescriptor}
-use Rattle.proto_descriptors.specs.Descriptors.{EnumDesc, MessageDesc, NoMessages, Message}
+use Rattle.proto_descriptors.specs.Descriptors.{NoMessages, Message}
 use Rattle.proto_described.specs.Described.{field_number, value_number, default_number, number_range, value_range, default_text, below, field_described, value_described, enum_described, enums_described, entry_described, message_described, messages_described, package_named, package_prefix, file_described}
 
 -- ---- numbers
@@ -44,7 +42,7 @@ default_number_same a b h = within_same (negsuc (2 ^ 63 - 1)) (pos (2 ^ 64 - 1))
 
 map_same : {A X : Type 0} (f g : A → X) → ((a : A) → f a ≡ g a) → (items : List A) → map f items ≡ map g items
 map_same f g h [] = refl
-map_same f g h (a ∷ items) = ap (λ x. x ∷ map f items) (h a) ∙ ap (λ l. g a ∷ l) (map_same f g h items)
+map_same f g h (a ∷ items) = λ i. h a i ∷ map_same f g h items i
 
 option_map_same : {A X : Type 0} (f g : A → X) → ((a : A) → f a ≡ g a) → (o : Option A) → option_map f o ≡ option_map g o
 option_map_same f g h None = refl
@@ -60,22 +58,16 @@ module _ (scene : Scene) (c d : Option ℕ) (caps : AlikeCaps c d) where
   two = capped scene d
 
   range_same : (r : Range ℕ) → number_range (range_of one r) ≡ number_range (range_of two r)
-  range_same r =
-      ap (λ n. record_of n (field_number (end_of most_field (number_at one) r.first r.up_to) + 1)) (field_number_same (number_at one r.first) (number_at two r.first) (alike_at scene c d caps r.first))
-      ∙ ap (λ n. record_of (field_number (number_at two r.first)) (n + 1))
-      (field_number_same (end_of most_field (number_at one) r.first r.up_to) (end_of most_field (number_at two) r.first r.up_to) (alike_end most_field (number_at one) (number_at two) (alike_at scene c d caps) r.first r.up_to))
-    where
-      record_of : ℕ → ℕ → NumberRange
-      record_of start end = record { start = start; end = end }
+  range_same r = λ i. record {
+    start = field_number_same (number_at one r.first) (number_at two r.first) (alike_at scene c d caps r.first) i;
+    end = field_number_same (end_of most_field (number_at one) r.first r.up_to) (end_of most_field (number_at two) r.first r.up_to) (alike_end most_field (number_at one) (number_at two) (alike_at scene c d caps) r.first r.up_to) i + 1;
+  }
 
   enum_range_same : (r : Range Signed) → value_range (enum_range_of one r) ≡ value_range (enum_range_of two r)
-  enum_range_same r =
-      ap (λ n. record_of n (value_number (end_of most_value (signed_at one) r.first r.up_to))) (value_number_same (signed_at one r.first) (signed_at two r.first) (alike_signed scene c d caps r.first))
-      ∙ ap (λ n. record_of (value_number (signed_at two r.first)) n)
-      (value_number_same (end_of most_value (signed_at one) r.first r.up_to) (end_of most_value (signed_at two) r.first r.up_to) (alike_end most_value (signed_at one) (signed_at two) (alike_signed scene c d caps) r.first r.up_to))
-    where
-      record_of : ℤ → ℤ → EnumReservedRange
-      record_of start end = record { start = start; end = end }
+  enum_range_same r = λ i. record {
+    start = value_number_same (signed_at one r.first) (signed_at two r.first) (alike_signed scene c d caps r.first) i;
+    end = value_number_same (end_of most_value (signed_at one) r.first r.up_to) (end_of most_value (signed_at two) r.first r.up_to) (alike_end most_value (signed_at one) (signed_at two) (alike_signed scene c d caps) r.first r.up_to) i;
+  }
 
   default_same : (v : Constant) → default_text one v ≡ default_text two v
   default_same (constant.Number n) = ap signed_decimal (default_number_same (signed_at one n) (signed_at two n) (alike_signed scene c d caps n))
@@ -83,51 +75,51 @@ module _ (scene : Scene) (c d : Option ℕ) (caps : AlikeCaps c d) where
   default_same (constant.Text j) = refl
 
   field_same : (full : List ℕ) (f : FieldOf) → field_described one full f ≡ field_described two full f
-  field_same full f =
-      ap (λ n. record (field_described one full f) { number = n }) (field_number_same (number_at one f.number) (number_at two f.number) (alike_at scene c d caps f.number))
-      ∙ ap (λ o. record (field_described two full f) { default_value = o }) (option_map_same (default_text one) (default_text two) default_same (value_named (text scene) (codes "default") f.options))
+  field_same full f = λ i. record (field_described one full f) {
+    number = field_number_same (number_at one f.number) (number_at two f.number) (alike_at scene c d caps f.number) i;
+    default_value = option_map_same (default_text one) (default_text two) default_same (value_named (text scene) (codes "default") f.options) i;
+  }
 
   value_same : (v : Value) → value_described one v ≡ value_described two v
-  value_same v = ap (λ n. record (value_described one v) { number = n }) (value_number_same (signed_at one v.number) (signed_at two v.number) (alike_signed scene c d caps v.number))
+  value_same v = λ i. record (value_described one v) { number = value_number_same (signed_at one v.number) (signed_at two v.number) (alike_signed scene c d caps v.number) i }
 
   enum_same : (name : ℕ) (within : Tree) → enum_described one name within ≡ enum_described two name within
-  enum_same name within =
-      ap (λ l. record (enum_described one name within) { value = l }) (map_same (value_described one) (value_described two) value_same (values_in within))
-      ∙ ap (λ l. record (enum_described two name within) { reserved_range = l }) (map_same (λ r. value_range (enum_range_of one r)) (λ r. value_range (enum_range_of two r)) enum_range_same (flat_map enum_ranges (statements within)))
+  enum_same name within = λ i. record (enum_described one name within) {
+    value = map_same (value_described one) (value_described two) value_same (values_in within) i;
+    reserved_range = map_same (λ r. value_range (enum_range_of one r)) (λ r. value_range (enum_range_of two r)) enum_range_same (flat_map enum_ranges (statements within)) i;
+  }
 
   enums_same : (tree : Tree) → enums_described one tree ≡ enums_described two tree
   enums_same End = refl
   enums_same (Leaf s rest) = enums_same rest
-  enums_same (Block (header.Enum h) opens within closes rest) = ap (λ e. e ∷ enums_described one rest) (enum_same h.name within) ∙ ap (λ l. enum_described two h.name within ∷ l) (enums_same rest)
+  enums_same (Block (header.Enum h) opens within closes rest) = λ i. enum_same h.name within i ∷ enums_same rest i
   enums_same (Block h opens within closes rest) = enums_same rest
 
   message_same : (full : List ℕ) (name : ℕ) (within : Tree) → message_described one full name within ≡ message_described two full name within
-  message_same full name within =
-      ap (λ l. record (message_described one full name within) { field = l }) (map_same (field_described one full) (field_described two full) (field_same full) (fields_in within))
-      ∙ ap (λ l. with_enums l) (enums_same within)
-      ∙ ap (λ l. with_extensions l) (map_same (λ r. number_range (range_of one r)) (λ r. number_range (range_of two r)) range_same (flat_map extension_ranges (statements within)))
-      ∙ ap (λ l. record (message_described two full name within) { reserved_range = l }) (map_same (λ r. number_range (range_of one r)) (λ r. number_range (range_of two r)) range_same (flat_map reserved_ranges (statements within)))
+  message_same full name within = λ i. record (message_described one full name within) {
+    field = map_same (field_described one full) (field_described two full) (field_same full) (fields_in within) i;
+    enum_type = enums_same within i;
+    extension_range = ranges (flat_map extension_ranges (statements within)) i;
+    reserved_range = ranges (flat_map reserved_ranges (statements within)) i;
+  }
     where
-      with_extensions : List NumberRange → MessageDesc
-      with_extensions l = record (message_described two full name within) { extension_range = l; reserved_range = map (λ r. number_range (range_of one r)) (flat_map reserved_ranges (statements within)) }
-
-      with_enums : List EnumDesc → MessageDesc
-      with_enums l = record (with_extensions (map (λ r. number_range (range_of one r)) (flat_map extension_ranges (statements within)))) { enum_type = l }
+      ranges : (rs : List (Range ℕ)) → map (λ r. number_range (range_of one r)) rs ≡ map (λ r. number_range (range_of two r)) rs
+      ranges = map_same (λ r. number_range (range_of one r)) (λ r. number_range (range_of two r)) range_same
 
   messages_same : (full : List ℕ) (tree : Tree) → messages_described one full tree ≡ messages_described two full tree
   messages_same full End = refl
   messages_same full (Leaf (statement.MapField f) rest) = ap (λ m. Message (entry_described scene f) NoMessages m) (messages_same full rest)
   messages_same full (Leaf s rest) = messages_same full rest
   messages_same full (Block (header.Message h) opens within closes rest) =
-      ap (λ m. Message m (messages_described one (below full (text scene h.name)) within) (messages_described one full rest)) (message_same (below full (text scene h.name)) h.name within)
-      ∙ ap (λ m. Message (message_described two (below full (text scene h.name)) h.name within) m (messages_described one full rest)) (messages_same (below full (text scene h.name)) within)
-      ∙ ap (λ m. Message (message_described two (below full (text scene h.name)) h.name within) (messages_described two (below full (text scene h.name)) within) m) (messages_same full rest)
+      let inner : List ℕ = below full (text scene h.name) in
+      λ i. Message (message_same inner h.name within i) (messages_same inner within i) (messages_same full rest i)
   messages_same full (Block h opens within closes rest) = messages_same full rest
 
   pub file_same : (path : List ℕ) (tree : Tree) → file_described one path tree ≡ file_described two path tree
-  file_same path tree =
-      ap (λ m. record (file_described one path tree) { message_type = m }) (messages_same (package_prefix (package_named scene (package_of (items_in tree)))) tree)
-      ∙ ap (λ l. record (file_described two path tree) { enum_type = l }) (enums_same tree)
+  file_same path tree = λ i. record (file_described one path tree) {
+    message_type = messages_same (package_prefix (package_named scene (package_of (items_in tree)))) tree i;
+    enum_type = enums_same tree i;
+  }
 
 pub caps_keep_the_descriptor : CapsKeepTheDescriptor
 caps_keep_the_descriptor scene path tree e = file_same scene scene.cap None (past_or_none scene.cap e) path tree

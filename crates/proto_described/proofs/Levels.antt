@@ -121,12 +121,13 @@ pub level_of : (m : MessageDescriptor-F MessageDescriptor) → message_tree (rol
 level_of m = fold-roll-MessageDescriptor MessageTree message_step m
 
 pub same_parts : (a b : MessageDesc) → a.name ≡ b.name → a.field ≡ b.field → a.enum_type ≡ b.enum_type → a.extension_range ≡ b.extension_range → a.oneof_decl ≡ b.oneof_decl → a.reserved_range ≡ b.reserved_range → a.reserved_name ≡ b.reserved_name → a.options ≡ b.options → a ≡ b
-same_parts a b n f e x o r w s =
-    ap (λ v. record { name = v; field = a.field; enum_type = a.enum_type; extension_range = a.extension_range; oneof_decl = a.oneof_decl; reserved_range = a.reserved_range; reserved_name = a.reserved_name; options = a.options }) n
-    ∙ ap (λ v. record { name = b.name; field = v; enum_type = a.enum_type; extension_range = a.extension_range; oneof_decl = a.oneof_decl; reserved_range = a.reserved_range; reserved_name = a.reserved_name; options = a.options }) f
-    ∙ ap (λ v. record { name = b.name; field = b.field; enum_type = v; extension_range = a.extension_range; oneof_decl = a.oneof_decl; reserved_range = a.reserved_range; reserved_name = a.reserved_name; options = a.options }) e
-    ∙ ap (λ v. record { name = b.name; field = b.field; enum_type = b.enum_type; extension_range = v; oneof_decl = a.oneof_decl; reserved_range = a.reserved_range; reserved_name = a.reserved_name; options = a.options }) x
-    ∙ ap (λ v. record { name = b.name; field = b.field; enum_type = b.enum_type; extension_range = b.extension_range; oneof_decl = v; reserved_range = a.reserved_range; reserved_name = a.reserved_name; options = a.options }) o
-    ∙ ap (λ v. record { name = b.name; field = b.field; enum_type = b.enum_type; extension_range = b.extension_range; oneof_decl = b.oneof_decl; reserved_range = v; reserved_name = a.reserved_name; options = a.options }) r
-    ∙ ap (λ v. record { name = b.name; field = b.field; enum_type = b.enum_type; extension_range = b.extension_range; oneof_decl = b.oneof_decl; reserved_range = b.reserved_range; reserved_name = v; options = a.options }) w
-    ∙ ap (λ v. record { name = b.name; field = b.field; enum_type = b.enum_type; extension_range = b.extension_range; oneof_decl = b.oneof_decl; reserved_range = b.reserved_range; reserved_name = b.reserved_name; options = v }) s
+same_parts a b n f e x o r w s = λ i. record {
+  name = n i;
+  field = f i;
+  enum_type = e i;
+  extension_range = x i;
+  oneof_decl = o i;
+  reserved_range = r i;
+  reserved_name = w i;
+  options = s i;
+}

@@ -80,9 +80,7 @@ same_place x y h =
     let offset : x.offset ≡ y.offset = ranked x.offset y.offset Equal (sym places.0) in
     let number : number_of x.kind ≡ number_of y.kind = ranked (number_of x.kind) (number_of y.kind) Equal (sym places.1) in
     let kind = kinds_by_number x.kind y.kind number in
-    ap (λ (p : List ℕ). record { path = p; offset = x.offset; kind = x.kind }) path
-    ∙ ap (λ (o : ℕ). record { path = y.path; offset = o; kind = x.kind }) offset
-    ∙ ap (λ (k : FaultKind). record { path = y.path; offset = y.offset; kind = k }) kind
+    λ i. record { path = path i; offset = offset i; kind = kind i }
 
 -- Two faults, neither before the other, are the same.
 pub neither_before : (x y : FaultAt) → (ComesBefore x y → ⊥) → (ComesBefore y x → ⊥) → x ≡ y

@@ -13,7 +13,6 @@ use Rattle.std.proofs.lemmas.List.Kept.{Any-dedup, Contains-from_dedup, IsStrict
 use Rattle.std.proofs.lemmas.List.Sorted.{Contains-permutation, IsPermutation-sym}
 use Rattle.std.proofs.lemmas.Map.Keys.{Less-from_sorted}
 use Rattle.proto_findings.specs.declared.finding.Finding.{Finding}
-use Rattle.proto_rules.specs.declared.rule.Rule.{Rule}
 use Rattle.proto_findings.specs.Listings.{FindingOf, IsListingOf, finding_cmp}
 use Rattle.proto_rules.specs.Rules.{identifier}
 use Rattle.proto_findings.specs.Views.{finding_of}
@@ -47,10 +46,7 @@ equal_findings f g e =
     let offset : f.offset ≡ g.offset = equal_numbers f.offset g.offset (front_equal offsets (ordering_then rules names) behind_path) in
     let rule : f.rule ≡ g.rule = same_identifier f.rule g.rule (equal_texts (identifier f.rule) (identifier g.rule) (front_equal rules names behind_offset)) in
     let name : f.name ≡ g.name = equal_texts f.name g.name (back_equal rules names behind_offset) in
-    ap (λ (p : List ℕ). let x : FindingOf = record { path = p; offset = f.offset; rule = f.rule; name = f.name } in x) path
-    ∙ ap (λ (o : ℕ). let x : FindingOf = record { path = g.path; offset = o; rule = f.rule; name = f.name } in x) offset
-    ∙ ap (λ (r : Rule). let x : FindingOf = record { path = g.path; offset = g.offset; rule = r; name = f.name } in x) rule
-    ∙ ap (λ (n : List ℕ). let x : FindingOf = record { path = g.path; offset = g.offset; rule = g.rule; name = n } in x) name
+    λ i. record { path = path i; offset = offset i; rule = rule i; name = name i }
 
 -- ---- lists and their views
 

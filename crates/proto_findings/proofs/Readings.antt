@@ -10,7 +10,7 @@ use Rattle.proto_tree.specs.References.{first_of}
 use Rattle.proto_files.specs.GivenFiles.{FileOf, file_at}
 use Rattle.proto_files.specs.FilesRead.{ReadOf, AreRead, read_at}
 use Rattle.proto_names.specs.declared.references.Meant.{Meant}
-use Rattle.proto_names.specs.LinkOfFiles.{IsLinkOf, TextMeant, meant_by_link}
+use Rattle.proto_names.specs.LinkOfFiles.{IsLinkOf, meant_by_link}
 use Rattle.proto_names.specs.Linking.{LinkOf, row_at, text_at}
 use Rattle.proto_files.proofs.ReadOnce.{tokens_at}
 use Rattle.proto_findings.specs.Readings.{read_of_file, Reading}
@@ -49,7 +49,4 @@ read_is files reads are l linked file within text same tokens lexed words spelle
     let t = tokens_at files reads are file tokens within lexed in
     let w : words ≡ map (lexeme_at (file_at files file).bytes) (read_at reads file).tokens = spelled ∙ ap (λ (b : List ℕ). map (lexeme_at b) tokens) same ∙ ap (map (lexeme_at (file_at files file).bytes)) t in
     let m = ((linked reads are).means file within).texts in
-    let means : List TextMeant = map (meant_by_link l) (get_or l.meant file []) in
-    ap (λ (ts : List Token). let r : Reading = record { tokens = ts; lexemes = words; means = means } in r) t
-    ∙ ap (λ (ls : List Lexeme). let r : Reading = record { tokens = (read_at reads file).tokens; lexemes = ls; means = means } in r) w
-    ∙ ap (λ (ms : List TextMeant). let r : Reading = record { tokens = (read_at reads file).tokens; lexemes = map (lexeme_at (file_at files file).bytes) (read_at reads file).tokens; means = ms } in r) m
+    λ i. record { tokens = t i; lexemes = w i; means = m i }

@@ -1,5 +1,6 @@
 mod CycleFaults
 pub mod FaultPlaces
+pub mod FileUses
 mod FilesAsked
 mod ImportFaults
 pub mod ImportGraph

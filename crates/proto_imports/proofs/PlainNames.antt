@@ -79,7 +79,7 @@ given_at (q ∷ ps) h p c = elim (contains_cases q p ps c) [ inl e ↦ subst (λ
 
 -- ---- the names of one file
 
-plain_join : (x : List (List ℕ)) (w : List ℕ) → ArePlain x → IsPlain w → ArePlain (x ++ w ∷ [])
+pub plain_join : (x : List (List ℕ)) (w : List ℕ) → ArePlain x → IsPlain w → ArePlain (x ++ w ∷ [])
 plain_join [] w p q = (q, tt)
 plain_join (v ∷ x) w p q = (p.0, plain_join x w p.1 q)
 

@@ -16,7 +16,7 @@ use Rattle.proto_faults.proofs.Lists.{word_from_same, same_from_word}
 use Rattle.proto_imports.proofs.Turned.{take_more}
 
 -- the first of some paths, or a later one
-position_cons : {X : Type 0} (p : X → Bool) (x : X) (xs : List X) → position p (x ∷ xs) ≡ cond (p x) (Some 0) (option_map suc (position p xs))
+pub position_cons : {X : Type 0} (p : X → Bool) (x : X) (xs : List X) → position p (x ∷ xs) ≡ cond (p x) (Some 0) (option_map suc (position p xs))
 position_cons p x xs = go (p x) (position_or_len p xs) (length xs)
   where
     go : (b : Bool) (n m : ℕ) → cond (nat_lt (cond (not b) (1 + n) 0) (suc m)) (Some (cond (not b) (1 + n) 0)) None ≡ cond b (Some 0) (option_map suc (cond (nat_lt n m) (Some n) None))

@@ -23,7 +23,7 @@ abbrev pub public_of : List FileImport → List ℕ
 public_of is = map (λ i. i.to) (filter (λ i. i.is_public) is)
 
 -- what passes a test, in a list
-in_filter : {X : Type 0} (p : X → Bool) (xs : List X) (x : X) → Contains (filter p xs) x → Contains xs x × (p x ≡ true)
+pub in_filter : {X : Type 0} (p : X → Bool) (xs : List X) (x : X) → Contains (filter p xs) x → Contains xs x × (p x ≡ true)
 in_filter p [] x c = absurd (omega (arith, c.1))
 in_filter p (y ∷ xs) x c = elim (cases_Bool (p y)) [
   | inl pass ↦ elim (contains_cases y x (filter p xs) (subst (λ z. Contains z x) (cond-true (p y) (y ∷ filter p xs) (filter p xs) pass) c)) [
@@ -33,7 +33,7 @@ in_filter p (y ∷ xs) x c = elim (cases_Bool (p y)) [
   | inr fail ↦ let r = in_filter p xs x (subst (λ z. Contains z x) (cond-false (p y) (y ∷ filter p xs) (filter p xs) fail) c) in (contains_later y x xs r.0, r.1)
 ]
 
-of_filter : {X : Type 0} (p : X → Bool) (xs : List X) (x : X) → Contains xs x → p x ≡ true → Contains (filter p xs) x
+pub of_filter : {X : Type 0} (p : X → Bool) (xs : List X) (x : X) → Contains xs x → p x ≡ true → Contains (filter p xs) x
 of_filter p [] x c e = absurd (omega (arith, c.1))
 of_filter p (y ∷ xs) x c e = elim (cases_Bool (p y)) [
   | inl pass ↦ subst (λ z. Contains z x) (sym (cond-true (p y) (y ∷ filter p xs) (filter p xs) pass)) (elim (contains_cases y x xs c) [

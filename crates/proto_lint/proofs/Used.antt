@@ -1,16 +1,16 @@
 -- An import is used where the files that declare what references mean are reached from its file.
-use Rattle.std.proofs.Common.{◌≡◌, ◌≢◌, ◌↔◌, ℕ, zero, suc, ◌+◌, ◌<◌, Bool, true, false, ◌&&◌, if◌then◌else◌, List, [], ◌∷◌, length, get_or, map, option_map, Option, None, Some, refl, sym, ◌∙◌, ap, subst, inl, inr, arith}
+use Rattle.std.proofs.Common.{◌≡◌, ◌≢◌, ◌↔◌, ℕ, suc, ◌+◌, ◌<◌, Bool, true, false, ◌&&◌, if◌then◌else◌, List, [], ◌∷◌, length, get_or, map, option_map, Option, None, Some, refl, sym, ◌∙◌, ap, subst, inl, inr, arith}
 use Rattle.std.specs.Prelude.{◌==◌}
 use Rattle.std.specs.List.{Contains}
 use Rattle.std.specs.Option.{option_and_then}
 use Rattle.std.proofs.lemmas.Bool.{true≢false, and_parts, and_from, eqb-true, eq-eqb}
 use Rattle.std.proofs.lemmas.List.{length-map}
-use Rattle.std.proofs.lemmas.List.Elements.{Contains-append_left, Contains-append_right, Contains-append_cases, Contains-get_or}
+use Rattle.std.proofs.lemmas.List.Elements.{Contains-append_cases, Contains-get_or}
 use Rattle.std.proofs.lemmas.Option.{none-some, same_Some}
 use Rattle.proto_faults.proofs.Lists.{any_from, any_to, contains_map, from_map}
 use Rattle.proto_files.specs.GivenFiles.{FileOf}
 use Rattle.proto_meaning.specs.Faults.{place_from, place_of}
-use Rattle.proto_meaning.specs.Grown.{At, at, FileNames, all_declared, all_used, declared_of, file_declared, file_used, used_in}
+use Rattle.proto_meaning.specs.Grown.{At, at, FileNames, all_declared, all_used, declared_of, file_declared, used_in}
 use Rattle.proto_meaning.specs.Joined.{ArePlain, joined}
 use Rattle.proto_meaning.specs.Linked.{is_package}
 use Rattle.proto_meaning.specs.Names.{Symbol, Reference, Workspace, Reaches, is_type, meaning, reaches, same_name}
@@ -22,8 +22,9 @@ use Rattle.proto_meaning.proofs.Basics.{name_from_same, same_from_name}
 use Rattle.proto_meaning.proofs.Joined.{joined_apart}
 use Rattle.proto_meaning.proofs.Renamed.{meant as meant_type}
 use Rattle.proto_meaning.proofs.Seeing.{reaches_all, reaches_only}
-use Rattle.proto_files.specs.FilesRead.{ReadOf, AreRead, read_at}
+use Rattle.proto_files.specs.FilesRead.{ReadOf, AreRead}
 use Rattle.proto_imports.specs.Links.{link_skeleton, names_in, names_of_files, text_of}
+use Rattle.proto_imports.proofs.FileUses.{use_from, use_in}
 use Rattle.proto_imports.proofs.Walks.{marked_within}
 use Rattle.proto_imports.specs.Links.{used_named}
 use Rattle.proto_imports.specs.Links.{uses_of}
@@ -35,27 +36,7 @@ use Rattle.proto_lint.specs.Imports.{is_reached, is_used}
 use Rattle.proto_lint.specs.ImportTables.{LeadsToMarked, MarksMeant}
 use Rattle.proto_lint.proofs.Reached.{reached_within}
 
--- ---- the references and the declarations of files, file after file
-
-use_in : (n k : ℕ) (rs : List ReadOf) (u : Used ℕ) → k < length rs → Contains (names_in (read_at rs k)).used u → Contains (all_used n (map names_in rs)) (used_in (n + k) u)
-use_in n k [] u l c = absurd (omega (arith, l))
-use_in n zero (r ∷ rs) u l c =
-    let z : n ≡ n + 0 = omega arith in
-    subst (λ m. Contains (all_used n (map names_in (r ∷ rs))) (used_in m u)) z (Contains-append_left (file_used n (names_in r)) (all_used (suc n) (map names_in rs)) (used_in n u) (contains_map (used_in n) (names_in r).used u c))
-use_in n (suc k) (r ∷ rs) u l c =
-    let z : suc n + k ≡ n + suc k = omega arith in
-    subst (λ m. Contains (all_used n (map names_in (r ∷ rs))) (used_in m u)) z (Contains-append_right (file_used n (names_in r)) (all_used (suc n) (map names_in rs)) (used_in (suc n + k) u) (use_in (suc n) k rs u (omega (arith, l)) c))
-
-use_from : (n : ℕ) (rs : List ReadOf) (u : Used At) → Contains (all_used n (map names_in rs)) u → (k : ℕ) × (k < length rs) × ((v : Used ℕ) × Contains (names_in (read_at rs k)).used v × (used_in (n + k) v ≡ u))
-use_from n [] u c = absurd (omega (arith, c.1))
-use_from n (r ∷ rs) u c = elim (Contains-append_cases (file_used n (names_in r)) (all_used (suc n) (map names_in rs)) u c) [
-  | inl h ↦
-      let v = from_map (used_in n) (names_in r).used u h in
-      (0, omega arith, (v.0, v.1, ap (λ m. used_in m v.0) {x = n + 0} {y = n} (omega arith) ∙ v.2))
-  | inr t ↦
-      let v = use_from (suc n) rs u t in
-      (suc v.0, omega (arith, v.1), (v.2.0, v.2.1, ap (λ m. used_in m v.2.0) {x = n + suc v.0} {y = suc n + v.0} (omega arith) ∙ v.2.2))
-]
+-- ---- the declarations of files, file after file
 
 place_stays : (file token : ℕ) (path : List (Source ℕ)) → (place_from (at file token) (map (shifted_source (at file)) path)).file ≡ file
 place_stays file token [] = refl

@@ -7,6 +7,7 @@ mod Listed
 mod MarkedNames
 mod MarkedTokens
 mod MarkedUses
+pub mod MovedHeads
 pub mod PackageFirst
 pub mod PlainEntries
 pub mod ReadTrees

@@ -278,16 +278,12 @@ module _ (W R S : ℕ → Type 0) where
       let used = member_uses (scope ++ Token h.name ∷ []) within in
       block_step W R S Uses uses_law (header.Message h) i within j rest n hi used (item_uses scope rest) a e
       (inside (header.Message h) within used (members_rise within (scope ++ Token h.name ∷ [])) n) (λ c b f. items_rise rest scope c hi b f)
-  items_rise (Block (header.Oneof h) i within j rest) scope n hi a e =
-      block_step W R S Uses uses_law (header.Oneof h) i within j rest n hi [] (item_uses scope rest) a e (nothing (header.Oneof h) within n) (λ c b f. items_rise rest scope c hi b f)
-  items_rise (Block (header.Enum h) i within j rest) scope n hi a e =
-      block_step W R S Uses uses_law (header.Enum h) i within j rest n hi [] (item_uses scope rest) a e (nothing (header.Enum h) within n) (λ c b f. items_rise rest scope c hi b f)
   items_rise (Block (header.Service h) i within j rest) scope n hi a e =
       let used = flat_uses (scope ++ Token h.name ∷ []) within in
       block_step W R S Uses uses_law (header.Service h) i within j rest n hi used (item_uses scope rest) a e
       (inside (header.Service h) within used (flat_rise within (scope ++ Token h.name ∷ [])) n) (λ c b f. items_rise rest scope c hi b f)
-  items_rise (Block (header.Method s) i within j rest) scope n hi a e =
-      block_step W R S Uses uses_law (header.Method s) i within j rest n hi [] (item_uses scope rest) a e (nothing (header.Method s) within n) (λ c b f. items_rise rest scope c hi b f)
+  items_rise (Block h i within j rest) scope n hi a e =
+      block_step W R S Uses uses_law h i within j rest n hi [] (item_uses scope rest) a e (nothing h within n) (λ c b f. items_rise rest scope c hi b f)
 
   -- ---- imports
 

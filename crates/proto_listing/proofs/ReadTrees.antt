@@ -55,7 +55,7 @@ none_pointed : (bytes : List ℕ) → Each is_identifier bytes → list_any (λ 
 none_pointed [] h = refl
 none_pointed (b ∷ bytes) h = ap (λ (t : Bool). t || list_any (λ b. b == 46) bytes) (no_point b h.0) ∙ none_pointed bytes h.1
 
-run_is_plain : (w : List ℕ) → IsRun Letter w → IsPlain w
+pub run_is_plain : (w : List ℕ) → IsRun Letter w → IsPlain w
 run_is_plain [] h = absurd h
 run_is_plain (b ∷ bytes) h = (none_pointed (b ∷ bytes) (ap extends_word h.0, h.1), λ e. cc)
 
@@ -74,7 +74,7 @@ no_text_in (k ∷ ks) c w h e = either (bytes_eq w k.word) h.0 (no_text_in ks c 
     either true x y = x
     either false x y = y
 
-text_only : (k : TokenKind) (w : List ℕ) → is_text (class_by k w) ≡ true → k ≡ Text
+pub text_only : (k : TokenKind) (w : List ℕ) → is_text (class_by k w) ≡ true → k ≡ Text
 text_only Text w h = refl
 text_only Word w h = absurd (no_word_text (class_by Word w) h (word_is_word w))
 text_only Number w h = absurd cc

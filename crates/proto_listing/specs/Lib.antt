@@ -1,3 +1,4 @@
 pub mod FromTree
 pub mod Listing
+pub mod Moved
 pub mod Roles

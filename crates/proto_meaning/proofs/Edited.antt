@@ -4,7 +4,7 @@ use Rattle.std.specs.List.{Contains}
 use Rattle.std.specs.Str.{bytes_eq}
 use Rattle.std.proofs.lemmas.Bool.{cases_Bool, cases_order, cond-true, cond-false, false_from_ne_true}
 use Rattle.std.proofs.lemmas.List.{get_or-map, length-map, get_or_default}
-use Rattle.proto_meaning.specs.Names.{Package, Entry, Symbol, Reference, Workspace, same_name, meaning}
+use Rattle.proto_meaning.specs.Names.{Package, Entry, Reference, Workspace, same_name, meaning}
 use Rattle.proto_meaning.specs.Edits.{Renaming, turned, turned_by, moves, ren, renamed, renamed_symbol, renamed_reference}
 use Rattle.proto_meaning.specs.Linked.{IsLinked, EntryFits, IsRenaming, IsFree}
 use Rattle.proto_meaning.specs.Skeleton.{Source, Token, EntryOf, Given, Declared, Used, Skeleton, spell, name_of, symbol_of, reference_of, workspace_of, IsWoven, IsAim, IsAimEntry, renaming_of, IsRespelled, Means}
@@ -205,13 +205,12 @@ module _ {X : Type 0} (text text_after : X → List ℕ) (entry : List ℕ → L
 
   pub reference_after : (u : Used X) → Contains k.used u → reference_of text_after entry u ≡ renamed_reference e (workspace_of text entry k) (reference_of text entry u)
   reference_after u c =
-      ap (λ z. let r : Reference = record { file = u.file; scope = z; is_absolute = u.is_absolute; is_method = u.is_method; words = map text_after u.tokens } in r) (path_after (length u.scope) u.scope refl (woven.scopes u c))
-      ∙ ap (λ z. let r : Reference = record { file = u.file; scope = ren e (name_of text entry u.scope); is_absolute = u.is_absolute; is_method = u.is_method; words = z } in r) (spelled.words u c)
+      λ i. record { file = u.file; scope = path_after (length u.scope) u.scope refl (woven.scopes u c) i; is_absolute = u.is_absolute; is_method = u.is_method; words = spelled.words u c i }
 
   symbols_after : map (symbol_of text_after entry) k.declared ≡ map (renamed_symbol e) (map (symbol_of text entry) k.declared)
   symbols_after =
       map_agree (symbol_of text_after entry) (λ d. renamed_symbol e (symbol_of text entry d)) k.declared
-      (λ d c. ap (λ z. let s : Symbol = record { name = z; kind = d.kind; file = d.file } in s) (name_after d c))
+      (λ d c. λ i. record { name = name_after d c i; kind = d.kind; file = d.file })
       ∙ sym (map_map (symbol_of text entry) (renamed_symbol e) k.declared)
 
   references_after : map (reference_of text_after entry) k.used ≡ map (renamed_reference e (workspace_of text entry k)) (map (reference_of text entry) k.used)
@@ -221,9 +220,7 @@ module _ {X : Type 0} (text text_after : X → List ℕ) (entry : List ℕ → L
 
   -- the edited text spells the renamed workspace
   pub workspace_after : workspace_of text_after entry k ≡ renamed e (workspace_of text entry k)
-  workspace_after =
-      ap (λ s. let w : Workspace = record { files = k.files; symbols = s; imports = k.imports; references = map (reference_of text_after entry) k.used } in w) symbols_after
-      ∙ ap (λ r. let w : Workspace = record { files = k.files; symbols = map (renamed_symbol e) (map (symbol_of text entry) k.declared); imports = k.imports; references = r } in w) references_after
+  workspace_after = λ i. record { files = k.files; symbols = symbols_after i; imports = k.imports; references = references_after i }
 
   -- the name map is that of its declaration
   pub aim_renaming : IsRenaming e (workspace_of text entry k)

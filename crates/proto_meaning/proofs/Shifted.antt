@@ -1,6 +1,6 @@
 -- Where tokens come in or go, names and references are spelled as before (for the crates above).
 use Rattle.std.proofs.Common.{◌≡◌, ℕ, List, refl, ◌∙◌, ap, map}
-use Rattle.proto_meaning.specs.Names.{Symbol, Import, Reference, Workspace}
+use Rattle.proto_meaning.specs.Names.{Import}
 use Rattle.proto_meaning.specs.Edits.{with_imports}
 use Rattle.proto_meaning.specs.Skeleton.{Source, Token, EntryOf, Given, Skeleton, spell, name_of, symbol_of, reference_of, workspace_of, shifted_source, shifted_declared, shifted_used, shifted}
 use Rattle.proto_meaning.proofs.Edited.{map_agree, map_map}
@@ -19,12 +19,12 @@ module _ {X Y : Type 0} (f : X → Y) (text : X → List ℕ) (text_after : Y �
 
   pub workspace_shifted : (imports : List Import) (k : Skeleton X) → workspace_of text_after entry (shifted f imports k) ≡ with_imports (workspace_of text entry k) imports
   workspace_shifted imports k =
-      ap (λ s. let w : Workspace = record { files = k.files; symbols = s; imports = imports; references = map (reference_of text_after entry) (map (shifted_used f) k.used) } in w)
-      (map_map (shifted_declared f) (symbol_of text_after entry) k.declared
+      let symbols : map (symbol_of text_after entry) (map (shifted_declared f) k.declared) ≡ map (symbol_of text entry) k.declared =
+      map_map (shifted_declared f) (symbol_of text_after entry) k.declared
       ∙ map_agree (λ d. symbol_of text_after entry (shifted_declared f d)) (symbol_of text entry) k.declared
-      (λ d c. ap (λ z. let s : Symbol = record { name = z; kind = d.kind; file = d.file } in s) (name_shifted d.path)))
-      ∙ ap (λ r. let w : Workspace = record { files = k.files; symbols = map (symbol_of text entry) k.declared; imports = imports; references = r } in w)
-      (map_map (shifted_used f) (reference_of text_after entry) k.used
+      (λ d c. λ i. record { name = name_shifted d.path i; kind = d.kind; file = d.file }) in
+      let references : map (reference_of text_after entry) (map (shifted_used f) k.used) ≡ map (reference_of text entry) k.used =
+      map_map (shifted_used f) (reference_of text_after entry) k.used
       ∙ map_agree (λ u. reference_of text_after entry (shifted_used f u)) (reference_of text entry) k.used
-      (λ u c. ap (λ z. let r : Reference = record { file = u.file; scope = z; is_absolute = u.is_absolute; is_method = u.is_method; words = map text_after (map f u.tokens) } in r) (name_shifted u.scope)
-      ∙ ap (λ z. let r : Reference = record { file = u.file; scope = name_of text entry u.scope; is_absolute = u.is_absolute; is_method = u.is_method; words = z } in r) (words_shifted u.tokens)))
+      (λ u c. λ i. record { file = u.file; scope = name_shifted u.scope i; is_absolute = u.is_absolute; is_method = u.is_method; words = words_shifted u.tokens i }) in
+      λ i. record { files = k.files; symbols = symbols i; imports = imports; references = references i }

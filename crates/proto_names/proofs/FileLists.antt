@@ -1,5 +1,5 @@
 -- The lists of one file that was read (for the crates above).
-use Rattle.std.proofs.Common.{◌≡◌, ℕ, ◌<◌, Bool, false, List, [], ◌∷◌, ◌++◌, length, get_or, map, string_bytes, Option, Some, refl, sym, ◌∙◌, ap, subst, arith, append_assoc}
+use Rattle.std.proofs.Common.{◌≡◌, ℕ, ◌<◌, false, List, [], ◌∷◌, ◌++◌, length, get_or, map, string_bytes, Some, refl, sym, ◌∙◌, ap, subst, arith, append_assoc}
 use Rattle.std.specs.List.{All, Contains}
 use Rattle.std.proofs.lemmas.List.{map-append, append-nil}
 use Rattle.std.proofs.lemmas.List.Elements.{Contains-get_or}
@@ -12,7 +12,6 @@ use Rattle.proto_text.specs.Values.{value_of}
 use Rattle.proto_tree.specs.Reads.{Reads}
 use Rattle.proto_tree.specs.Tree.{Tree}
 use Rattle.proto_files.specs.GivenFiles.{FileOf, file_at}
-use Rattle.proto_meaning.specs.Faults.{Asked}
 use Rattle.proto_listing.specs.FromTree.{Wanted, file_names, imports_in, items_in}
 use Rattle.proto_meaning.specs.Grown.{At, at}
 use Rattle.proto_imports.specs.Importing.{asked_by, AreRising}
@@ -57,10 +56,7 @@ asked_here text file (w ∷ wanted) (x ∷ ws) h =
     let is_public : x.is_public ≡ w.is_public = cc in
     let path : Some (string_bytes x.path) ≡ value_of (text (at file w.path)) = cc in
     let rest : AreWritten (λ i. text (at file i)) wanted ws = record { tokens = cc; publics = cc; paths = cc } in
-    ap (λ (t : ℕ). let a : Asked = record { place = at file t; path = string_bytes x.path; is_public = x.is_public } in a ∷ map (asked_by file) ws) token
-    ∙ ap (λ (o : Option (List ℕ)). let a : Asked = record { place = at file w.path; path = or_nothing o; is_public = x.is_public } in a ∷ map (asked_by file) ws) path
-    ∙ ap (λ (b : Bool). let a : Asked = record { place = at file w.path; path = or_nothing (value_of (text (at file w.path))); is_public = b } in a ∷ map (asked_by file) ws) is_public
-    ∙ ap (λ (zs : List Asked). asked_as text file (wanted_of w) ∷ zs) (asked_here text file wanted ws rest)
+    λ i. record { place = at file (token i); path = or_nothing (path i); is_public = is_public i } ∷ asked_here text file wanted ws rest i
 
 no_import : Wanted
 no_import = record { path = 0; is_public = false }

@@ -60,9 +60,8 @@ module _ (text : At → List ℕ) (file : ℕ) (ds : List Placed) where
   -- a reference by the list is the one by the tree
   pub same_reference : (u : Use) → reference_by file (map (λ p. full (whole p)) ds) own u ≡ used_named text file (used_by ds u)
   same_reference u =
-      let r = used_named text file (used_by ds u) in
-      ap (λ z. let o : Reference = record { file = file; scope = z; is_absolute = r.is_absolute; is_method = r.is_method; words = map own (dotted u.reference.now.words) } in o) (scope_is u.scope)
-      ∙ ap (λ z. let o : Reference = record { file = file; scope = r.scope; is_absolute = r.is_absolute; is_method = r.is_method; words = z } in o) (sym (map_map (at file) text (dotted u.reference.now.words)))
+      let words = sym (map_map (at file) text (dotted u.reference.now.words)) in
+      λ i. record (used_named text file (used_by ds u)) { scope = scope_is u.scope i; words = words i }
 
 module _ (files : List FileOf) (reads : List ReadOf) (file : ℕ) (l : Listing) (is : IsListing (read_at reads file) l) where
   abbrev w : Workspace

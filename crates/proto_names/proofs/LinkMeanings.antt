@@ -6,7 +6,7 @@ use Rattle.std.proofs.lemmas.List.{get_or-map, length-map}
 use Rattle.proto_files.specs.GivenFiles.{FileOf, file_at}
 use Rattle.proto_names.specs.FileReferences.{AreFileMeant, uses_of}
 use Rattle.proto_meaning.specs.Joined.{joined}
-use Rattle.proto_names.specs.LinkOfFiles.{IsLinkBy, IsLinkRead, TextMeant, meant_by_link, meant_by_use}
+use Rattle.proto_names.specs.LinkOfFiles.{IsLinkBy, IsLinkRead, meant_by_link, meant_by_use}
 use Rattle.proto_names.specs.Linking.{LinkOf, name_of_row}
 use Rattle.proto_files.specs.FilesRead.{ReadOf, AreRead, read_at}
 use Rattle.proto_imports.specs.Links.{link_skeleton, names_of_files, text_of}
@@ -54,9 +54,7 @@ module _ (files : List FileOf) (reads : List ReadOf) (t : Table) (ok : IsTable t
       let tokens_on : map (λ (x : Meant). x.token) ms ≡ map (λ (x : Used ℕ). x.first) us = cc in
       let names_on : map (λ (x : Meant). Some (get_or (names_of t) x.row [])) ms ≡ map (λ r. option_map joined (meaning (names_of_files files reads) r)) (map (used_named (text_of files reads) file) us) = cc in
       let text = text_from t ok l same m.row (get_or (names_of t) m.row []) (rows 0 m (omega arith)) refl ∙ here in
-      ap (λ z. let o : TextMeant = record { token = z; text = (meant_by_link l m).text } in o ∷ map (meant_by_link l) ms) token
-      ∙ ap (λ z. let o : TextMeant = record { token = u.first; text = z } in o ∷ map (meant_by_link l) ms) text
-      ∙ ap (λ zs. meant_by_use files reads file u ∷ zs) (same_texts file us ms tokens_on (λ k d n. rows (suc k) d (omega (arith, n))) names_on)
+      λ i. record { token = token i; text = text i } ∷ same_texts file us ms tokens_on (λ k d n. rows (suc k) d (omega (arith, n))) names_on i
 
   pub is_link_read : AreRead files reads → IsLinkBy (text_of files reads) (link_skeleton files reads) l → length l.meant ≡ length files → ((k : ℕ) → k < length files → AreFileMeant t files reads k (get_or l.meant k [])) → IsLinkRead files reads l
   is_link_read are by sized means = record {

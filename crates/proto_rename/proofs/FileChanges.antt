@@ -7,7 +7,7 @@ use Rattle.std.proofs.lemmas.Bool.{cases_Bool, both_ways, eqb-true, eq-eqb}
 use Rattle.std.proofs.lemmas.List.{nil_from_length}
 use Rattle.proto_faults.specs.Texts.{text_limit}
 use Rattle.proto_text.specs.declared.lexer.Token.{Token}
-use Rattle.proto_text.specs.Edits.{Edit, new_len, old_len}
+use Rattle.proto_text.specs.Edits.{new_len, old_len}
 use Rattle.proto_text.specs.Texts.{token_edits}
 use Rattle.proto_text.specs.Tokens.{AreTokens}
 use Rattle.proto_faults.proofs.Lists.{any_from, any_to}
@@ -43,11 +43,7 @@ pub chosen_in_order : (bytes : List ℕ) (tokens : List Token) (places : List �
 chosen_in_order bytes tokens places are = marked_in_order 0 (length bytes) tokens (marked_from (replicate (length tokens) false) places) (tokens_in_order bytes tokens are)
 
 same_change : (a b : ChangeOf) → a.path ≡ b.path → a.before ≡ b.before → a.after ≡ b.after → a.splices ≡ b.splices → a ≡ b
-same_change a b p f t s =
-    ap (λ (z : List ℕ). let x : ChangeOf = record { path = z; before = a.before; after = a.after; splices = a.splices } in x) p
-    ∙ ap (λ (z : ℕ). let x : ChangeOf = record { path = b.path; before = z; after = a.after; splices = a.splices } in x) f
-    ∙ ap (λ (z : ℕ). let x : ChangeOf = record { path = b.path; before = b.before; after = z; splices = a.splices } in x) t
-    ∙ ap (λ (z : List Edit). let x : ChangeOf = record { path = b.path; before = b.before; after = b.after; splices = z } in x) s
+same_change a b p f t s = λ i. record { path = p i; before = f i; after = t i; splices = s i }
 
 module _ (files : List FileOf) (file : ℕ) (within : file < length files) (tokens : List Token) (lexed : AreTokens (file_at files file).bytes tokens) (places to : List ℕ) where
   abbrev bytes : List ℕ

@@ -1,11 +1,11 @@
 -- The words that stand for a target, by counting, are those by the front at the hit.
-use Rattle.std.proofs.Common.{◌≡◌, ◌≢◌, ◌↔◌, ℕ, zero, suc, ◌+◌, ◌<◌, true, List, [], ◌∷◌, ◌++◌, length, get_or, map, option_map, flat_map, Option, Some, None, refl, sym, ap, subst, ◌∙◌, inl, inr, arith, append_assoc, length-append, if◌then◌else◌}
+use Rattle.std.proofs.Common.{◌≡◌, ◌≢◌, ◌↔◌, ℕ, ◌+◌, ◌<◌, true, List, [], ◌∷◌, ◌++◌, length, get_or, map, option_map, flat_map, Option, Some, None, refl, sym, ap, subst, ◌∙◌, inl, inr, arith, append_assoc, length-append, if◌then◌else◌}
 use Rattle.std.specs.List.{Contains}
 use Rattle.std.specs.Option.{option_and_then}
 use Rattle.std.proofs.lemmas.List.{append-nil, length-map}
 use Rattle.std.proofs.lemmas.List.Elements.{Contains-append_left, Contains-append_right, Contains-append_cases}
 use Rattle.proto_case.specs.Camel.{entry_name}
-use Rattle.proto_faults.proofs.Lists.{contains_cases, contains_head, contains_later, contains_map, from_map}
+use Rattle.proto_faults.proofs.Lists.{contains_cases, contains_head, contains_later, contains_map}
 use Rattle.proto_tree.specs.References.{dotted}
 use Rattle.proto_tree.specs.Reads.{Reads}
 use Rattle.proto_tree.specs.Tree.{Tree}
@@ -17,7 +17,7 @@ use Rattle.proto_listing.specs.FromTree.{file_names}
 use Rattle.proto_listing.specs.Listing.{used_by}
 use Rattle.proto_listing.specs.declared.listing.Use.{Use}
 use Rattle.proto_meaning.specs.Edits.{Renaming, target}
-use Rattle.proto_meaning.specs.Grown.{At, at, all_used, file_used, used_in}
+use Rattle.proto_meaning.specs.Grown.{At, at, used_in}
 use Rattle.proto_meaning.specs.Joined.{ArePlain, joined}
 use Rattle.proto_meaning.specs.Linked.{IsLinked}
 use Rattle.proto_meaning.specs.Names.{Workspace, meaning, same_name}
@@ -37,32 +37,11 @@ use Rattle.proto_rename_laws.specs.Targets.{Target, IsNamed, name_map}
 use Rattle.proto_rename_laws.proofs.NoLinkFault.{files_are_linked}
 use Rattle.proto_rename_laws.proofs.Places.{from_flat_map, stands_at, to_flat_map}
 use Rattle.proto_rename_laws.proofs.PlacesSuit.{meaning_parts}
+use Rattle.proto_imports.proofs.FileUses.{use_from, use_in}
 use Rattle.proto_imports.proofs.PlainNames.{names_are_plain}
 use Rattle.proto_rename.specs.StandingTokens.{counted, from_end, listed, standing_tokens, words_behind}
 use Rattle.proto_rename.proofs.EndTokens.{cons_parts, end_split, is_listed, listed_is, same_fronts, split_end, split_map}
 use Rattle.proto_rename.proofs.NameTexts.{behind_is, is_behind}
-
--- ---- the references of files
-
-use_in : (n k : ℕ) (rs : List ReadOf) (u : Used ℕ) → k < length rs → Contains (names_in (read_at rs k)).used u → Contains (all_used n (map names_in rs)) (used_in (n + k) u)
-use_in n k [] u l c = absurd (omega (arith, l))
-use_in n zero (r ∷ rs) u l c =
-    let z : n ≡ n + 0 = omega arith in
-    subst (λ m. Contains (all_used n (map names_in (r ∷ rs))) (used_in m u)) z (Contains-append_left (file_used n (names_in r)) (all_used (suc n) (map names_in rs)) (used_in n u) (contains_map (used_in n) (names_in r).used u c))
-use_in n (suc k) (r ∷ rs) u l c =
-    let z : suc n + k ≡ n + suc k = omega arith in
-    subst (λ m. Contains (all_used n (map names_in (r ∷ rs))) (used_in m u)) z (Contains-append_right (file_used n (names_in r)) (all_used (suc n) (map names_in rs)) (used_in (suc n + k) u) (use_in (suc n) k rs u (omega (arith, l)) c))
-
-use_from : (n : ℕ) (rs : List ReadOf) (u : Used At) → Contains (all_used n (map names_in rs)) u → (k : ℕ) × (k < length rs) × ((v : Used ℕ) × Contains (names_in (read_at rs k)).used v × (used_in (n + k) v ≡ u))
-use_from n [] u c = absurd (omega (arith, c.1))
-use_from n (r ∷ rs) u c = elim (Contains-append_cases (file_used n (names_in r)) (all_used (suc n) (map names_in rs)) u c) [
-  | inl h ↦
-      let v = from_map (used_in n) (names_in r).used u h in
-      (0, omega arith, (v.0, v.1, ap (λ m. used_in m v.0) {x = n + 0} {y = n} (omega arith) ∙ v.2))
-  | inr t ↦
-      let v = use_from (suc n) rs u t in
-      (suc v.0, omega (arith, v.1), (v.2.0, v.2.1, ap (λ m. used_in m v.2.0) {x = n + suc v.0} {y = suc n + v.0} (omega arith) ∙ v.2.2))
-]
 
 -- ---- a word that stands for the target, by the words before it
 

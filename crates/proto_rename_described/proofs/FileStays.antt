@@ -25,15 +25,7 @@ use Rattle.proto_parts.specs.Parts.{FieldOf, OptionOf, closed_ranges, enum_range
 use Rattle.proto_parts.specs.Scenes.{EnumOf, Scene, enum_meant, number_at, signed_at, text, up_to, value}
 use Rattle.proto_parts.specs.Labels.{is_label}
 use Rattle.proto_numbers.specs.NumberFlaws.{bound_of, end_of, enum_range_of, first_of_signed, most_field, most_value, range_of}
-use Rattle.proto_parts.specs.declared.ranges.RangeAt.{RangeAt}
 use Rattle.proto_checks_laws.specs.Renamed.{DifferInNames, SameButValues, constant_tokens, end_tokens, enum_tokens, field_tokens, message_tokens, option_tokens, range_tokens, scalar_tokens, up_to_tokens, value_tokens}
-use Rattle.proto_descriptors.specs.declared.enumeration.EnumOptions.{EnumOptions}
-use Rattle.proto_descriptors.specs.declared.field.FieldOptions.{FieldOptions}
-use Rattle.proto_descriptors.specs.declared.message.MessageOptions.{MessageOptions}
-use Rattle.proto_descriptors.specs.declared.service.IdempotencyLevel.{IdempotencyLevel}
-use Rattle.proto_descriptors.specs.declared.service.MethodOptions.{MethodOptions}
-use Rattle.proto_descriptors.specs.declared.file.OptimizeMode.{OptimizeMode}
-use Rattle.proto_descriptors.specs.Descriptors.{FileOptionsDesc}
 use Rattle.proto_descriptors.specs.declared.field.FieldType.TheVariants as field_type
 use Rattle.proto_descriptors.specs.declared.field.Label.TheVariants as label
 use Rattle.proto_described.specs.Described.{enum_options, field_number, file_options, is_map, level_named, message_options, method_options, mode_named, number_range, scalar_type, type_of, value_described, value_number, value_range}
@@ -66,37 +58,6 @@ some_same None None h = refl
 some_same (Some d) (Some e) h = refl
 some_same None (Some e) h = absurd h
 some_same (Some d) None h = absurd h
-
--- ---- records by their parts
-
-abbrev ranged : ℕ → ℤ → ℤ → RangeAt
-ranged token first last = record { token = token; first = first; last = last }
-
-abbrev field_with : Option Bool → Option Bool → FieldOptions
-field_with p d = record { packed = p; deprecated = d }
-
-abbrev message_with : Option Bool → MessageOptions
-message_with d = record { deprecated = d; map_entry = false }
-
-abbrev enum_with : Option Bool → Option Bool → EnumOptions
-enum_with x d = record { allow_alias = x; deprecated = d }
-
-abbrev method_with : Option Bool → Option IdempotencyLevel → MethodOptions
-method_with d l = record { deprecated = d; idempotency_level = l }
-
-abbrev file_with : Option (List ℕ) → Option (List ℕ) → Option Bool → Option OptimizeMode → Option (List ℕ) → Option Bool → Option Bool → Option (List ℕ) → Option (List ℕ) → Option (List ℕ) → FileOptionsDesc
-file_with p c m o g d x i n h = record {
-  java_package = p;
-  java_outer_classname = c;
-  java_multiple_files = m;
-  optimize_for = o;
-  go_package = g;
-  deprecated = d;
-  cc_enable_arenas = x;
-  objc_class_prefix = i;
-  csharp_namespace = n;
-  php_namespace = h;
-}
 
 module _ (e : Renaming) (taken : Taken) (named : ℕ → Bool) (a b : Scene) (differ : DifferInNames named a b) (strings : (t : ℕ) → value b t ≡ value a t) where
   -- none of the tokens is renamed
@@ -150,36 +111,30 @@ module _ (e : Renaming) (taken : Taken) (named : ℕ → Bool) (a b : Scene) (di
   texts_same w os k = ap (option_and_then (text_value (value b))) (value_same w os k) ∙ option_agrees (value b) (value a) strings (value_named (text a) w os)
 
   pub message_options_stay : (os : List OptionOf) → Kept (flat_map (option_tokens a) os) → message_options b false os ≡ message_options a false os
-  message_options_stay os k = ap message_with (truth_same (codes "deprecated") refl os k)
+  message_options_stay os k = λ i. record { deprecated = truth_same (codes "deprecated") refl os k i; map_entry = false }
 
   pub enum_options_stay : (os : List OptionOf) → Kept (flat_map (option_tokens a) os) → enum_options b os ≡ enum_options a os
-  enum_options_stay os k = ap₂ enum_with (truth_same (codes "allow_alias") refl os k) (truth_same (codes "deprecated") refl os k)
+  enum_options_stay os k = λ i. record { allow_alias = truth_same (codes "allow_alias") refl os k i; deprecated = truth_same (codes "deprecated") refl os k i }
 
   pub method_options_stay : (os : List OptionOf) → Kept (flat_map (option_tokens a) os) → method_options b os ≡ method_options a os
-  method_options_stay os k = ap₂ method_with (truth_same (codes "deprecated") refl os k) (ap (option_map level_named) (words_same (codes "idempotency_level") refl os k))
+  method_options_stay os k = λ i. record { deprecated = truth_same (codes "deprecated") refl os k i; idempotency_level = option_map level_named (words_same (codes "idempotency_level") refl os k i) }
 
   pub service_options_stay : (within : Tree) → Kept (flat_map (option_tokens a) (options_in within)) → service_options e taken a b b within ≡ service_options e taken a b a within
   service_options_stay within k = truth_same (codes "deprecated") refl (options_in within) k
 
   pub file_options_stay : (os : List OptionOf) → Kept (flat_map (option_tokens a) os) → file_options b os ≡ file_options a os
-  file_options_stay os k =
-      let java = texts_same (codes "java_package") os k in
-      let outer = texts_same (codes "java_outer_classname") os k in
-      let many = truth_same (codes "java_multiple_files") refl os k in
-      let mode = ap (option_map mode_named) (words_same (codes "optimize_for") refl os k) in
-      let go = texts_same (codes "go_package") os k in
-      let old = truth_same (codes "deprecated") refl os k in
-      let arenas = truth_same (codes "cc_enable_arenas") refl os k in
-      let objc = texts_same (codes "objc_class_prefix") os k in
-      let csharp = texts_same (codes "csharp_namespace") os k in
-      let php = texts_same (codes "php_namespace") os k in
-      let f = file_options a os in
-      let g = file_options b os in
-      ap₂ (λ x y. file_with x y g.java_multiple_files g.optimize_for g.go_package g.deprecated g.cc_enable_arenas g.objc_class_prefix g.csharp_namespace g.php_namespace) java outer
-      ∙ ap₂ (λ x y. file_with f.java_package f.java_outer_classname x y g.go_package g.deprecated g.cc_enable_arenas g.objc_class_prefix g.csharp_namespace g.php_namespace) many mode
-      ∙ ap₂ (λ x y. file_with f.java_package f.java_outer_classname f.java_multiple_files f.optimize_for x y g.cc_enable_arenas g.objc_class_prefix g.csharp_namespace g.php_namespace) go old
-      ∙ ap₂ (λ x y. file_with f.java_package f.java_outer_classname f.java_multiple_files f.optimize_for f.go_package f.deprecated x y g.csharp_namespace g.php_namespace) arenas objc
-      ∙ ap₂ (λ x y. file_with f.java_package f.java_outer_classname f.java_multiple_files f.optimize_for f.go_package f.deprecated f.cc_enable_arenas f.objc_class_prefix x y) csharp php
+  file_options_stay os k = λ i. record {
+    java_package = texts_same (codes "java_package") os k i;
+    java_outer_classname = texts_same (codes "java_outer_classname") os k i;
+    java_multiple_files = truth_same (codes "java_multiple_files") refl os k i;
+    optimize_for = option_map mode_named (words_same (codes "optimize_for") refl os k i);
+    go_package = texts_same (codes "go_package") os k i;
+    deprecated = truth_same (codes "deprecated") refl os k i;
+    cc_enable_arenas = truth_same (codes "cc_enable_arenas") refl os k i;
+    objc_class_prefix = texts_same (codes "objc_class_prefix") os k i;
+    csharp_namespace = texts_same (codes "csharp_namespace") os k i;
+    php_namespace = texts_same (codes "php_namespace") os k i;
+  }
 
   -- ---- numbers
 
@@ -200,12 +155,12 @@ module _ (e : Renaming) (taken : Taken) (named : ℕ → Bool) (a b : Scene) (di
   range_stays : (r : Range ℕ) → Kept (range_tokens (λ t. t) r) → range_of b r ≡ range_of a r
   range_stays r k =
       let q = number_stays r.first (k r.first (contains_head r.first (up_to_tokens (λ t. t) r.up_to))) in
-      ap₂ (λ (x y : ℤ). ranged r.first x y) q (end_stays (λ t. t) most_field (number_at b) (number_at a) number_stays r.first r.up_to q (tail r.first (up_to_tokens (λ t. t) r.up_to) k))
+      λ i. record { token = r.first; first = q i; last = end_stays (λ t. t) most_field (number_at b) (number_at a) number_stays r.first r.up_to q (tail r.first (up_to_tokens (λ t. t) r.up_to) k) i }
 
   enum_range_stays : (r : Range Signed) → Kept (range_tokens (λ (s : Signed). s.number) r) → enum_range_of b r ≡ enum_range_of a r
   enum_range_stays r k =
       let q = signed_stays r.first (k r.first.number (contains_head r.first.number (up_to_tokens (λ (s : Signed). s.number) r.up_to))) in
-      ap₂ (λ (x y : ℤ). ranged (first_of_signed r.first) x y) q (end_stays (λ (s : Signed). s.number) most_value (signed_at b) (signed_at a) signed_stays r.first r.up_to q (tail r.first.number (up_to_tokens (λ (s : Signed). s.number) r.up_to) k))
+      λ i. record { token = first_of_signed r.first; first = q i; last = end_stays (λ (s : Signed). s.number) most_value (signed_at b) (signed_at a) signed_stays r.first r.up_to q (tail r.first.number (up_to_tokens (λ (s : Signed). s.number) r.up_to) k) i }
 
   -- ---- fields
 
@@ -246,7 +201,7 @@ module _ (e : Renaming) (taken : Taken) (named : ℕ → Bool) (a b : Scene) (di
           ap₂ (λ x y. if is_map f || x then label.Repeated else (if y then label.Required else label.Optional)) (label_stays (codes "repeated") f.label label_kept) (label_stays (codes "required") f.label label_kept);
       kind = ap (λ z. if is_map f then field_type.Message else z) (type_stays f.kind kind_kept);
       optional = ap₂ (λ x y. x && y) (sym differ.version) (label_stays (codes "optional") f.label label_kept);
-      options = ap₂ field_with (truth_same (codes "packed") refl f.options options_kept) (truth_same (codes "deprecated") refl f.options options_kept);
+      options = λ i. record { packed = truth_same (codes "packed") refl f.options options_kept i; deprecated = truth_same (codes "deprecated") refl f.options options_kept i };
       json = texts_same (codes "json_name") f.options options_kept;
       default = value_same (codes "default") f.options options_kept;
     }
@@ -297,4 +252,4 @@ module _ (e : Renaming) (taken : Taken) (named : ℕ → Bool) (a b : Scene) (di
 
     pub value_options_stay : (value_described b v).options ≡ (value_described a v).options
     value_options_stay =
-        ap (λ d. record (value_described a v).options { deprecated = d }) (truth_same (codes "deprecated") refl (settings_of v.settings) (tail v.number.number (flat_map (option_tokens a) (settings_of v.settings)) k))
+        λ i. record (value_described a v).options { deprecated = truth_same (codes "deprecated") refl (settings_of v.settings) (tail v.number.number (flat_map (option_tokens a) (settings_of v.settings)) k) i }

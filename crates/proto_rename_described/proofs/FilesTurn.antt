@@ -34,6 +34,7 @@ use Rattle.proto_meaning.proofs.Items.{package_within, prefix_whole}
 use Rattle.proto_meaning.proofs.Ren.{turn_below-nil}
 use Rattle.proto_meaning.proofs.Renamed.{has_meaning, meant}
 use Rattle.proto_meaning.proofs.Symbols.{package_stays}
+use Rattle.proto_meaning.proofs.Grown.{snoc_parts}
 use Rattle.proto_listing.specs.FromTree.{items_in}
 use Rattle.proto_imports.specs.Links.{link_skeleton, names_in, names_of_files, text_of}
 use Rattle.proto_imports.specs.Links.{used_named}
@@ -91,21 +92,11 @@ none_is : (o : Option ℕ) → is_none o ≡ true → is_some o ≡ false
 none_is None h = refl
 none_is (Some x) h = absurd cc
 
-abbrev final : {X : Type 0} → List X → Option X
-final [] = None
-final (x ∷ []) = Some x
-final (x ∷ y ∷ ys) = final (y ∷ ys)
-
-final_is : {X : Type 0} (a : List X) (x : X) → final (a ++ x ∷ []) ≡ Some x
-final_is [] x = refl
-final_is (y ∷ []) x = refl
-final_is (y ∷ z ∷ a) x = final_is (z ∷ a) x
-
 same_token : (i j : At) → ◌≡◌ {A = Source At} (Token i) (Token j) → i ≡ j
 same_token i j h = cc
 
 last_token_is : (a b : List (Source At)) (i j : At) → a ++ Token i ∷ [] ≡ b ++ Token j ∷ [] → i ≡ j
-last_token_is a b i j h = same_token i j (same_Some (Token i) (Token j) (sym (final_is a (Token i)) ∙ ap final h ∙ final_is b (Token j)))
+last_token_is a b i j h = same_token i j (snoc_parts a b (Token i) (Token j) h).1
 
 no_value : (o : Option EnumOf) → is_value_of o None ≡ true → ⊥
 no_value None h = cc

@@ -30,18 +30,9 @@ use Rattle.proto_parts.specs.Options.{value_named}
 use Rattle.proto_parts.specs.Parts.{FieldOf, OptionOf, fields_in, values_in, reserved_names_in, options_in}
 use Rattle.proto_parts.specs.Scenes.{MeantOf, Scene, text, value, meant_by}
 use Rattle.proto_parts.specs.JsonNames.{json_word, json_name_of, written_or}
-use Rattle.proto_descriptors.specs.declared.enumeration.EnumOptions.{EnumOptions}
-use Rattle.proto_descriptors.specs.declared.enumeration.EnumReservedRange.{EnumReservedRange}
-use Rattle.proto_descriptors.specs.declared.field.FieldOptions.{FieldOptions}
-use Rattle.proto_descriptors.specs.declared.field.FieldType.{FieldType}
-use Rattle.proto_descriptors.specs.declared.field.Label.{Label}
-use Rattle.proto_descriptors.specs.declared.file.Syntax.{Syntax}
-use Rattle.proto_descriptors.specs.declared.service.MethodOptions.{MethodOptions}
-use Rattle.proto_descriptors.specs.declared.message.MessageOptions.{MessageOptions}
-use Rattle.proto_descriptors.specs.declared.message.NumberRange.{NumberRange}
-use Rattle.proto_descriptors.specs.Descriptors.{FieldDesc, EnumValueDesc, EnumDesc, MessageDesc, Messages, NoMessages, Message, MethodDesc, ServiceDesc, FileOptionsDesc, FileDesc}
+use Rattle.proto_descriptors.specs.Descriptors.{EnumDesc, MessageDesc, Messages, NoMessages, Message, MethodDesc}
 use Rattle.proto_descriptors.specs.declared.file.Syntax.TheVariants as syntax
-use Rattle.proto_described.specs.Described.{absolute, below, default_text, entry_described, entry_field, enum_described, enums_described, field_described, field_type_name, is_map, message_described, messages_described, method_described, methods_described, oneof_names, package_named, package_prefix, scalar_type, services_described, type_name_of, type_of, type_text, value_described}
+use Rattle.proto_described.specs.Described.{absolute, below, default_text, entry_described, entry_field, enum_described, enums_described, field_described, field_type_name, file_described, is_map, message_described, messages_described, method_described, methods_described, oneof_names, package_named, package_prefix, scalar_type, services_described, type_name_of, type_of, type_text, value_described}
 use Rattle.proto_rename_described.specs.Mapped.{Taken, behind_first, dotted, mapped_default, mapped_enum, mapped_field, mapped_json, mapped_message, mapped_messages, mapped_method, mapped_name, mapped_service, mapped_value, parts, put_first, word_under, words_of}
 use Rattle.proto_rename_described.specs.Turns.{DescriptorsAreMapped, EntryTurns, EnumTurns, FieldTurns, IsUnder, MessageTurns, MethodTurns, MethodsTurn, Turned, Turns, ValueTurns, full, is_target, written_json}
 
@@ -88,61 +79,6 @@ ren_more e x w = turn_below-more e.parent (turned e) x w
 
 pub mapped_dotted : (e : Renaming) (x : List (List ℕ)) → ArePlain x → mapped_name e (dotted x) ≡ dotted (ren e x)
 mapped_dotted e x p = ap (λ z. dotted (ren e z)) (words_of_dotted x p)
-
--- ---- records by their parts
-
-abbrev field_of : List ℕ → ℕ → Label → FieldType → Option (List ℕ) → Option (List ℕ) → Option ℕ → Option (List ℕ) → Bool → FieldOptions → FieldDesc
-field_of n m l k t d o j p q = record { name = n; number = m; label = l; field_type = k; type_name = t; default_value = d; oneof_index = o; json_name = j; proto3_optional = p; options = q }
-
-same_field : {n n' : List ℕ} {m m' : ℕ} {l l' : Label} {k k' : FieldType} {t t' d d' : Option (List ℕ)} {o : Option ℕ} {j j' : Option (List ℕ)} {p p' : Bool} {q q' : FieldOptions}
-    → n ≡ n' → m ≡ m' → l ≡ l' → k ≡ k' → t ≡ t' → d ≡ d' → j ≡ j' → p ≡ p' → q ≡ q' → field_of n m l k t d o j p q ≡ field_of n' m' l' k' t' d' o j' p' q'
-same_field {n} {n'} {m} {m'} {l} {l'} {k} {k'} {t} {t'} {d} {d'} {o} {j} {j'} {p} {p'} {q} {q'} en em el ek et ed ej ep eq =
-    ap₂ (λ x y. field_of x y l k t d o j p q) en em
-    ∙ ap₂ (λ x y. field_of n' m' x y t d o j p q) el ek
-    ∙ ap₂ (λ x y. field_of n' m' l' k' x y o j p q) et ed
-    ∙ ap₂ (λ x y. field_of n' m' l' k' t' d' o x y q) ej ep
-    ∙ ap (λ x. field_of n' m' l' k' t' d' o j' p' x) eq
-
-abbrev enum_of : List ℕ → List EnumValueDesc → List EnumReservedRange → List (List ℕ) → EnumOptions → EnumDesc
-enum_of n v r s o = record { name = n; value = v; reserved_range = r; reserved_name = s; options = o }
-
-same_enum : {n n' : List ℕ} {v v' : List EnumValueDesc} {r r' : List EnumReservedRange} {s s' : List (List ℕ)} {o o' : EnumOptions} → n ≡ n' → v ≡ v' → r ≡ r' → s ≡ s' → o ≡ o' → enum_of n v r s o ≡ enum_of n' v' r' s' o'
-same_enum {n} {n'} {v} {v'} {r} {r'} {s} {s'} {o} {o'} en ev er es eo =
-    ap₂ (λ x y. enum_of x y r s o) en ev ∙ ap₂ (λ x y. enum_of n' v' x y o) er es ∙ ap (λ x. enum_of n' v' r' s' x) eo
-
-abbrev message_of : List ℕ → List FieldDesc → List EnumDesc → List NumberRange → List (List ℕ) → List NumberRange → List (List ℕ) → MessageOptions → MessageDesc
-message_of n f d x l r s o = record { name = n; field = f; enum_type = d; extension_range = x; oneof_decl = l; reserved_range = r; reserved_name = s; options = o }
-
-same_message : {n n' : List ℕ} {f f' : List FieldDesc} {d d' : List EnumDesc} {x x' : List NumberRange} {l l' : List (List ℕ)} {r r' : List NumberRange} {s s' : List (List ℕ)} {o o' : MessageOptions}
-    → n ≡ n' → f ≡ f' → d ≡ d' → x ≡ x' → l ≡ l' → r ≡ r' → s ≡ s' → o ≡ o' → message_of n f d x l r s o ≡ message_of n' f' d' x' l' r' s' o'
-same_message {n} {n'} {f} {f'} {d} {d'} {x} {x'} {l} {l'} {r} {r'} {s} {s'} {o} {o'} en ef ed ex el er es eo =
-    ap₂ (λ y z. message_of y z d x l r s o) en ef
-    ∙ ap₂ (λ y z. message_of n' f' y z l r s o) ed ex
-    ∙ ap₂ (λ y z. message_of n' f' d' x' y z s o) el er
-    ∙ ap₂ (λ y z. message_of n' f' d' x' l' r' y z) es eo
-
-abbrev method_of : List ℕ → List ℕ → List ℕ → MethodOptions → Bool → Bool → MethodDesc
-method_of n i o q c s = record { name = n; input_type = i; output_type = o; options = q; client_streaming = c; server_streaming = s }
-
-same_method : {n n' i i' o o' : List ℕ} {q q' : MethodOptions} {c s : Bool} → n ≡ n' → i ≡ i' → o ≡ o' → q ≡ q' → method_of n i o q c s ≡ method_of n' i' o' q' c s
-same_method {n} {n'} {i} {i'} {o} {o'} {q} {q'} {c} {s} en ei eo eq = ap₂ (λ x y. method_of x y o q c s) en ei ∙ ap₂ (λ x y. method_of n' i' x y c s) eo eq
-
-abbrev service_of : List ℕ → List MethodDesc → Option Bool → ServiceDesc
-service_of n m d = record { name = n; method = m; options = record { deprecated = d } }
-
-same_service : {n n' : List ℕ} {m m' : List MethodDesc} {d d' : Option Bool} → n ≡ n' → m ≡ m' → d ≡ d' → service_of n m d ≡ service_of n' m' d'
-same_service {n} {n'} {m} {m'} {d} {d'} en em ed = ap₂ (λ x y. service_of x y d) en em ∙ ap (service_of n' m') ed
-
-abbrev file_of : List ℕ → Option (List ℕ) → List (List ℕ) → List ℕ → Messages → List EnumDesc → List ServiceDesc → FileOptionsDesc → Syntax → FileDesc
-file_of n p d u m e s o y = record { name = n; «package» = p; dependency = d; public_dependency = u; message_type = m; enum_type = e; service = s; options = o; syntax = y }
-
-same_file : {n : List ℕ} {p p' : Option (List ℕ)} {d d' : List (List ℕ)} {u : List ℕ} {m m' : Messages} {e e' : List EnumDesc} {s s' : List ServiceDesc} {o o' : FileOptionsDesc} {y y' : Syntax}
-    → p ≡ p' → d ≡ d' → m ≡ m' → e ≡ e' → s ≡ s' → o ≡ o' → y ≡ y' → file_of n p d u m e s o y ≡ file_of n p' d' u m' e' s' o' y'
-same_file {n} {p} {p'} {d} {d'} {u} {m} {m'} {e} {e'} {s} {s'} {o} {o'} {y} {y'} ep ed em ee es eo ey =
-    ap₂ (λ a b. file_of n a b u m e s o y) ep ed
-    ∙ ap₂ (λ a b. file_of n p' d' u a b s o y) em ee
-    ∙ ap₂ (λ a b. file_of n p' d' u m' e' a b y) es eo
-    ∙ ap (λ a. file_of n p' d' u m' e' s' o' a) ey
 
 module _ (e : Renaming) (taken : Taken) (a b : Scene) (strings : (t : ℕ) → value b t ≡ value a t) (means : (r : Reference) → IsUnder e (meant_by a r) (meant_by b r)) where
   -- ---- types
@@ -239,7 +175,18 @@ module _ (e : Renaming) (taken : Taken) (a b : Scene) (strings : (t : ℕ) → v
               ap (λ z. if not z then Some (json_word e.new) else Some j) w
 
       field_after : field_described b fb f ≡ mapped_field e taken x (field_described a fa f)
-      field_after = same_field (here (Token f.name) t.name) t.stays.number t.stays.label t.stays.kind field_type_after default_after json_after t.stays.optional t.stays.options
+      field_after = λ i. record {
+        name = here (Token f.name) t.name i;
+        number = t.stays.number i;
+        label = t.stays.label i;
+        field_type = t.stays.kind i;
+        type_name = field_type_after i;
+        default_value = default_after i;
+        oneof_index = f.oneof;
+        json_name = json_after i;
+        proto3_optional = t.stays.optional i;
+        options = t.stays.options i;
+      }
 
     fields_after : (fs : List FieldOf) → ((f : FieldOf) → Contains fs f → FieldTurns e taken a b path f) → map (field_described b fb) fs ≡ map (mapped_field e taken x) (map (field_described a fa) fs)
     fields_after fs h = map_agree (field_described b fb) (λ f. mapped_field e taken x (field_described a fa f)) fs (λ f c. field_after f (h f c)) ∙ sym (map_map (field_described a fa) (mapped_field e taken x) fs)
@@ -247,16 +194,19 @@ module _ (e : Renaming) (taken : Taken) (a b : Scene) (strings : (t : ℕ) → v
     -- ---- enums and oneofs
 
     value_after : (v : Value) → ValueTurns e taken a b path v → value_described b v ≡ mapped_value e x (value_described a v)
-    value_after v t =
-        ap (λ n. record (value_described b v) { name = n }) (here (Token v.name) t.name)
-        ∙ ap (λ n. record (value_described b v) { name = word_under e x (text a v.name); number = n }) t.number
-        ∙ ap (λ o. record (mapped_value e x (value_described a v)) { options = o }) t.options
+    value_after v t = λ i. record { name = here (Token v.name) t.name i; number = t.number i; options = t.options i }
 
     enum_after : (name : ℕ) (within : Tree) → Turned e taken a b path (Token name) → EnumTurns e taken a b path within → enum_described b name within ≡ mapped_enum e x (enum_described a name within)
     enum_after name within n t =
         let values : map (value_described b) (values_in within) ≡ map (mapped_value e x) (map (value_described a) (values_in within)) =
         map_agree (value_described b) (λ v. mapped_value e x (value_described a v)) (values_in within) (λ v c. value_after v (t.values v c)) ∙ sym (map_map (value_described a) (mapped_value e x) (values_in within)) in
-        same_enum (here (Token name) n) values t.reserved (reserved_names_after (reserved_names_in within)) t.options
+        λ i. record {
+          name = here (Token name) n i;
+          value = values i;
+          reserved_range = t.reserved i;
+          reserved_name = reserved_names_after (reserved_names_in within) i;
+          options = t.options i;
+        }
 
     enums_after : (tree : Tree) → Turns e taken a b path tree → enums_described b tree ≡ map (mapped_enum e x) (enums_described a tree)
     enums_after End t = refl
@@ -281,7 +231,12 @@ module _ (e : Renaming) (taken : Taken) (a b : Scene) (strings : (t : ℕ) → v
     -- ---- methods
 
     method_after : (s : Signature) (options : List OptionOf) → MethodTurns e taken a b path s options → method_described b s options ≡ mapped_method e x (method_described a s options)
-    method_after s options t = same_method (here (Token s.name) t.name) (type_text_after s.input.reference) (type_text_after s.output.reference) t.options_stay
+    method_after s options t = λ i. record (method_described b s options) {
+      name = here (Token s.name) t.name i;
+      input_type = type_text_after s.input.reference i;
+      output_type = type_text_after s.output.reference i;
+      options = t.options_stay i;
+    }
 
     methods_after : (tree : Tree) → MethodsTurn e taken a b path tree → methods_described b tree ≡ map (mapped_method e x) (methods_described a tree)
     methods_after End t = refl
@@ -305,15 +260,13 @@ module _ (e : Renaming) (taken : Taken) (a b : Scene) (strings : (t : ℕ) → v
           sym (ap (λ v. if v && not taken.written then Some (json_word e.new) else Some w) other)
 
       key_after : entry_field key_word 1 (scalar_type (text b f.key)) None ≡ mapped_field e taken inner (entry_field key_word 1 (scalar_type (text a f.key)) None)
-      key_after = same_field (sym t.key ∙ ap (λ z. word_under e z key_word) inner_is) refl refl t.key_type refl refl (json_same key_word t.no_key) refl refl
+      key_after = λ i. record (entry_field key_word 1 (t.key_type i) None) { name = (sym t.key ∙ ap (λ z. word_under e z key_word) inner_is) i; json_name = json_same key_word t.no_key i }
 
       item_after : entry_field value_word 2 (type_of b f.value) (type_name_of b f.value) ≡ mapped_field e taken inner (entry_field value_word 2 (type_of a f.value) (type_name_of a f.value))
-      item_after = same_field (sym t.value ∙ ap (λ z. word_under e z value_word) inner_is) refl refl t.value_type (type_name_after f.value) refl (json_same value_word t.no_value) refl refl
+      item_after = λ i. record (entry_field value_word 2 (t.value_type i) (type_name_after f.value i)) { name = (sym t.value ∙ ap (λ z. word_under e z value_word) inner_is) i; json_name = json_same value_word t.no_value i }
 
       entry_after : entry_described b f ≡ mapped_message e taken x inner (entry_described a f)
-      entry_after =
-          ap₂ (λ (n : List ℕ) (fs : List FieldDesc). record (entry_described a f) { name = n; field = fs }) (here (EntryOf f.name) t.name)
-          (ap₂ (λ (y z : FieldDesc). y ∷ z ∷ []) key_after item_after)
+      entry_after = λ i. record (entry_described a f) { name = here (EntryOf f.name) t.name i; field = key_after i ∷ item_after i ∷ [] }
 
   -- ---- messages
 
@@ -321,7 +274,16 @@ module _ (e : Renaming) (taken : Taken) (a b : Scene) (strings : (t : ℕ) → v
       → (above : List (List ℕ)) (name : ℕ) (within : Tree) → text b name ≡ word_under e above (text a name) → MessageTurns e taken a b path within → Turns e taken a b path within
       → message_described b fb name within ≡ mapped_message e taken above x (message_described a fa name within)
   message_after path x fa fb ex ea eb above name within n m t =
-      same_message n (fields_after path x fa fb ex ea eb (fields_in within) m.fields) (enums_after path x fa fb ex ea eb within t) m.extensions (oneofs_after path x fa fb ex ea eb within t) m.reserved (reserved_names_after (reserved_names_in within)) m.options
+      λ i. record {
+        name = n i;
+        field = fields_after path x fa fb ex ea eb (fields_in within) m.fields i;
+        enum_type = enums_after path x fa fb ex ea eb within t i;
+        extension_range = m.extensions i;
+        oneof_decl = oneofs_after path x fa fb ex ea eb within t i;
+        reserved_range = m.reserved i;
+        reserved_name = reserved_names_after (reserved_names_in within) i;
+        options = m.options i;
+      }
 
   messages_after : (tree : Tree) (path : List (Source ℕ)) (x : List (List ℕ)) (fa fb : List ℕ) → full e taken a b path ≡ x → fa ≡ dotted x → fb ≡ dotted (ren e x) → Turns e taken a b path tree
       → messages_described b fb tree ≡ mapped_messages e taken x (messages_described a fa tree)
@@ -335,11 +297,10 @@ module _ (e : Renaming) (taken : Taken) (a b : Scene) (strings : (t : ℕ) → v
       let px = path_more path x fa fb ex ea eb (Token h.name) in
       let pa = below_a path x fa fb ex ea eb w in
       let pb = below_b path x fa fb ex ea eb (text b h.name) w n in
-      ap₂ (λ (m : MessageDesc) (i : Messages). Message m i (messages_described b fb rest))
-      (message_after (path ++ Token h.name ∷ []) (x ++ w ∷ []) (below fa w) (below fb (text b h.name)) px pa pb x h.name within n t.1 t.2)
-      (messages_after within (path ++ Token h.name ∷ []) (x ++ w ∷ []) (below fa w) (below fb (text b h.name)) px pa pb t.2)
-      ∙ ap (λ (r : Messages). Message (mapped_message e taken x (x ++ w ∷ []) (message_described a (below fa w) h.name within)) (mapped_messages e taken (x ++ w ∷ []) (messages_described a (below fa w) within)) r)
-      (messages_after rest path x fa fb ex ea eb t.3)
+      λ i. Message
+      (message_after (path ++ Token h.name ∷ []) (x ++ w ∷ []) (below fa w) (below fb (text b h.name)) px pa pb x h.name within n t.1 t.2 i)
+      (messages_after within (path ++ Token h.name ∷ []) (x ++ w ∷ []) (below fa w) (below fb (text b h.name)) px pa pb t.2 i)
+      (messages_after rest path x fa fb ex ea eb t.3 i)
   messages_after (Block (header.Oneof h) opens within closes rest) path x fa fb ex ea eb t = messages_after rest path x fa fb ex ea eb t.1
   messages_after (Block (header.Enum h) opens within closes rest) path x fa fb ex ea eb t = messages_after rest path x fa fb ex ea eb t.2
   messages_after (Block (header.Service h) opens within closes rest) path x fa fb ex ea eb t = messages_after rest path x fa fb ex ea eb t.3
@@ -356,9 +317,8 @@ module _ (e : Renaming) (taken : Taken) (a b : Scene) (strings : (t : ℕ) → v
       let px = path_more path x fa fb ex ea eb (Token h.name) in
       let pa = below_a path x fa fb ex ea eb w in
       let pb = below_b path x fa fb ex ea eb (text b h.name) w n in
-      ap₂ (λ (d : ServiceDesc) (ds : List ServiceDesc). d ∷ ds)
-      (same_service n (methods_after (path ++ Token h.name ∷ []) (x ++ w ∷ []) (below fa w) (below fb (text b h.name)) px pa pb within t.1) t.2)
-      (services_after rest path x fa fb ex ea eb t.3)
+      let methods = methods_after (path ++ Token h.name ∷ []) (x ++ w ∷ []) (below fa w) (below fb (text b h.name)) px pa pb within t.1 in
+      λ i. record { name = n i; method = methods i; options = record { deprecated = t.2 i } } ∷ services_after rest path x fa fb ex ea eb t.3 i
   services_after (Block (header.Message h) opens within closes rest) path x fa fb ex ea eb t = services_after rest path x fa fb ex ea eb t.3
   services_after (Block (header.Oneof h) opens within closes rest) path x fa fb ex ea eb t = services_after rest path x fa fb ex ea eb t.1
   services_after (Block (header.Enum h) opens within closes rest) path x fa fb ex ea eb t = services_after rest path x fa fb ex ea eb t.2
@@ -391,8 +351,12 @@ descriptors_are_mapped e taken a b path tree t =
     let ms = messages_after e taken a b t.strings t.means tree (map (λ t. Token t) ts) x fa fb ex ea eb t.names in
     let es = enums_after e taken a b t.strings t.means (map (λ t. Token t) ts) x fa fb ex ea eb tree t.names in
     let ss = services_after e taken a b t.strings t.means tree (map (λ t. Token t) ts) x fa fb ex ea eb t.names in
-    same_file named (dependencies_after e taken a b t.strings t.means (imports_in tree))
-    (ms ∙ ap (λ z. mapped_messages e taken z (messages_described a fa tree)) (sym above))
-    (es ∙ ap (λ z. map (mapped_enum e z) (enums_described a tree)) (sym above))
-    (ss ∙ ap (λ z. map (mapped_service e z) (services_described a tree)) (sym above))
-    t.options (ap (λ v. if v then syntax.Proto3 else syntax.Proto2) t.version)
+    λ i. record (file_described b path tree) {
+      «package» = named i;
+      dependency = dependencies_after e taken a b t.strings t.means (imports_in tree) i;
+      message_type = (ms ∙ ap (λ z. mapped_messages e taken z (messages_described a fa tree)) (sym above)) i;
+      enum_type = (es ∙ ap (λ z. map (mapped_enum e z) (enums_described a tree)) (sym above)) i;
+      service = (ss ∙ ap (λ z. map (mapped_service e z) (services_described a tree)) (sym above)) i;
+      options = t.options i;
+      syntax = if t.version i then syntax.Proto3 else syntax.Proto2;
+    }

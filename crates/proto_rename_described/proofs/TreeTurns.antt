@@ -296,16 +296,7 @@ module _ (e : Renaming) (taken : Taken) (named : ℕ → Bool) (a b : Scene) (di
   )
   members_turn path (Leaf (statement.Field f) rest) w i r k =
       members_turn path rest w.1 (aft (placed path (field f.name)) (all_placed path (members_in rest)) i) r (λ g c. k g (contains_later (statement.Field f) (statement.MapField g) (statements rest) c))
-  members_turn path (Leaf (statement.Syntax s) rest) w i r k = members_turn path rest w.1 i r (λ g c. k g (contains_later (statement.Syntax s) (statement.MapField g) (statements rest) c))
-  members_turn path (Leaf (statement.Import s) rest) w i r k = members_turn path rest w.1 i r (λ g c. k g (contains_later (statement.Import s) (statement.MapField g) (statements rest) c))
-  members_turn path (Leaf (statement.Package s) rest) w i r k = members_turn path rest w.1 i r (λ g c. k g (contains_later (statement.Package s) (statement.MapField g) (statements rest) c))
-  members_turn path (Leaf (statement.Option s) rest) w i r k = members_turn path rest w.1 i r (λ g c. k g (contains_later (statement.Option s) (statement.MapField g) (statements rest) c))
-  members_turn path (Leaf (statement.Reserved s) rest) w i r k = members_turn path rest w.1 i r (λ g c. k g (contains_later (statement.Reserved s) (statement.MapField g) (statements rest) c))
-  members_turn path (Leaf (statement.Extensions s) rest) w i r k = members_turn path rest w.1 i r (λ g c. k g (contains_later (statement.Extensions s) (statement.MapField g) (statements rest) c))
-  members_turn path (Leaf (statement.Value s) rest) w i r k = members_turn path rest w.1 i r (λ g c. k g (contains_later (statement.Value s) (statement.MapField g) (statements rest) c))
-  members_turn path (Leaf (statement.EnumReserved s) rest) w i r k = members_turn path rest w.1 i r (λ g c. k g (contains_later (statement.EnumReserved s) (statement.MapField g) (statements rest) c))
-  members_turn path (Leaf (statement.Method s j) rest) w i r k = members_turn path rest w.1 i r (λ g c. k g (contains_later (statement.Method s j) (statement.MapField g) (statements rest) c))
-  members_turn path (Leaf (statement.Empty s) rest) w i r k = members_turn path rest w.1 i r (λ g c. k g (contains_later (statement.Empty s) (statement.MapField g) (statements rest) c))
+  members_turn path (Leaf s rest) w i r k = members_turn path rest w.1 i r (λ g c. k g (contains_later s (statement.MapField g) (statements rest) c))
   members_turn path (Block (header.Message h) opens within closes rest) w i r k =
       let below = path ++ Token h.name ∷ [] in
       let mine = placed path (message h.name (members_in within)) in
@@ -337,16 +328,7 @@ module _ (e : Renaming) (taken : Taken) (named : ℕ → Bool) (a b : Scene) (di
   items_turn path c o (Leaf (statement.MapField f) rest) w i r = absurd (no_map_field c o w.0)
   items_turn path c o (Leaf (statement.Package p) rest) w i r =
       items_turn path (after c kind.Package) (outer_after c kind.Package o) rest w.1 (aft (prefixes [] (dotted p.name)) (items_placed path (items_in rest)) i) r
-  items_turn path c o (Leaf (statement.Field f) rest) w i r = items_turn path (after c (statement_kind (statement.Field f))) (outer_after c (statement_kind (statement.Field f)) o) rest w.1 i r
-  items_turn path c o (Leaf (statement.Syntax s) rest) w i r = items_turn path (after c (statement_kind (statement.Syntax s))) (outer_after c (statement_kind (statement.Syntax s)) o) rest w.1 i r
-  items_turn path c o (Leaf (statement.Import s) rest) w i r = items_turn path (after c (statement_kind (statement.Import s))) (outer_after c (statement_kind (statement.Import s)) o) rest w.1 i r
-  items_turn path c o (Leaf (statement.Option s) rest) w i r = items_turn path (after c (statement_kind (statement.Option s))) (outer_after c (statement_kind (statement.Option s)) o) rest w.1 i r
-  items_turn path c o (Leaf (statement.Reserved s) rest) w i r = items_turn path (after c (statement_kind (statement.Reserved s))) (outer_after c (statement_kind (statement.Reserved s)) o) rest w.1 i r
-  items_turn path c o (Leaf (statement.Extensions s) rest) w i r = items_turn path (after c (statement_kind (statement.Extensions s))) (outer_after c (statement_kind (statement.Extensions s)) o) rest w.1 i r
-  items_turn path c o (Leaf (statement.Value s) rest) w i r = items_turn path (after c (statement_kind (statement.Value s))) (outer_after c (statement_kind (statement.Value s)) o) rest w.1 i r
-  items_turn path c o (Leaf (statement.EnumReserved s) rest) w i r = items_turn path (after c (statement_kind (statement.EnumReserved s))) (outer_after c (statement_kind (statement.EnumReserved s)) o) rest w.1 i r
-  items_turn path c o (Leaf (statement.Method s j) rest) w i r = items_turn path (after c (statement_kind (statement.Method s j))) (outer_after c (statement_kind (statement.Method s j)) o) rest w.1 i r
-  items_turn path c o (Leaf (statement.Empty s) rest) w i r = items_turn path (after c (statement_kind (statement.Empty s))) (outer_after c (statement_kind (statement.Empty s)) o) rest w.1 i r
+  items_turn path c o (Leaf s rest) w i r = items_turn path (after c (statement_kind s)) (outer_after c (statement_kind s) o) rest w.1 i r
   items_turn path c o (Block (header.Message h) opens within closes rest) w i r =
       let below = path ++ Token h.name ∷ [] in
       let mine = placed path (message h.name (members_in within)) in

@@ -34,6 +34,8 @@ EndsAs (Token t) k = is_written k ≡ true
 EndsAs (EntryOf t) k = k ≡ Entry
 EndsAs (Given w) k = k ≡ EntryField
 
+-- As AreGivenPlain of PlainNames of proto_imports, of another property: each takes three lines a kind of
+-- declaration, and one lemma over a property would ask for as many.
 abbrev EndAs : List Placed → Type 0
 EndAs [] = Unit {0}
 EndAs (p ∷ ps) = EndsAs p.last p.kind × EndAs ps

@@ -119,7 +119,7 @@ module _ (files : List FileOf) (reads : List ReadOf) (r : AreRead files reads) (
             let token : t.token ≡ u.token = same_token t.token u.token parts.1 in
             let is_map : t.is_map ≡ u.is_map = same_map u.token u.above t.is_map u.is_map (subst (λ z. IsAimEntry (link_skeleton files reads) u.token z t.is_map) parts.0 (subst (λ z. IsAimEntry (link_skeleton files reads) z t.above t.is_map) token a.entry)) b.entry in
             let enum : t.enum ≡ u.enum = same_enum u.aim u.token t.enum u.enum (subst (λ z. HasEnum files reads z u.token t.enum) aim (subst (λ z. HasEnum files reads t.aim z t.enum) token a.enum_is)) b.enum_is in
-            whole token parts.0 aim is_map enum
+            λ i. record { token = token i; above = parts.0 i; aim = aim i; is_map = is_map i; enum = enum i }
         | inr both ↦ absurd (is_package (ap may_rename (sym both.0) ∙ a.kind))
       ]
     where
@@ -128,14 +128,6 @@ module _ (files : List FileOf) (reads : List ReadOf) (r : AreRead files reads) (
 
       same_token : (x y : At) → ◌≡◌ {A = Source At} (Token x) (Token y) → x ≡ y
       same_token x y e = cc
-
-      whole : t.token ≡ u.token → t.above ≡ u.above → t.aim ≡ u.aim → t.is_map ≡ u.is_map → t.enum ≡ u.enum → t ≡ u
-      whole e1 e2 e3 e4 e5 =
-          ap (λ z. let x : Target = record { token = z; above = t.above; aim = t.aim; is_map = t.is_map; enum = t.enum } in x) e1
-          ∙ ap (λ z. let x : Target = record { token = u.token; above = z; aim = t.aim; is_map = t.is_map; enum = t.enum } in x) e2
-          ∙ ap (λ z. let x : Target = record { token = u.token; above = u.above; aim = z; is_map = t.is_map; enum = t.enum } in x) e3
-          ∙ ap (λ z. let x : Target = record { token = u.token; above = u.above; aim = u.aim; is_map = z; enum = t.enum } in x) e4
-          ∙ ap (λ z. let x : Target = record { token = u.token; above = u.above; aim = u.aim; is_map = u.is_map; enum = z } in x) e5
 
 pub targets_are_one : TargetsAreOne
 targets_are_one files reads name t u r clean a b = one_target files reads r (files_are_linked files reads r clean) name t u a b

@@ -6,10 +6,8 @@ use Rattle.std.specs.List.{Contains, find}
 use Rattle.std.specs.Str.{bytes_eq}
 use Rattle.std.proofs.lemmas.Bool.{cases_Bool, cases_lt, both_ways, false_from_ne_true}
 use Rattle.std.proofs.lemmas.Option.{same_Some}
-use Rattle.std.proofs.lemmas.List.Elements.{Contains-append_left, Contains-append_right}
 use Rattle.proto_case.specs.Camel.{entry_name}
 use Rattle.proto_case.proofs.EntryNames.{entry_differs}
-use Rattle.proto_text.proofs.OneEdit.{length_map}
 use Rattle.proto_text.specs.declared.kind.TokenKind.{TokenKind}
 use Rattle.proto_text.specs.declared.kind.TokenKind.TheVariants.{Word, Number, Text, Punctuation}
 use Rattle.proto_text.specs.Texts.{changed, or_word, word_at, AreWords}
@@ -26,7 +24,7 @@ use Rattle.proto_files.specs.GivenFiles.{FileOf}
 use Rattle.proto_files.specs.FilesRead.{ReadOf, read_at}
 use Rattle.proto_meaning.specs.Edits.{Renaming, ren, renamed}
 use Rattle.proto_meaning.specs.Faults.{place_of}
-use Rattle.proto_meaning.specs.Grown.{At, at, FileNames, used_in, file_used, all_used}
+use Rattle.proto_meaning.specs.Grown.{At, at, used_in}
 use Rattle.proto_meaning.specs.Linked.{IsRenaming}
 use Rattle.proto_meaning.specs.Names.{Workspace, Symbol, same_name, meaning}
 use Rattle.proto_meaning.specs.Skeleton.{Source, Declared, Used, Skeleton, name_of, symbol_of, reference_of, workspace_of, renaming_of}
@@ -35,9 +33,10 @@ use Rattle.proto_meaning.proofs.Edited.{workspace_after, reference_after, name_a
 use Rattle.proto_meaning.proofs.Renamed.{each_means, has_meaning, meant}
 use Rattle.proto_meaning.proofs.Symbols.{ren_apart}
 use Rattle.proto_listing.specs.FromTree.{file_names}
-use Rattle.proto_imports.specs.Links.{text_of, names_in, link_skeleton, names_of_files}
+use Rattle.proto_imports.specs.Links.{text_of, link_skeleton, names_of_files}
 use Rattle.proto_imports.specs.Links.{used_named}
 use Rattle.proto_imports.specs.Links.{uses_of}
+use Rattle.proto_imports.proofs.FileUses.{use_in}
 use Rattle.proto_parts.specs.Numbers.{number_of}
 use Rattle.proto_parts.specs.Parts.{BlockOf, blocks_in, statements, values_in}
 use Rattle.proto_parts.specs.Scenes.{EnumOf, MeantOf, is_proto3, is_proto3_statement, string_of, value_or_none}
@@ -49,7 +48,7 @@ use Rattle.proto_rename_laws.proofs.Rewording.{at_same, other_texts_stay, skelet
 
 -- ---- lists
 
-index_past : {A : Type 0} (xs : List A) (d : A) (k : ℕ) → length xs ≤ k → slice_index_or xs k d ≡ d
+pub index_past : {A : Type 0} (xs : List A) (d : A) (k : ℕ) → length xs ≤ k → slice_index_or xs k d ≡ d
 index_past [] d k l = refl
 index_past (x ∷ xs) d zero l = absurd (omega (arith, l))
 index_past (x ∷ xs) d (suc k) l = index_past xs d k (omega (arith, l))
@@ -92,16 +91,6 @@ statement_agrees v w h (statement.Syntax s) = ap (λ x. bytes_eq x (codes "proto
 statement_agrees v w h _ = refl
 
 -- ---- references of a file
-
-used_there : (n : ℕ) (fs : List FileNames) (k : ℕ) (f : FileNames) (u : Used ℕ) → k < length fs → slice_index_or fs k f ≡ f → Contains f.used u → Contains (all_used n fs) (used_in (n + k) u)
-used_there n [] k f u l e c = absurd (omega (arith, l))
-used_there n (x ∷ fs) zero f u l e c =
-    let here : Contains x.used u = subst (λ (z : FileNames). Contains z.used u) (sym e) c in
-    let zero_is : n ≡ n + 0 = omega arith in
-    subst (λ m. Contains (all_used n (x ∷ fs)) (used_in m u)) zero_is (Contains-append_left (file_used n x) (all_used (suc n) fs) (used_in n u) (contains_map (used_in n) x.used u here))
-used_there n (x ∷ fs) (suc k) f u l e c =
-    let more : suc n + k ≡ n + suc k = omega arith in
-    subst (λ m. Contains (all_used n (x ∷ fs)) (used_in m u)) more (Contains-append_right (file_used n x) (all_used (suc n) fs) (used_in (suc n + k) u) (used_there (suc n) fs k f u (omega (arith, l)) e c))
 
 pub index_map : {A B : Type 0} (f : A → B) (xs : List A) (d : A) (e : B) (k : ℕ) → k < length xs → slice_index_or (map f xs) k e ≡ f (slice_index_or xs k d)
 index_map f [] d e k l = absurd (omega (arith, l))
@@ -242,11 +231,8 @@ module _ (files : List FileOf) (reads : List ReadOf) (c : NewWords) (after : Lis
   pub used_here : (f : ℕ) → f < length files → (u : Used ℕ) → Contains (uses_of reads f) u → Contains k.used (used_in f u)
   used_here f l u h =
       let lr : f < length reads = omega (arith, l, r.read.same) in
-      let n = names_in (read_at reads f) in
-      let at_f : slice_index_or (map names_in reads) f n ≡ n = index_map names_in reads (record { tokens = []; tree = End }) n f lr in
-      let there = used_there 0 (map names_in reads) f n u (omega (arith, lr, length_map names_in reads)) at_f h in
       let e0 : 0 + f ≡ f = omega arith in
-      subst (λ m. Contains k.used (used_in m u)) e0 there
+      subst (λ m. Contains k.used (used_in m u)) e0 (use_in 0 f reads u lr h)
 
   -- what a reference means then
   pub meaning_after : (f : ℕ) → f < length files → (u : Used ℕ) → Contains (uses_of reads f) u → (m : List (List ℕ)) → meaning_of files reads f u ≡ Some m → meaning_of after seen f u ≡ Some (ren e m)

@@ -88,15 +88,7 @@ entry_kind reads d o a token e =
 
 is_value : (k : Kind) → (k ≡ Value) ⊎ (k ≢ Value)
 is_value Value = inl refl
-is_value Package = inr (λ e. cc)
-is_value Message = inr (λ e. cc)
-is_value Entry = inr (λ e. cc)
-is_value Enum = inr (λ e. cc)
-is_value Service = inr (λ e. cc)
-is_value Field = inr (λ e. cc)
-is_value EntryField = inr (λ e. cc)
-is_value Oneof = inr (λ e. cc)
-is_value Method = inr (λ e. cc)
+is_value _ = inr (λ e. cc)
 
 written : (k : Kind) → may_rename k ≡ true → is_written k ≡ true
 written Package h = refl

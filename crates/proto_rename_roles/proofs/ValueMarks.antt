@@ -149,11 +149,8 @@ signature_no s =
     (refl, (refl, both (flat_method_type s.input) (one_mark class.Returns s.returns ++ flat_method_type s.output) (method_type_no s.input) (refl, method_type_no s.output)))
 
 header_no : (h : Header) → No (flat_header h)
-header_no (header.Message h) = (refl, (refl, tt))
-header_no (header.Oneof h) = (refl, (refl, tt))
-header_no (header.Enum h) = (refl, (refl, tt))
-header_no (header.Service h) = (refl, (refl, tt))
 header_no (header.Method s) = signature_no s
+header_no _ = (refl, (refl, tt))
 
 -- ---- marks of values
 

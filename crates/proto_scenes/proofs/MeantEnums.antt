@@ -12,7 +12,7 @@ use Rattle.proto_meaning.specs.Grown.{At, at}
 use Rattle.proto_meaning.specs.Joined.{joined}
 use Rattle.proto_meaning.specs.Linked.{is_package}
 use Rattle.proto_names.specs.LinkOfFiles.{IsLinkRead, TextMeant, meant_by_link, meant_by_use}
-use Rattle.proto_names.specs.Linking.{LinkOf, NameOf, name_at, own_file, own_token, text_at}
+use Rattle.proto_names.specs.Linking.{LinkOf, NameOf, name_at, own_file, own_token}
 use Rattle.proto_files.specs.FilesRead.{ReadOf}
 use Rattle.proto_names.specs.Links.{link_skeleton, names_of_files, text_of}
 use Rattle.proto_meaning.specs.Names.{Symbol, is_type, same_name}
@@ -116,9 +116,11 @@ module _ (files : List FileOf) (reads : List ReadOf) (l : LinkOf) (link : IsLink
       go n there text None none = absurd (none-some n.text (sym (text ∙ ap (option_map joined) none)))
       go n there text (Some name) means =
           let same : n.text ≡ joined name = same_Some n.text (joined name) (text ∙ ap (option_map joined) means) in
-          ap (λ (t : ℕ). let x : MeantOf = record { token = t; name = or_nothing (text_at l m.row); enum = enum_of_name l enum m.row } in x) (ap (λ (z : TextMeant). z.token) e)
-          ∙ ap (λ (w : List ℕ). let x : MeantOf = record { token = u.first; name = w; enum = enum_of_name l enum m.row } in x) (ap (λ (o : Option NameOf). or_nothing (option_map (λ (y : NameOf). y.text) o)) there ∙ same)
-          ∙ ap (λ (o : Option EnumOf). let x : MeantOf = record { token = u.first; name = joined name; enum = o } in x) (enum_meant file u name means m.row n there same)
+          λ i. record {
+            token = (e i).token;
+            name = (ap (λ (o : Option NameOf). or_nothing (option_map (λ (y : NameOf). y.text) o)) there ∙ same) i;
+            enum = enum_meant file u name means m.row n there same i;
+          }
 
   pub means_are : (file : ℕ) → file < length files → map (meant_in_table l enum) (get_or l.meant file []) ≡ means_of files reads file
   means_are file within = go (get_or l.meant file []) (uses_of reads file) (link.means file within).texts (link.means file within).within

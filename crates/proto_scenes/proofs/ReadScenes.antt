@@ -29,10 +29,10 @@ module _ (files : List FileOf) (file : ℕ) (within : file < length files) (word
   pub scene_is : (proto3 : Bool) → proto3 ≡ is_proto3 (value_in words) tree → (means : List MeantOf) → means ≡ means_of files reads file
       → (scene : Scene) → scene ≡ (let s : Scene = record { lexemes = words; cap = Some past; is_proto3 = proto3; means = means } in s) → scene ≡ scene_of (Some past) files reads file
   scene_is proto3 p means m scene is =
-      is
-      ∙ ap (λ (ls : List Lexeme). let s : Scene = record { lexemes = ls; cap = Some past; is_proto3 = proto3; means = means } in s) words_are
-      ∙ ap (λ (b : Bool). let s : Scene = record { lexemes = lexemes_of files reads file; cap = Some past; is_proto3 = b; means = means } in s) (p ∙ proto3_is)
-      ∙ ap (λ (ms : List MeantOf). let s : Scene = record { lexemes = lexemes_of files reads file; cap = Some past; is_proto3 = is_proto3_file files reads file; means = ms } in s) m
+      let version : proto3 ≡ is_proto3_file files reads file = p ∙ proto3_is in
+      let now : (let s : Scene = record { lexemes = words; cap = Some past; is_proto3 = proto3; means = means } in s) ≡ scene_of (Some past) files reads file =
+      λ i. record { lexemes = words_are i; cap = Some past; is_proto3 = version i; means = m i } in
+      is ∙ now
 
   pub rows_are : {S : Type 0} (proto3 : Bool) → proto3 ≡ is_proto3 (value_in words) tree → (rows : IndexMap ℕ EnumRow S) → AreEnumsOf words proto3 (blocks_in tree) rows → (token : ℕ) → row_at rows token ≡ enum_at files reads (at file token)
   rows_are proto3 p rows h token =

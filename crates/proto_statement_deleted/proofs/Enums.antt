@@ -70,9 +70,13 @@ module _ (g : Move) (apart : (i j : ℕ) → g i ≡ g j → i ≡ j) (without l
 
   same_enum : (x : Tree) → enum_within lexemes proto3 (move_tree g x) ≡ enum_within without proto3 x
   same_enum x =
-      ap (λ (vs : List Value). let e : EnumOf = record { is_proto3 = proto3; starts_past_zero = starts_past_zero (word_at lexemes) vs; values = map (λ (v : Value). word_at lexemes v.name) vs } in e) (values_moved g x)
-      ∙ ap₂ (λ (b : Bool) (ns : List (List ℕ)). let e : EnumOf = record { is_proto3 = proto3; starts_past_zero = b; values = ns } in e) (same_start (values_in x))
-      (maps_kept (move_value g) (λ (v : Value). word_at without v.name) (λ (v : Value). word_at lexemes v.name) (λ v. same_word v.name) (values_in x))
+      let values : map (λ (v : Value). word_at lexemes v.name) (map (move_value g) (values_in x)) ≡ map (λ (v : Value). word_at without v.name) (values_in x) =
+      maps_kept (move_value g) (λ (v : Value). word_at without v.name) (λ (v : Value). word_at lexemes v.name) (λ v. same_word v.name) (values_in x) in
+      λ i. record {
+        is_proto3 = proto3;
+        starts_past_zero = (ap (starts_past_zero (word_at lexemes)) (values_moved g x) ∙ same_start (values_in x)) i;
+        values = (ap (map (λ (v : Value). word_at lexemes v.name)) (values_moved g x) ∙ values) i;
+      }
 
   mapped_twice : (o : Option BlockOf) → option_map (λ (b : BlockOf). enum_within lexemes proto3 b.within) (option_map (move_block_of g) o) ≡ option_map (λ (b : BlockOf). enum_within without proto3 b.within) o
   mapped_twice None = refl

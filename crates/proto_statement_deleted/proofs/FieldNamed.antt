@@ -1,27 +1,16 @@
 -- A name that no case refuses to delete is that of one field, and of its statement.
-use Rattle.std.proofs.Common.{◌≡◌, ℕ, ◌+◌, Option, Some, None, List, [], ◌∷◌, ◌++◌, map, refl, sym, ◌∙◌, ap, arith}
-use Rattle.std.proofs.lemmas.Option.{same_Some}
+use Rattle.std.proofs.Common.{◌≡◌, ℕ, ◌+◌, List, map, sym, ◌∙◌, ap, arith}
 use Rattle.proto_files.specs.FilesRead.{AreRead, ReadOf}
 use Rattle.proto_files.specs.GivenFiles.{FileOf}
 use Rattle.proto_meaning.specs.Grown.{At, at}
 use Rattle.proto_meaning.specs.Skeleton.{Declared, Source, Token, shifted_source}
+use Rattle.proto_meaning.proofs.Grown.{snoc_parts}
 use Rattle.proto_statement_names.specs.Targets.{Target}
 use Rattle.proto_statement_names.proofs.Declarations.{declared_by, path_of}
 use Rattle.proto_statement_changes.specs.DeletionChanges.{FieldAt, FieldsAreOne as StatementsAreOne, FieldsAreThere as StatementsAreThere, IsFieldAt}
 use Rattle.proto_statement_names.specs.Cases.{IsField}
 use Rattle.proto_statement_names.proofs.Fields.{fields_are_one, fields_are_there}
 use Rattle.proto_statement_deleted.specs.Workspace.{FieldsAreOne, FieldsMayBeDeleted}
-
--- the last of a list
-abbrev final : {X : Type 0} → List X → Option X
-final [] = None
-final (x ∷ []) = Some x
-final (x ∷ y ∷ ys) = final (y ∷ ys)
-
-final_is : {X : Type 0} (a : List X) (x : X) → final (a ++ x ∷ []) ≡ Some x
-final_is [] x = refl
-final_is (y ∷ []) x = refl
-final_is (y ∷ z ∷ a) x = final_is (z ∷ a) x
 
 same_token : (x y : At) → ◌≡◌ {A = Source At} (Token x) (Token y) → x ≡ y
 same_token x y h = cc
@@ -41,7 +30,7 @@ its_statement law files reads name t are is =
     let v = law files reads d.k d.p (omega (arith, inside, same)) d.within (ap (λ (z : Declared At). z.kind) d.is ∙ is.kind) in
     let path = path_of 0 reads t.aim d in
     let last : ◌≡◌ {A = Source At} (shifted_source (at (0 + d.k)) d.p.last) (Token t.token) =
-    same_Some (shifted_source (at (0 + d.k)) d.p.last) (Token t.token) (sym (final_is (map (shifted_source (at (0 + d.k))) d.p.above) (shifted_source (at (0 + d.k)) d.p.last)) ∙ ap final (sym path ∙ is.named.path) ∙ final_is t.above (Token t.token)) in
+    (snoc_parts (map (shifted_source (at (0 + d.k))) d.p.above) t.above (shifted_source (at (0 + d.k)) d.p.last) (Token t.token) (sym path ∙ is.named.path)).1 in
     record {
       field = v.0;
       token = sym (same_token (at (0 + d.k) v.0.name) t.token (ap (shifted_source (at (0 + d.k))) (sym v.3) ∙ last)) ∙ ap (λ (m : ℕ). at m v.0.name) (zero_is ∙ sym v.2);

@@ -1,5 +1,5 @@
 -- What the three trees of a deletion declare, use and import, as trees of a file.
-use Rattle.std.proofs.Common.{◌≡◌, ℕ, List, [], ◌∷◌, ◌++◌, map, refl, sym, ◌∙◌, ap, ap₂}
+use Rattle.std.proofs.Common.{◌≡◌, ℕ, List, [], ◌∷◌, ◌++◌, map, refl, sym, ◌∙◌, ap}
 use Rattle.std.specs.List.{Contains}
 use Rattle.std.proofs.lemmas.List.{append-nil}
 use Rattle.proto_tree.specs.declared.piece.Header.{Header}
@@ -13,25 +13,17 @@ use Rattle.proto_tree.specs.Tree.{Tree, End, Leaf, Block}
 use Rattle.proto_meaning.specs.declared.kind.Kind.TheVariants as kind
 use Rattle.proto_meaning.specs.Skeleton.{Source, Token, Used, shifted_source, shifted_used}
 use Rattle.proto_meaning.specs.Tree.{Placed, all_placed, beside, items_placed, package_of, place, prefixes}
-use Rattle.proto_meaning.proofs.Edited.{map_append, map_map}
-use Rattle.proto_listing.specs.FromTree.{file_names, statement_uses, Wanted, block_names, flat_uses, imports_in, item_uses, items_in, member_uses, members_in, method_names, no_names, picked, statement_imports, value_names}
+use Rattle.proto_meaning.proofs.Edited.{map_map}
+use Rattle.proto_listing.specs.FromTree.{file_names, statement_uses, block_names, flat_uses, item_uses, items_in, member_uses, members_in, method_names, no_names, picked, value_names}
+use Rattle.proto_listing.proofs.MovedHeads.{dotted_moved}
 use Rattle.proto_statement_names.specs.Files.{MayGoAt}
 use Rattle.proto_statement_names.specs.Lists.{HasMore, IsAny}
-use Rattle.proto_statement_names.specs.Trees.{move_placed, move_wanted}
-use Rattle.proto_statement_names.proofs.MovedNames.{both_moved, dotted_moved, flat_uses_moved, item_uses_moved, items_moved, member_uses_moved, names_moved, package_moved, path_more, path_of, prefixes_moved, trees_move_imports}
+use Rattle.proto_statement_names.specs.Trees.{move_placed}
+use Rattle.proto_statement_names.proofs.MovedNames.{both_moved, flat_uses_moved, item_uses_moved, items_moved, member_uses_moved, names_moved, path_more, path_of, prefixes_moved}
 use Rattle.proto_statement_described.specs.Deletions.{BehindBlock, BehindLeaf, Deeper, InMessage, IsDeletedIn, Reservation, WrittenField, statement_of}
+use Rattle.proto_statement_described.proofs.DeletedHeads.{imports_less, packages_less}
 use Rattle.proto_statement_deleted.specs.NamedTrees.{TreesAreNamed}
 use Rattle.proto_statement_deleted.proofs.NamedTrees.{InMembers, before_more, behind_more, both_placed, deeper_in, message_new, message_old, message_used, more_as, right_in}
-
--- ---- packages
-
-leaf_package : (h : Move) (a : Statement) (x t : Tree) → package_of (items_in t) ≡ map h (package_of (items_in x)) → package_of (items_in (Leaf (move_statement h a) t)) ≡ map h (package_of (items_in (Leaf a x)))
-leaf_package h (statement.Package p) x t e = dotted_moved h p.name
-leaf_package h _ x t e = e
-
-block_package : (h : Move) (y : Header) (i : ℕ) (w w' : Tree) (j : ℕ) (x t : Tree) → package_of (items_in t) ≡ map h (package_of (items_in x)) → package_of (items_in (Block (move_header h y) (h i) w' (h j) t)) ≡ map h (package_of (items_in (Block y i w j x)))
-block_package h (header.Message y) i w w' j x t e = e
-block_package h whole i w w' j x t e = e
 
 -- ---- what one item of a file declares
 
@@ -87,9 +79,7 @@ module _ (g : Move) where
   uses_past_item P scope (header.Service h) i within j x t m =
       behind_more (shifted_used g) P (item_uses scope x) (item_uses (path_of g scope) t) (flat_uses (scope ++ Token h.name ∷ []) within) (flat_uses (path_of g scope ++ Token (g h.name) ∷ []) (move_tree g within))
       (ap (λ p. flat_uses p (move_tree g within)) (sym (path_more g scope (Token h.name))) ∙ flat_uses_moved g (scope ++ Token h.name ∷ []) within) m
-  uses_past_item P scope (header.Oneof h) i within j x t m = m
-  uses_past_item P scope (header.Enum h) i within j x t m = m
-  uses_past_item P scope (header.Method h) i within j x t m = m
+  uses_past_item P scope whole i within j x t m = m
 
   uses_same_item : (scope : List (Source ℕ)) (h : Header) (i : ℕ) (within : Tree) (j : ℕ) (x t : Tree) → item_uses (path_of g scope) t ≡ map (shifted_used g) (item_uses scope x)
       → item_uses (path_of g scope) (Block (move_header g h) (g i) (move_tree g within) (g j) t) ≡ map (shifted_used g) (item_uses scope (Block h i within j x))
@@ -97,17 +87,7 @@ module _ (g : Move) where
       both_moved g (member_uses (scope ++ Token h.name ∷ []) within) (item_uses scope x) _ _ (ap (λ p. member_uses p (move_tree g within)) (sym (path_more g scope (Token h.name))) ∙ member_uses_moved g (scope ++ Token h.name ∷ []) within) m
   uses_same_item scope (header.Service h) i within j x t m =
       both_moved g (flat_uses (scope ++ Token h.name ∷ []) within) (item_uses scope x) _ _ (ap (λ p. flat_uses p (move_tree g within)) (sym (path_more g scope (Token h.name))) ∙ flat_uses_moved g (scope ++ Token h.name ∷ []) within) m
-  uses_same_item scope (header.Oneof h) i within j x t m = m
-  uses_same_item scope (header.Enum h) i within j x t m = m
-  uses_same_item scope (header.Method h) i within j x t m = m
-
-  -- ---- imports
-
-  statement_imports_moved : (a : Statement) → statement_imports (move_statement g a) ≡ map (move_wanted g) (statement_imports a)
-  statement_imports_moved a = sym (append-nil (statement_imports (move_statement g a))) ∙ trees_move_imports g (Leaf a End) ∙ ap (map (move_wanted g)) (append-nil (statement_imports a))
-
-  leaf_imports : (a : Statement) (x t : Tree) → imports_in t ≡ map (move_wanted g) (imports_in x) → imports_in (Leaf (move_statement g a) t) ≡ map (move_wanted g) (imports_in (Leaf a x))
-  leaf_imports a x t e = ap₂ (λ (y z : List Wanted). y ++ z) (statement_imports_moved a) e ∙ sym (map_append (move_wanted g) (statement_imports a) (imports_in x))
+  uses_same_item scope whole i within j x t m = m
 
 -- ---- the three trees
 
@@ -147,18 +127,6 @@ module _ (g k : Move) (w : WrittenField) (r : Reservation) (P : Used ℕ → Typ
         new_used = uses_same_item k path h i within j x u v.new_used;
       }
 
-  packages : (x t u : Tree) → IsDeletedIn g k w r x t u → (package_of (items_in t) ≡ map g (package_of (items_in x))) × (package_of (items_in u) ≡ map k (package_of (items_in x)))
-  packages _ _ _ (InMessage h i x t u j rest sw) = (package_moved g rest, package_moved k rest)
-  packages _ _ _ (Deeper h i x t u j rest sw) = (package_moved g rest, package_moved k rest)
-  packages _ _ _ (BehindLeaf a x t u sw) = let v = packages x t u sw in (leaf_package g a x t v.0, leaf_package k a x u v.1)
-  packages _ _ _ (BehindBlock h i within j x t u sw) = let v = packages x t u sw in (block_package g h i within (move_tree g within) j x t v.0, block_package k h i within (move_tree k within) j x u v.1)
-
-  imports : (x t u : Tree) → IsDeletedIn g k w r x t u → (imports_in t ≡ map (move_wanted g) (imports_in x)) × (imports_in u ≡ map (move_wanted k) (imports_in x))
-  imports _ _ _ (InMessage h i x t u j rest sw) = (trees_move_imports g rest, trees_move_imports k rest)
-  imports _ _ _ (Deeper h i x t u j rest sw) = (trees_move_imports g rest, trees_move_imports k rest)
-  imports _ _ _ (BehindLeaf a x t u sw) = let v = imports x t u sw in (leaf_imports g a x t v.0, leaf_imports k a x u v.1)
-  imports _ _ _ (BehindBlock h i within j x t u sw) = imports x t u sw
-
 tokens_moved : (g : Move) (ts : List ℕ) → map (λ i. Token i) (map g ts) ≡ path_of g (map (λ i. Token i) ts)
 tokens_moved g ts = map_map g (λ i. Token i) ts ∙ sym (map_map (λ i. Token i) (shifted_source g) ts)
 
@@ -166,7 +134,7 @@ tokens_moved g ts = map_map g (λ i. Token i) ts ∙ sym (map_map (λ i. Token i
 pub used_more : (g k : Move) (w : WrittenField) (r : Reservation) (P : Used ℕ → Type 0) → ((scope : List (Source ℕ)) (u : Used ℕ) → Contains (statement_uses scope (statement_of w)) u → P u) → (x t u : Tree) → IsDeletedIn g k w r x t u
     → HasMore P (map (shifted_used g) (file_names x).used) (file_names t).used
 used_more g k w r P so x t u sw =
-    let here : map (λ i. Token i) (package_of (items_in t)) ≡ path_of g (map (λ i. Token i) (package_of (items_in x))) = ap (map (λ i. Token i)) (packages g k w r P so x t u sw).0 ∙ tokens_moved g (package_of (items_in x)) in
+    let here : map (λ i. Token i) (package_of (items_in t)) ≡ path_of g (map (λ i. Token i) (package_of (items_in x))) = ap (map (λ i. Token i)) (packages_less g k w r x t u sw).0 ∙ tokens_moved g (package_of (items_in x)) in
     more_as (shifted_used g) P refl (ap (λ p. item_uses p t) here) (in_items g k w r P so (map (λ i. Token i) (package_of (items_in x))) x t u sw).old_used
 
 any_use : (w : WrittenField) (scope : List (Source ℕ)) (u : Used ℕ) → Contains (statement_uses scope (statement_of w)) u → IsAny u
@@ -175,8 +143,8 @@ any_use w scope u c = tt
 pub trees_are_named : TreesAreNamed
 trees_are_named g k w r x t u sw =
     let path : List (Source ℕ) = map (λ i. Token i) (package_of (items_in x)) in
-    let ps = packages g k w r IsAny (any_use w) x t u sw in
-    let is = imports g k w r IsAny (any_use w) x t u sw in
+    let ps = packages_less g k w r x t u sw in
+    let is = imports_less g k w r x t u sw in
     let v = in_items g k w r IsAny (any_use w) path x t u sw in
     let here : map (λ i. Token i) (package_of (items_in t)) ≡ path_of g path = ap (map (λ i. Token i)) ps.0 ∙ tokens_moved g (package_of (items_in x)) in
     record {

@@ -110,18 +110,14 @@ module _ (g : Move) where
       (ap (λ p. member_uses p (move_tree g within)) (sym (path_more g scope (Token h.name))) ∙ member_uses_moved g (scope ++ Token h.name ∷ []) within) m
   uses_past_block P scope (header.Oneof h) i within j x t m =
       behind_more (shifted_used g) P (member_uses scope x) (member_uses (path_of g scope) t) (flat_uses scope within) (flat_uses (path_of g scope) (move_tree g within)) (flat_uses_moved g scope within) m
-  uses_past_block P scope (header.Enum h) i within j x t m = m
-  uses_past_block P scope (header.Service h) i within j x t m = m
-  uses_past_block P scope (header.Method h) i within j x t m = m
+  uses_past_block P scope whole i within j x t m = m
 
   uses_same_block : (scope : List (Source ℕ)) (h : Header) (i : ℕ) (within : Tree) (j : ℕ) (x t : Tree) → member_uses (path_of g scope) t ≡ map (shifted_used g) (member_uses scope x)
       → member_uses (path_of g scope) (Block (move_header g h) (g i) (move_tree g within) (g j) t) ≡ map (shifted_used g) (member_uses scope (Block h i within j x))
   uses_same_block scope (header.Message h) i within j x t m =
       both_moved g (member_uses (scope ++ Token h.name ∷ []) within) (member_uses scope x) _ _ (ap (λ p. member_uses p (move_tree g within)) (sym (path_more g scope (Token h.name))) ∙ member_uses_moved g (scope ++ Token h.name ∷ []) within) m
   uses_same_block scope (header.Oneof h) i within j x t m = both_moved g (flat_uses scope within) (member_uses scope x) _ _ (flat_uses_moved g scope within) m
-  uses_same_block scope (header.Enum h) i within j x t m = m
-  uses_same_block scope (header.Service h) i within j x t m = m
-  uses_same_block scope (header.Method h) i within j x t m = m
+  uses_same_block scope whole i within j x t m = m
 
   -- ---- among the fields of a oneof
 

@@ -1,42 +1,39 @@
 -- What is read of files of which one loses a field.
-use Rattle.std.proofs.Common.{◌≡◌, ◌≢◌, ℕ, zero, suc, ◌+◌, ◌<◌, ◌≤◌, inl, inr, Bool, true, false, List, [], ◌∷◌, ◌++◌, length, map, slice_index_or, Option, Some, None, refl, sym, ◌∙◌, ap, ap₂, subst, arith}
+use Rattle.std.proofs.Common.{◌≡◌, ◌≢◌, ℕ, ◌+◌, ◌<◌, inl, inr, List, [], ◌∷◌, ◌++◌, length, map, Option, Some, None, refl, sym, ◌∙◌, ap, ap₂, subst, arith}
 use Rattle.std.specs.List.{Contains}
-use Rattle.std.proofs.lemmas.Bool.{cases_lt, true≢false}
+use Rattle.std.proofs.lemmas.Bool.{cases_lt}
 use Rattle.std.proofs.lemmas.List.{append-nil}
-use Rattle.std.proofs.lemmas.List.Elements.{Contains-append_left, Contains-append_right}
 use Rattle.proto_case.specs.Camel.{entry_name}
 use Rattle.proto_faults.proofs.Lists.{contains_map, from_map}
-use Rattle.proto_text.proofs.OneEdit.{length_map}
 use Rattle.proto_text.specs.Texts.{word_at}
 use Rattle.proto_text.specs.Tokens.{Lexeme}
 use Rattle.proto_tree.specs.Moved.{Move}
 use Rattle.proto_tree.specs.Tree.{Tree, End}
-use Rattle.proto_files.specs.FilesRead.{ReadOf, read_at}
+use Rattle.proto_files.specs.FilesRead.{ReadOf}
 use Rattle.proto_files.specs.GivenFiles.{FileOf}
-use Rattle.proto_meaning.specs.declared.kind.Kind.{Kind}
-use Rattle.proto_meaning.specs.declared.kind.Kind.TheVariants.{Package, Message, Entry, Enum, Service, Field, EntryField, Oneof, Value, Method}
-use Rattle.proto_meaning.specs.Grown.{FileNames, all_used, file_used, used_in}
+use Rattle.proto_meaning.specs.Grown.{used_in}
 use Rattle.proto_meaning.specs.Joined.{joined}
 use Rattle.proto_meaning.specs.Linked.{IsLinked}
-use Rattle.proto_meaning.specs.Names.{Reference, is_type, meaning}
+use Rattle.proto_meaning.specs.Names.{Reference, meaning}
 use Rattle.proto_meaning.specs.Skeleton.{Used, reference_of, shifted_used}
 use Rattle.proto_meaning.proofs.Edited.{map_agree, map_append, map_map}
 use Rattle.proto_meaning.proofs.Renamed.{has_meaning, meant}
 use Rattle.proto_listing.specs.FromTree.{file_names}
-use Rattle.proto_imports.specs.Links.{link_skeleton, names_in, names_of_files, text_of}
+use Rattle.proto_imports.specs.Links.{link_skeleton, names_of_files, text_of}
 use Rattle.proto_imports.specs.Links.{used_named}
 use Rattle.proto_imports.specs.Links.{uses_of}
+use Rattle.proto_imports.proofs.FileUses.{use_in}
 use Rattle.proto_parts.specs.Scenes.{EnumOf, MeantOf, Scene}
-use Rattle.proto_statement_described.specs.SceneOf.{enum_named, is_proto3_file, lexemes_of, meaning_of, meant_as, means_of}
+use Rattle.proto_statement_described.specs.SceneOf.{enum_named, is_proto3_file, meaning_of, meant_as, means_of}
 use Rattle.proto_checks_laws.proofs.MovedParts.{maps_moved}
-use Rattle.proto_statement_names.proofs.Scenes.{index_map}
 use Rattle.proto_statement_described.specs.Deletions.{Reservation, WrittenField}
 use Rattle.proto_statement_described.specs.Files.{scene_at, tree_at}
 use Rattle.proto_statement_described.specs.Scenes.{HasTokens, move_meant}
 use Rattle.proto_statement_names.specs.Kept.{MeanTheSame}
-use Rattle.proto_statement_names.specs.Less.{goes_with_field}
 use Rattle.proto_statement_names.specs.Lists.{HasMore}
+use Rattle.proto_statement_names.proofs.Less.{type_stays as type_keeps}
 use Rattle.proto_statement_names.proofs.Lists.{more_has}
+use Rattle.proto_statement_names.proofs.Scenes.{index_past}
 use Rattle.proto_statement_deleted.specs.Scenes.{IsReadWithout, OtherScenesStay, ScenesHaveTokens}
 use Rattle.proto_statement_deleted.proofs.Declared.{named, new_text, old_text, other_lexemes, other_texts, other_version, same_version, type_stays}
 use Rattle.proto_statement_deleted.proofs.NamedFiles.{used_more}
@@ -44,29 +41,11 @@ use Rattle.proto_statement_deleted.proofs.Spelled.{other_reference, referred_by}
 
 -- ---- references of a file
 
-index_past : {A : Type 0} (xs : List A) (d : A) (k : ℕ) → length xs ≤ k → slice_index_or xs k d ≡ d
-index_past [] d k l = refl
-index_past (x ∷ xs) d zero l = absurd (omega (arith, l))
-index_past (x ∷ xs) d (suc k) l = index_past xs d k (omega (arith, l))
-
-used_there : (n : ℕ) (fs : List FileNames) (k : ℕ) (f : FileNames) (u : Used ℕ) → k < length fs → slice_index_or fs k f ≡ f → Contains f.used u → Contains (all_used n fs) (used_in (n + k) u)
-used_there n [] k f u l e c = absurd (omega (arith, l))
-used_there n (x ∷ fs) zero f u l e c =
-    let here : Contains x.used u = subst (λ (z : FileNames). Contains z.used u) (sym e) c in
-    let zero_is : n ≡ n + 0 = omega arith in
-    subst (λ m. Contains (all_used n (x ∷ fs)) (used_in m u)) zero_is (Contains-append_left (file_used n x) (all_used (suc n) fs) (used_in n u) (contains_map (used_in n) x.used u here))
-used_there n (x ∷ fs) (suc k) f u l e c =
-    let more : suc n + k ≡ n + suc k = omega arith in
-    subst (λ m. Contains (all_used n (x ∷ fs)) (used_in m u)) more (Contains-append_right (file_used n x) (all_used (suc n) fs) (used_in (suc n + k) u) (used_there (suc n) fs k f u (omega (arith, l)) e c))
-
 -- what a file uses is a reference of the files
 pub is_referred : (files : List FileOf) (reads : List ReadOf) (f : ℕ) → f < length reads → (u : Used ℕ) → Contains (uses_of reads f) u → Contains (names_of_files files reads).references (used_named (text_of files reads) f u)
 is_referred files reads f l u c =
-    let n = names_in (read_at reads f) in
-    let at_f : slice_index_or (map names_in reads) f n ≡ n = index_map names_in reads (record { tokens = []; tree = End }) n f l in
-    let there = used_there 0 (map names_in reads) f n u (omega (arith, l, length_map names_in reads)) at_f c in
     let zero_is : 0 + f ≡ f = omega arith in
-    contains_map (reference_of (text_of files reads) entry_name) (link_skeleton files reads).used (used_in f u) (subst (λ m. Contains (link_skeleton files reads).used (used_in m u)) zero_is there)
+    contains_map (reference_of (text_of files reads) entry_name) (link_skeleton files reads).used (used_in f u) (subst (λ m. Contains (link_skeleton files reads).used (used_in m u)) zero_is (use_in 0 f reads u l c))
 
 -- a file that uses something is there
 is_there : (reads : List ReadOf) (f : ℕ) (u : Used ℕ) → Contains (uses_of reads f) u → f < length reads
@@ -77,18 +56,6 @@ is_there reads f u c = elim (cases_lt f (length reads)) [
       let none = subst (λ (us : List (Used ℕ)). Contains us u) nothing c in
       absurd (omega (arith, none.1))
 ]
-
-type_keeps : (k : Kind) → is_type k ≡ true → k ≢ Entry → goes_with_field k ≡ false
-type_keeps Message h ne = refl
-type_keeps Enum h ne = refl
-type_keeps Entry h ne = absurd (ne refl)
-type_keeps Package h ne = refl
-type_keeps Service h ne = refl
-type_keeps Field h ne = absurd (true≢false (sym h))
-type_keeps EntryField h ne = absurd (true≢false (sym h))
-type_keeps Oneof h ne = refl
-type_keeps Value h ne = refl
-type_keeps Method h ne = refl
 
 -- ---- what is meant
 
@@ -208,8 +175,12 @@ module _ (files : List FileOf) (reads : List ReadOf) (after : List FileOf) (seen
 
   other_scene : (j : ℕ) → j ≢ place → scene_at after seen j ≡ scene_at files reads j
   other_scene j n =
-      ap₂ (λ (ls : List Lexeme) (ms : List MeantOf). let s : Scene = record { lexemes = ls; cap = None; is_proto3 = is_proto3_file after seen j; means = ms } in s) (other_lexemes files reads after seen place g k w r x without is linked j n) (other_means j n)
-      ∙ ap (λ (b : Bool). let s : Scene = record { lexemes = lexemes_of files reads j; cap = None; is_proto3 = b; means = means_of files reads j } in s) (other_version files reads after seen place g k w r x without is linked j n)
+      λ i. record {
+        lexemes = other_lexemes files reads after seen place g k w r x without is linked j n i;
+        cap = None;
+        is_proto3 = other_version files reads after seen place g k w r x without is linked j n i;
+        means = other_means j n i;
+      }
 
 pub scenes_have_tokens : ScenesHaveTokens
 scenes_have_tokens files reads after seen place g k w r x without is linked same = record {

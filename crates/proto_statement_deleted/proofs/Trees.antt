@@ -56,22 +56,12 @@ pub was_message : (e : Context) (k : Kind) → after e k ≡ context.Message →
 was_message context.Message k h = refl
 was_message context.Start k h = absurd ((not_message k).0 h)
 was_message context.File k h = absurd ((not_message k).1 h)
-was_message context.Packaged k h = absurd cc
-was_message context.Oneof k h = absurd cc
-was_message context.Enum k h = absurd cc
-was_message context.Service k h = absurd cc
-was_message context.Method k h = absurd cc
+was_message _ k h = absurd cc
 
 -- a oneof stands in a message alone
 pub in_oneof : (c : Context) → allows c kind.OpenOneof ≡ true → c ≡ context.Message
 in_oneof context.Message h = refl
-in_oneof context.Start h = absurd cc
-in_oneof context.File h = absurd cc
-in_oneof context.Packaged h = absurd cc
-in_oneof context.Oneof h = absurd cc
-in_oneof context.Enum h = absurd cc
-in_oneof context.Service h = absurd cc
-in_oneof context.Method h = absurd cc
+in_oneof _ h = absurd cc
 
 -- and has no block
 no_block : (k : Header) → allows context.Oneof (header_kind k) ≡ true → ⊥

@@ -6,7 +6,7 @@ use Rattle.proto_text.specs.declared.class.Class.TheVariants.{Letter}
 use Rattle.proto_text.specs.declared.kind.TokenKind.TheVariants.{Text}
 use Rattle.proto_text.specs.declared.lexer.Token.{Token}
 use Rattle.proto_text.specs.Pieces.{IsRun}
-use Rattle.proto_text.specs.Segments.{BetweenPlaces, DecimalIsNumber, QuotedStandsForItself, RunsAreReplaced, SegmentsJoin, SpaceIsSegment, TokenBeforeSegment, TokenIsSegment, moved, quoted}
+use Rattle.proto_text.specs.Segments.{moved, quoted}
 use Rattle.proto_text.specs.Texts.{word_at}
 use Rattle.proto_text.specs.Tokens.{Lexeme, lexeme_at}
 use Rattle.proto_text.specs.Values.{StandsFor}
@@ -29,6 +29,7 @@ use Rattle.proto_statement_laws.specs.Deletions.{IsDeleted, StandsAt, first_toke
 use Rattle.proto_statement_laws.specs.Exchanges.{LexemesAreMoved}
 use Rattle.proto_statement_laws.specs.Statements.{reservation_tokens}
 use Rattle.proto_statement_laws.proofs.NewStatements.{word_is_string}
+use Rattle.proto_statement_laws.proofs.TextLaws.{Laws as TextLaws}
 use Rattle.proto_statement_changes.specs.DeletionChanges.{DeletionsAreChanges, FieldAt, IsFieldDeleted, changes_of_deletion, name_of_field, number_of_field}
 use Rattle.proto_statement_changes.specs.OneFile.{with_read, with_text}
 use Rattle.proto_statement_names.specs.Cases.{IsAlone, last_of_oneof}
@@ -57,14 +58,7 @@ use Rattle.proto_statement_deleted.proofs.Written.{IsWritten, written}
 
 -- the laws of texts and of trees that are called, as one record
 pub record Laws : Type 0 where
-  pub replaced : RunsAreReplaced
-  pub between : BetweenPlaces
-  pub join : SegmentsJoin
-  pub space : SpaceIsSegment
-  pub token : TokenIsSegment
-  pub before : TokenBeforeSegment
-  pub quoted : QuotedStandsForItself
-  pub decimal : DecimalIsNumber
+  pub texts : TextLaws
   pub lexemes : LexemesAreMoved
 
 -- what stands before the place stays
@@ -206,7 +200,7 @@ module _ (laws : Laws) (files : List FileOf) (reads : List ReadOf) (name : List 
         to_new = k;
         more = n.more;
         same = same;
-        imports = subst (λ (y : ReadOf). Rattle.proto_listing.specs.FromTree.imports_in y.tree ≡ map (Rattle.proto_statement_names.specs.Trees.move_wanted k) (Rattle.proto_listing.specs.FromTree.imports_in x)) at_place n.imports;
+        imports = subst (λ (y : ReadOf). Rattle.proto_listing.specs.FromTree.imports_in y.tree ≡ map (Rattle.proto_listing.specs.Moved.move_wanted k) (Rattle.proto_listing.specs.FromTree.imports_in x)) at_place n.imports;
         of_old = λ i. ap (λ (m : ℕ). Rattle.proto_imports.specs.Links.text_of files reads (at m (g i))) a.long ∙ old_text files reads now seen f.file g k w r x mid read_so linked i;
         of_new = λ i. ap (λ (m : ℕ). Rattle.proto_imports.specs.Links.text_of now seen (at m (k i))) a.long ∙ new_text files reads now seen f.file g k w r x mid read_so linked i;
         others = λ j i apart. other_texts files reads now seen f.file g k w r x mid read_so linked j (λ e. apart (e ∙ sym a.long)) i;
@@ -229,7 +223,7 @@ module _ (laws : Laws) (files : List FileOf) (reads : List ReadOf) (name : List 
   stands_for : StandsFor (quoted (name_of_field files reads f)) (name_of_field files reads f)
   stands_for =
       let run : IsRun Letter (name_of_field files reads f) = name_is_word (file_at files f.file).bytes (read_at reads f.file).tokens (read_at reads f.file).tree f.statement f.name f.number reading ok.stands.stands ok.stands.declares in
-      (word_is_string (record { replaced = laws.replaced; between = laws.between; join = laws.join; space = laws.space; token = laws.token; before = laws.before; quoted = laws.quoted; decimal = laws.decimal }) (name_of_field files reads f) run).1
+      (word_is_string laws.texts (name_of_field files reads f) run).1
 
   small : number_of_field files reads f < 2 ^ 64
   small = numbers_are_small files reads f ok.are.read ok.checks ok.stands

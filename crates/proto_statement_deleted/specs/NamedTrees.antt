@@ -3,9 +3,10 @@ use Rattle.std.specs.Prelude.{◌≡◌, map}
 use Rattle.proto_tree.specs.Moved.{Move}
 use Rattle.proto_tree.specs.Tree.{Tree}
 use Rattle.proto_listing.specs.FromTree.{imports_in}
+use Rattle.proto_listing.specs.Moved.{move_wanted}
 use Rattle.proto_statement_described.specs.Deletions.{IsDeletedIn, Reservation, WrittenField}
 use Rattle.proto_statement_names.specs.Files.{DeclaresMore}
-use Rattle.proto_statement_names.specs.Trees.{MovesNames, move_wanted}
+use Rattle.proto_statement_names.specs.Trees.{MovesNames}
 
 -- The second tree declares and uses more than the first, and imports the same; the third declares,
 -- uses and imports what the first does.

@@ -1,5 +1,5 @@
 -- The descriptor of a file without a field is the old one, mapped.
-use Rattle.std.proofs.Common.{◌≡◌, ℕ, ℤ, ◌+◌, ◌==◌, ◌||◌, length, Bool, true, false, List, [], ◌∷◌, ◌++◌, map, flat_map, Option, None, codes, refl, sym, ◌∙◌, ap, ap₂, if◌then◌else◌}
+use Rattle.std.proofs.Common.{◌≡◌, ℕ, ℤ, ◌+◌, ◌==◌, ◌||◌, length, true, false, List, [], ◌∷◌, ◌++◌, map, flat_map, Option, None, codes, refl, sym, ◌∙◌, ap, ap₂, if◌then◌else◌}
 use Rattle.std.specs.List.{list_any}
 use Rattle.std.proofs.lemmas.Bool.{cond-false, cond-true, eq-eqb}
 use Rattle.std.proofs.lemmas.Grind.{flat_map-append}
@@ -7,74 +7,49 @@ use Rattle.std.proofs.lemmas.List.{map-append}
 use Rattle.proto_text.proofs.OneEdit.{length_map}
 use Rattle.proto_tree.specs.declared.piece.Statement.{Statement}
 use Rattle.proto_tree.specs.declared.piece.Statement.TheVariants as statement
-use Rattle.proto_tree.specs.declared.piece.Header.{Header}
 use Rattle.proto_tree.specs.declared.piece.Header.TheVariants as header
 use Rattle.proto_tree.specs.declared.tree.MapField.{MapField}
-use Rattle.proto_tree.specs.Moved.{Move, move_header, move_map_field, move_range, move_statement, move_tree}
+use Rattle.proto_tree.specs.Moved.{Move, move_map_field, move_range, move_statement, move_tree}
 use Rattle.proto_tree.specs.Tree.{Tree, End, Leaf, Block}
-use Rattle.proto_parts.specs.Parts.{FieldOf, extension_ranges, fields_in, options_in, reserved_names, reserved_names_in, reserved_ranges, statement_options, statements}
+use Rattle.proto_parts.specs.Parts.{FieldOf, extension_ranges, fields_in, options_in, reserved_names, reserved_ranges, statement_options, statements}
 use Rattle.proto_parts.specs.Scenes.{Scene, number_at, text, value}
 use Rattle.proto_numbers.specs.NumberFlaws.{range_of}
-use Rattle.proto_checks_laws.proofs.MovedParts.{flat_moved, maps_kept, some_kept, extension_ranges_moved, move_field_of, move_option_of, options_moved, reserved_ranges_moved, statement_names_moved, statement_options_moved}
-use Rattle.proto_listing.specs.FromTree.{Wanted, imports_in, items_in, statement_imports}
+use Rattle.proto_checks_laws.proofs.MovedParts.{flat_moved, maps_kept, extension_ranges_moved, move_field_of, move_option_of, options_moved, reserved_ranges_moved, statement_names_moved, statement_options_moved}
+use Rattle.proto_listing.specs.FromTree.{Wanted, imports_in, items_in}
+use Rattle.proto_listing.specs.Moved.{move_wanted}
 use Rattle.proto_meaning.specs.Tree.{package_of}
 use Rattle.proto_descriptors.specs.declared.file.Syntax.TheVariants as syntax
 use Rattle.proto_described.specs.Described.{field_number, file_options, package_named, package_prefix, public_places, services_described, below, entry_described, message_options, enums_described, field_described, message_described, messages_described, number_range, oneof_names}
 use Rattle.proto_descriptors.specs.declared.message.NumberRange.{NumberRange}
 use Rattle.proto_parts.specs.Options.{truth_option}
 use Rattle.proto_checks_laws.proofs.MovedFlaws.{range_moved}
-use Rattle.proto_descriptors.specs.Descriptors.{FileDesc, FileOptionsDesc, ServiceDesc, EnumDesc, FieldDesc, MessageDesc, Messages, NoMessages, Message}
+use Rattle.proto_descriptors.specs.Descriptors.{FieldDesc, MessageDesc, Messages, NoMessages, Message}
 use Rattle.proto_statement_described.specs.Deletions.{Deeper, AtField, AtOneof, BehindBlock, BehindLeaf, InMessage, IsDeletedIn, IsDeletedRight, PastBlock, PastLeaf, Plain, OfMap, Reservation, Reserves, WrittenField, field_of, name_of, reserved, statement_of}
 use Rattle.proto_statement_described.proofs.Parts.{IsReader, named_one, no_ranges, no_words, nothing_with, numbered_one, new_fields, new_read, old_fields, old_read, outer_fields, outer_statements}
-use Rattle.proto_statement_described.specs.Imports.{move_wanted}
 use Rattle.proto_statement_described.specs.Lists.{at_place, places_before, with_more, without_place}
 use Rattle.proto_statement_described.specs.Mapped.{DeletionsAreMapped, field_place, is_its, is_named_at, mapped_messages, range_of_field, statements_before, without_entry, without_field}
+use Rattle.proto_statement_described.proofs.DeletedHeads.{imports_less, packages_less}
 use Rattle.proto_statement_described.proofs.MovedImports.{publics_moved}
 use Rattle.proto_statement_described.proofs.Places.{IsParted, at_is, none_in, none_moved, parted, place_is, some_behind, with_is, without_is}
 use Rattle.proto_statement_described.specs.Scenes.{IsMovedScene}
-use Rattle.proto_statement_described.proofs.MovedDescriptors.{each_same, enum_same, enums_same, entry_same, field_same, message_same, messages_same, oneofs_same, ranges_same, truths, services_same, service_same, package_same, package_moved, options_same, dotted_moved}
+use Rattle.proto_statement_described.proofs.MovedDescriptors.{each_same, enum_same, enums_same, entry_same, field_same, message_same, messages_same, oneofs_same, ranges_same, truths, services_same, service_same, package_same, options_same}
 
--- ---- imports and packages that are moved
-
-statement_wanted : (g : Move) (a : Statement) → statement_imports (move_statement g a) ≡ map (move_wanted g) (statement_imports a)
-statement_wanted g (statement.Import i) = ap (λ (b : Bool). let w : Wanted = record { path = g i.path; is_public = b } in w ∷ []) (some_kept g i.public)
-statement_wanted g _ = refl
-
-wanted_leaf : (g : Move) (a : Statement) (x t : Tree) → imports_in t ≡ map (move_wanted g) (imports_in x) → imports_in (Leaf (move_statement g a) t) ≡ map (move_wanted g) (imports_in (Leaf a x))
-wanted_leaf g a x t e = ap₂ (λ (y z : List Wanted). y ++ z) (statement_wanted g a) e ∙ sym (map-append (move_wanted g) (statement_imports a) (imports_in x))
-
-wanted_moved : (g : Move) (x : Tree) → imports_in (move_tree g x) ≡ map (move_wanted g) (imports_in x)
-wanted_moved g End = refl
-wanted_moved g (Leaf a rest) = wanted_leaf g a rest (move_tree g rest) (wanted_moved g rest)
-wanted_moved g (Block h i within j rest) = wanted_moved g rest
-
-leaf_package : (h : Move) (a : Statement) (x t : Tree) → package_of (items_in t) ≡ map h (package_of (items_in x)) → package_of (items_in (Leaf (move_statement h a) t)) ≡ map h (package_of (items_in (Leaf a x)))
-leaf_package h (statement.Package p) x t e = dotted_moved h p.name
-leaf_package h _ x t e = e
-
-block_package : (h : Move) (y : Header) (i : ℕ) (w w' : Tree) (j : ℕ) (x t : Tree) → package_of (items_in t) ≡ map h (package_of (items_in x)) → package_of (items_in (Block (move_header h y) (h i) w' (h j) t)) ≡ map h (package_of (items_in (Block y i w j x)))
-block_package h (header.Message y) i w w' j x t e = e
-block_package h whole i w w' j x t e = e
+-- ---- imports that are moved
 
 paths : (g : Move) (a b : Scene) → IsMovedScene g a b → (ws vs : List Wanted) → vs ≡ map (move_wanted g) ws → map (λ (w : Wanted). value b w.path) vs ≡ map (λ (w : Wanted). value a w.path) ws
 paths g a b all ws vs e = ap (map (λ (w : Wanted). value b w.path)) e ∙ maps_kept (move_wanted g) (λ (w : Wanted). value a w.path) (λ (w : Wanted). value b w.path) (λ w. all.same.strings w.path) ws
 
 message_by : (scene : Scene) (full : List ℕ) (name : ℕ) (t v : Tree) → statements t ≡ statements v → fields_in t ≡ fields_in v → enums_described scene t ≡ enums_described scene v → oneof_names scene t ≡ oneof_names scene v → message_described scene full name t ≡ message_described scene full name v
-message_by scene full name t v e f n o =
-    ap₂ (λ (ss : List Statement) (fs : List FieldOf). built fs (enums_described scene t) (oneof_names scene t) ss) e f
-    ∙ ap₂ (λ (es : List EnumDesc) (os : List (List ℕ)). built (fields_in v) es os (statements v)) n o
-  where
-    built : List FieldOf → List EnumDesc → List (List ℕ) → List Statement → MessageDesc
-    built fs es os ss = record {
-      name = text scene name;
-      field = map (field_described scene full) fs;
-      enum_type = es;
-      extension_range = map (λ r. number_range (range_of scene r)) (flat_map extension_ranges ss);
-      oneof_decl = os;
-      reserved_range = map (λ r. number_range (range_of scene r)) (flat_map reserved_ranges ss);
-      reserved_name = map (value scene) (flat_map reserved_names ss);
-      options = message_options scene false (flat_map statement_options ss);
-    }
+message_by scene full name t v e f n o = λ i. record {
+  name = text scene name;
+  field = map (field_described scene full) (f i);
+  enum_type = n i;
+  extension_range = map (λ r. number_range (range_of scene r)) (flat_map extension_ranges (e i));
+  oneof_decl = o i;
+  reserved_range = map (λ r. number_range (range_of scene r)) (flat_map reserved_ranges (e i));
+  reserved_name = map (value scene) (flat_map reserved_names (e i));
+  options = message_options scene false (flat_map statement_options (e i));
+}
 
 module _ (g k : Move) (middle old new : Scene) (to_old : IsMovedScene g middle old) (to_new : IsMovedScene k middle new) (aim : WrittenField) (res : Reservation) (reserving : Reserves old new aim res) (fresh : (i : ℕ) → (g i == name_of aim) ≡ false) where
   abbrev token : ℕ
@@ -82,33 +57,24 @@ module _ (g k : Move) (middle old new : Scene) (to_old : IsMovedScene g middle o
 
   -- ---- what is right in a message, but for fields and reservations
 
-  old_enums : (x t u : Tree) → IsDeletedRight g k aim res x t u → enums_described old t ≡ enums_described middle x
-  old_enums _ _ _ (AtField rest) = enums_same g middle old to_old rest
-  old_enums _ _ _ (AtOneof h fd i x t j rest same some at) = enums_same g middle old to_old rest
-  old_enums _ _ _ (PastLeaf a x t u sw) = old_enums x t u sw
-  old_enums _ _ _ (PastBlock (header.Enum h) i within j x t u sw) = ap₂ (λ (e : EnumDesc) (es : List EnumDesc). e ∷ es) (enum_same g middle old to_old h.name within) (old_enums x t u sw)
-  old_enums _ _ _ (PastBlock whole i within j x t u sw) = old_enums x t u sw
+  right_enums : (x t u : Tree) → IsDeletedRight g k aim res x t u → (enums_described old t ≡ enums_described middle x) × (enums_described new u ≡ enums_described middle x)
+  right_enums _ _ _ (AtField rest) = (enums_same g middle old to_old rest, enums_same k middle new to_new rest)
+  right_enums _ _ _ (AtOneof h fd i x t j rest same some at) = (enums_same g middle old to_old rest, enums_same k middle new to_new rest)
+  right_enums _ _ _ (PastLeaf a x t u sw) = right_enums x t u sw
+  right_enums _ _ _ (PastBlock (header.Enum h) i within j x t u sw) =
+      let r = right_enums x t u sw in
+      (λ i. enum_same g middle old to_old h.name within i ∷ r.0 i, λ i. enum_same k middle new to_new h.name within i ∷ r.1 i)
+  right_enums _ _ _ (PastBlock whole i within j x t u sw) = right_enums x t u sw
 
-  new_enums : (x t u : Tree) → IsDeletedRight g k aim res x t u → enums_described new u ≡ enums_described middle x
-  new_enums _ _ _ (AtField rest) = enums_same k middle new to_new rest
-  new_enums _ _ _ (AtOneof h fd i x t j rest same some at) = enums_same k middle new to_new rest
-  new_enums _ _ _ (PastLeaf a x t u sw) = new_enums x t u sw
-  new_enums _ _ _ (PastBlock (header.Enum h) i within j x t u sw) = ap₂ (λ (e : EnumDesc) (es : List EnumDesc). e ∷ es) (enum_same k middle new to_new h.name within) (new_enums x t u sw)
-  new_enums _ _ _ (PastBlock whole i within j x t u sw) = new_enums x t u sw
-
-  old_oneofs : (x t u : Tree) → IsDeletedRight g k aim res x t u → oneof_names old t ≡ oneof_names middle x
-  old_oneofs _ _ _ (AtField rest) = oneofs_same g middle old to_old rest
-  old_oneofs _ _ _ (AtOneof h fd i x t j rest same some at) = ap₂ (λ (n : List ℕ) (ns : List (List ℕ)). n ∷ ns) (to_old.same.texts h.name) (oneofs_same g middle old to_old rest)
-  old_oneofs _ _ _ (PastLeaf a x t u sw) = old_oneofs x t u sw
-  old_oneofs _ _ _ (PastBlock (header.Oneof h) i within j x t u sw) = ap₂ (λ (n : List ℕ) (ns : List (List ℕ)). n ∷ ns) (to_old.same.texts h.name) (old_oneofs x t u sw)
-  old_oneofs _ _ _ (PastBlock whole i within j x t u sw) = old_oneofs x t u sw
-
-  new_oneofs : (x t u : Tree) → IsDeletedRight g k aim res x t u → oneof_names new u ≡ oneof_names middle x
-  new_oneofs _ _ _ (AtField rest) = oneofs_same k middle new to_new rest
-  new_oneofs _ _ _ (AtOneof h fd i x t j rest same some at) = ap₂ (λ (n : List ℕ) (ns : List (List ℕ)). n ∷ ns) (to_new.same.texts h.name) (oneofs_same k middle new to_new rest)
-  new_oneofs _ _ _ (PastLeaf a x t u sw) = new_oneofs x t u sw
-  new_oneofs _ _ _ (PastBlock (header.Oneof h) i within j x t u sw) = ap₂ (λ (n : List ℕ) (ns : List (List ℕ)). n ∷ ns) (to_new.same.texts h.name) (new_oneofs x t u sw)
-  new_oneofs _ _ _ (PastBlock whole i within j x t u sw) = new_oneofs x t u sw
+  right_oneofs : (x t u : Tree) → IsDeletedRight g k aim res x t u → (oneof_names old t ≡ oneof_names middle x) × (oneof_names new u ≡ oneof_names middle x)
+  right_oneofs _ _ _ (AtField rest) = (oneofs_same g middle old to_old rest, oneofs_same k middle new to_new rest)
+  right_oneofs _ _ _ (AtOneof h fd i x t j rest same some at) =
+      (λ i. to_old.same.texts h.name i ∷ oneofs_same g middle old to_old rest i, λ i. to_new.same.texts h.name i ∷ oneofs_same k middle new to_new rest i)
+  right_oneofs _ _ _ (PastLeaf a x t u sw) = right_oneofs x t u sw
+  right_oneofs _ _ _ (PastBlock (header.Oneof h) i within j x t u sw) =
+      let r = right_oneofs x t u sw in
+      (λ i. to_old.same.texts h.name i ∷ r.0 i, λ i. to_new.same.texts h.name i ∷ r.1 i)
+  right_oneofs _ _ _ (PastBlock whole i within j x t u sw) = right_oneofs x t u sw
 
   -- a message that is moved, and moved elsewhere
   message_over : (full : List ℕ) (h : ℕ) (within : Tree) (rest : Messages)
@@ -239,17 +205,18 @@ module _ (g k : Move) (middle old new : Scene) (to_old : IsMovedScene g middle o
       let deprecated : truth_option (text new) (codes "deprecated") (options_in u) ≡ truth_option (text old) (codes "deprecated") (options_in t) =
       ap (truth_option (text new) (codes "deprecated")) ps ∙ truths k middle new to_new (codes "deprecated") (options_in x)
       ∙ sym (ap (truth_option (text old) (codes "deprecated")) os ∙ truths g middle old to_old (codes "deprecated") (options_in x)) in
-      ap₂ (λ (n : List ℕ) (y : List FieldDesc). built n y (enums_described new u) (map (λ r. number_range (range_of new r)) (flat_map extension_ranges (statements u))) (oneof_names new u) (map (λ r. number_range (range_of new r)) (flat_map reserved_ranges (statements u))) (map (value new) (reserved_names_in u)) (truth_option (text new) (codes "deprecated") (options_in u)))
-      (to_new.same.texts h ∙ sym (to_old.same.texts h)) fields
-      ∙ ap₂ (λ (y : List EnumDesc) (z : List NumberRange). built (text old (g h)) (without_place (field_place token t) (map (field_described old full) (fields_in t))) y z (oneof_names new u) (map (λ r. number_range (range_of new r)) (flat_map reserved_ranges (statements u))) (map (value new) (reserved_names_in u)) (truth_option (text new) (codes "deprecated") (options_in u)))
-      (new_enums x t u sw ∙ sym (old_enums x t u sw)) extensions
-      ∙ ap₂ (λ (y : List (List ℕ)) (z : List NumberRange). built (text old (g h)) (without_place (field_place token t) (map (field_described old full) (fields_in t))) (enums_described old t) (map (λ r. number_range (range_of old r)) (flat_map extension_ranges (statements t))) y z (map (value new) (reserved_names_in u)) (truth_option (text new) (codes "deprecated") (options_in u)))
-      (new_oneofs x t u sw ∙ sym (old_oneofs x t u sw)) ranges
-      ∙ ap₂ (λ (y : List (List ℕ)) (z : Option Bool). built (text old (g h)) (without_place (field_place token t) (map (field_described old full) (fields_in t))) (enums_described old t) (map (λ r. number_range (range_of old r)) (flat_map extension_ranges (statements t))) (oneof_names old t) (with_more (length (flat_map reserved_ranges (statements_before token t))) (map range_of_field (at_place (field_place token t) (map (field_described old full) (fields_in t)))) (map (λ r. number_range (range_of old r)) (flat_map reserved_ranges (statements t)))) y z)
-      names deprecated
-    where
-      built : List ℕ → List FieldDesc → List EnumDesc → List NumberRange → List (List ℕ) → List NumberRange → List (List ℕ) → Option Bool → MessageDesc
-      built n y es xs os rs ns o = record { name = n; field = y; enum_type = es; extension_range = xs; oneof_decl = os; reserved_range = rs; reserved_name = ns; options = record { deprecated = o; map_entry = false } }
+      let enums = right_enums x t u sw in
+      let oneofs = right_oneofs x t u sw in
+      λ i. record {
+        name = (to_new.same.texts h ∙ sym (to_old.same.texts h)) i;
+        field = fields i;
+        enum_type = (enums.1 ∙ sym enums.0) i;
+        extension_range = extensions i;
+        oneof_decl = (oneofs.1 ∙ sym oneofs.0) i;
+        reserved_range = ranges i;
+        reserved_name = names i;
+        options = record { deprecated = deprecated i; map_entry = false };
+      }
 
   -- ---- further out
 
@@ -259,7 +226,7 @@ module _ (g k : Move) (middle old new : Scene) (to_old : IsMovedScene g middle o
   outer_enums _ _ _ (BehindLeaf a x t u sw) = outer_enums x t u sw
   outer_enums _ _ _ (BehindBlock (header.Enum h) i within j x t u sw) =
       let r = outer_enums x t u sw in
-      (ap₂ (λ (e : EnumDesc) (es : List EnumDesc). e ∷ es) (enum_same g middle old to_old h.name within) r.0, ap₂ (λ (e : EnumDesc) (es : List EnumDesc). e ∷ es) (enum_same k middle new to_new h.name within) r.1)
+      (λ i. enum_same g middle old to_old h.name within i ∷ r.0 i, λ i. enum_same k middle new to_new h.name within i ∷ r.1 i)
   outer_enums _ _ _ (BehindBlock whole i within j x t u sw) = outer_enums x t u sw
 
   outer_oneofs : (x t u : Tree) → IsDeletedIn g k aim res x t u → (oneof_names old t ≡ oneof_names middle x) × (oneof_names new u ≡ oneof_names middle x)
@@ -268,7 +235,7 @@ module _ (g k : Move) (middle old new : Scene) (to_old : IsMovedScene g middle o
   outer_oneofs _ _ _ (BehindLeaf a x t u sw) = outer_oneofs x t u sw
   outer_oneofs _ _ _ (BehindBlock (header.Oneof h) i within j x t u sw) =
       let r = outer_oneofs x t u sw in
-      (ap₂ (λ (n : List ℕ) (ns : List (List ℕ)). n ∷ ns) (to_old.same.texts h.name) r.0, ap₂ (λ (n : List ℕ) (ns : List (List ℕ)). n ∷ ns) (to_new.same.texts h.name) r.1)
+      (λ i. to_old.same.texts h.name i ∷ r.0 i, λ i. to_new.same.texts h.name i ∷ r.1 i)
   outer_oneofs _ _ _ (BehindBlock whole i within j x t u sw) = outer_oneofs x t u sw
 
   -- the message around is the same
@@ -346,25 +313,13 @@ module _ (g k : Move) (middle old new : Scene) (to_old : IsMovedScene g middle o
   services_less _ _ _ (BehindLeaf a x t u sw) = services_less x t u sw
   services_less _ _ _ (BehindBlock (header.Service h) i within j x t u sw) =
       let r = services_less x t u sw in
-      (ap₂ (λ (e : ServiceDesc) (es : List ServiceDesc). e ∷ es) (service_same g middle old to_old h.name within) r.0, ap₂ (λ (e : ServiceDesc) (es : List ServiceDesc). e ∷ es) (service_same k middle new to_new h.name within) r.1)
+      (λ i. service_same g middle old to_old h.name within i ∷ r.0 i, λ i. service_same k middle new to_new h.name within i ∷ r.1 i)
   services_less _ _ _ (BehindBlock whole i within j x t u sw) = services_less x t u sw
-
-  packages_less : (x t u : Tree) → IsDeletedIn g k aim res x t u → (package_of (items_in t) ≡ map g (package_of (items_in x))) × (package_of (items_in u) ≡ map k (package_of (items_in x)))
-  packages_less _ _ _ (InMessage h i x t u j rest sw) = (package_moved g rest, package_moved k rest)
-  packages_less _ _ _ (Deeper h i x t u j rest sw) = (package_moved g rest, package_moved k rest)
-  packages_less _ _ _ (BehindLeaf a x t u sw) = let r = packages_less x t u sw in (leaf_package g a x t r.0, leaf_package k a x u r.1)
-  packages_less _ _ _ (BehindBlock h i within j x t u sw) = let r = packages_less x t u sw in (block_package g h i within (move_tree g within) j x t r.0, block_package k h i within (move_tree k within) j x u r.1)
-
-  imports_less : (x t u : Tree) → IsDeletedIn g k aim res x t u → (imports_in t ≡ map (move_wanted g) (imports_in x)) × (imports_in u ≡ map (move_wanted k) (imports_in x))
-  imports_less _ _ _ (InMessage h i x t u j rest sw) = (wanted_moved g rest, wanted_moved k rest)
-  imports_less _ _ _ (Deeper h i x t u j rest sw) = (wanted_moved g rest, wanted_moved k rest)
-  imports_less _ _ _ (BehindLeaf a x t u sw) = let r = imports_less x t u sw in (wanted_leaf g a x t r.0, wanted_leaf k a x u r.1)
-  imports_less _ _ _ (BehindBlock h i within j x t u sw) = imports_less x t u sw
 
 pub deletions_are_mapped : DeletionsAreMapped
 deletions_are_mapped g k middle old new path aim res x t u to_old to_new reserving sw fresh =
-    let pk = packages_less g k middle old new to_old to_new aim res reserving fresh x t u sw in
-    let is = imports_less g k middle old new to_old to_new aim res reserving fresh x t u sw in
+    let pk = packages_less g k aim res x t u sw in
+    let is = imports_less g k aim res x t u sw in
     let es = outer_enums g k middle old new to_old to_new aim res reserving fresh x t u sw in
     let ss = services_less g k middle old new to_old to_new aim res reserving fresh x t u sw in
     let os = outer_statements g k aim res x t u sw in
@@ -376,20 +331,14 @@ deletions_are_mapped g k middle old new path aim res x t u to_old to_new reservi
     let options : file_options new (options_in u) ≡ file_options old (options_in t) =
     options_same k middle new to_new (options_in x) (options_in u) (ap (flat_map statement_options) os.1 ∙ options_moved k x) ∙ sym (options_same g middle old to_old (options_in x) (options_in t) (ap (flat_map statement_options) os.0 ∙ options_moved g x)) in
     let proto3 : new.is_proto3 ≡ old.is_proto3 = sym to_new.same.version ∙ to_old.same.version in
-    ap₂ (λ (p : Option (List ℕ)) (ms : Messages). built p (map (λ (w : Wanted). value new w.path) (imports_in u)) (public_places 0 (imports_in u)) ms (enums_described new u) (services_described new u) (file_options new (options_in u)) new.is_proto3) same_package messages
-    ∙ ap₂ (λ (y : List (List ℕ)) (z : List ℕ). built (package_named old (package_of (items_in t))) y z (mapped_messages (name_of aim) t (messages_described old (package_prefix (package_named old (package_of (items_in t)))) t)) (enums_described new u) (services_described new u) (file_options new (options_in u)) new.is_proto3) dependencies places
-    ∙ ap₂ (λ (y : List EnumDesc) (z : List ServiceDesc). built (package_named old (package_of (items_in t))) (map (λ (w : Wanted). value old w.path) (imports_in t)) (public_places 0 (imports_in t)) (mapped_messages (name_of aim) t (messages_described old (package_prefix (package_named old (package_of (items_in t)))) t)) y z (file_options new (options_in u)) new.is_proto3) (es.1 ∙ sym es.0) (ss.1 ∙ sym ss.0)
-    ∙ ap₂ (λ (y : FileOptionsDesc) (z : Bool). built (package_named old (package_of (items_in t))) (map (λ (w : Wanted). value old w.path) (imports_in t)) (public_places 0 (imports_in t)) (mapped_messages (name_of aim) t (messages_described old (package_prefix (package_named old (package_of (items_in t)))) t)) (enums_described old t) (services_described old t) y z) options proto3
-  where
-    built : Option (List ℕ) → List (List ℕ) → List ℕ → Messages → List EnumDesc → List ServiceDesc → FileOptionsDesc → Bool → FileDesc
-    built p y z m es ss o v = record {
+    λ i. record {
       name = path;
-      «package» = p;
-      dependency = y;
-      public_dependency = z;
-      message_type = m;
-      enum_type = es;
-      service = ss;
-      options = o;
-      syntax = if v then syntax.Proto3 else syntax.Proto2;
+      «package» = same_package i;
+      dependency = dependencies i;
+      public_dependency = places i;
+      message_type = messages i;
+      enum_type = (es.1 ∙ sym es.0) i;
+      service = (ss.1 ∙ sym ss.0) i;
+      options = options i;
+      syntax = if proto3 i then syntax.Proto3 else syntax.Proto2;
     }

@@ -1,8 +1,7 @@
 -- In linked files, fields of a message that stand at different tokens have different names.
-use Rattle.std.proofs.Common.{◌≡◌, ◌≢◌, ℕ, zero, suc, ◌+◌, ◌<◌, ◌⊎◌, Option, Some, None, List, [], ◌∷◌, ◌++◌, length, map, refl, sym, ap, subst, ◌∙◌, inl, inr, arith}
+use Rattle.std.proofs.Common.{◌≡◌, ◌≢◌, ℕ, zero, suc, ◌+◌, ◌<◌, ◌⊎◌, None, List, [], ◌∷◌, ◌++◌, length, map, refl, sym, ap, subst, ◌∙◌, inl, inr, arith}
 use Rattle.std.specs.List.{AllPairs, Contains}
 use Rattle.std.proofs.lemmas.List.{map-append}
-use Rattle.std.proofs.lemmas.Option.{same_Some}
 use Rattle.proto_case.specs.Camel.{entry_name}
 use Rattle.proto_faults.proofs.Lists.{contains_cases, contains_map}
 use Rattle.proto_tree.specs.declared.piece.Header.TheVariants as header
@@ -15,6 +14,7 @@ use Rattle.proto_meaning.specs.Linked.{AreApart, IsLinked}
 use Rattle.proto_meaning.specs.Skeleton.{Declared, Source, Token, name_of, shifted_source, spell, symbol_of}
 use Rattle.proto_meaning.specs.Tree.{file_placed, place}
 use Rattle.proto_meaning.proofs.Files.{FileAt, declared_to, declares}
+use Rattle.proto_meaning.proofs.Grown.{snoc_parts}
 use Rattle.proto_listing.specs.FromTree.{items_in}
 use Rattle.proto_imports.specs.Links.{names_in, names_of_files, text_of}
 use Rattle.proto_checks_laws.specs.Declarations.{IsDeclared}
@@ -59,16 +59,6 @@ file_there n (r ∷ rs) (suc k) l =
     let e : suc n + k ≡ n + suc k = omega arith in
     inr (subst (λ m. FileAt (suc n) (map names_in rs) m (names_in (read_at rs k))) e (file_there (suc n) rs k (omega (arith, l))))
 
-abbrev final : {X : Type 0} → List X → Option X
-final [] = None
-final (x ∷ []) = Some x
-final (x ∷ y ∷ ys) = final (y ∷ ys)
-
-final_is : {X : Type 0} (a : List X) (x : X) → final (a ++ x ∷ []) ≡ Some x
-final_is [] x = refl
-final_is (y ∷ []) x = refl
-final_is (y ∷ z ∷ a) x = final_is (z ∷ a) x
-
 same_source : (x y : At) → ◌≡◌ {A = Source At} (Token x) (Token y) → x ≡ y
 same_source x y h = cc
 
@@ -100,8 +90,13 @@ module _ (files : List FileOf) (reads : List ReadOf) (are : AreRead files reads)
   no_package : kind.Field ≡ kind.Package → ⊥
   no_package h = cc
 
-  last_is : (path : List (Source ℕ)) (i : ℕ) → final (declaration path i).path ≡ Some (Token (at file i))
-  last_is path i = ap final (map-append (shifted_source (at file)) path (Token i ∷ [])) ∙ final_is (map (shifted_source (at file)) path) (Token (at file i))
+  path_ends : (path : List (Source ℕ)) (k : ℕ) → (declaration path k).path ≡ map (shifted_source (at file)) path ++ Token (at file k) ∷ []
+  path_ends path k = map-append (shifted_source (at file)) path (Token k ∷ [])
+
+  same_last : (path : List (Source ℕ)) (i j : ℕ) → declaration path i ≡ declaration path j → i ≡ j
+  same_last path i j e =
+      let shifted : List (Source At) = map (shifted_source (at file)) path in
+      at_one file i j (snoc_parts shifted shifted (Token (at file i)) (Token (at file j)) (sym (path_ends path i) ∙ ap (λ (d : Declared At). d.path) e ∙ path_ends path j)).1
 
   differ : (path : List (Source ℕ)) (i j : ℕ) → Contains (file_placed (items_in tree)) (place path (Token i) kind.Field) → Contains (file_placed (items_in tree)) (place path (Token j) kind.Field)
       → i ≢ j → said (at file i) ≢ said (at file j)
@@ -110,7 +105,7 @@ module _ (files : List FileOf) (reads : List ReadOf) (are : AreRead files reads)
       let names : name_of said entry_name (declaration path i).path ≡ name_of said entry_name (declaration path j).path =
       name_is path i ∙ ap (λ (w : List ℕ). map (spell said entry_name) (map (shifted_source (at file)) path) ++ w ∷ []) same ∙ sym (name_is path j) in
       elim (two (λ (d e : Declared At). AreApart (symbol_of said entry_name d) (symbol_of said entry_name e)) (all_declared 0 (map names_in reads)) pairs (declaration path i) (declaration path j) (is_there path i ci) (is_there path j cj)) [
-        | inl e ↦ apart (at_one file i j (same_Some (Token (at file i)) (Token (at file j)) (sym (last_is path i) ∙ ap (λ (d : Declared At). final d.path) e ∙ last_is path j)))
+        | inl e ↦ apart (same_last path i j e)
         | inr (inl r) ↦ no_package (r names).0
         | inr (inr r) ↦ no_package (r (sym names)).0
       ]

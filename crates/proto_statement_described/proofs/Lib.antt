@@ -1,5 +1,6 @@
 mod DeletedDescriptors
 mod DeletedFlaws
+pub mod DeletedHeads
 mod FieldNames
 pub mod Kept
 mod MovedDescriptors

@@ -13,11 +13,12 @@ use Rattle.proto_text.proofs.OneEdit.{length_map}
 use Rattle.proto_tree.specs.Moved.{Move}
 use Rattle.proto_tree.specs.Tree.{Tree}
 use Rattle.proto_listing.specs.FromTree.{Wanted, imports_in}
+use Rattle.proto_listing.specs.Moved.{move_wanted}
 use Rattle.proto_parts.specs.Scenes.{Scene, value}
 use Rattle.proto_checks_laws.proofs.MovedParts.{maps_kept}
 use Rattle.proto_described.specs.Described.{file_described, public_places}
 use Rattle.proto_descriptors.specs.Descriptors.{FileDesc}
-use Rattle.proto_statement_described.specs.Imports.{AdditionsAreMapped, DropsAreMapped, HasImport, lowered, move_wanted, with_imports}
+use Rattle.proto_statement_described.specs.Imports.{AdditionsAreMapped, DropsAreMapped, HasImport, lowered, with_imports}
 use Rattle.proto_statement_described.specs.Lists.{places_before, without_place}
 use Rattle.proto_statement_described.specs.Scenes.{IsMovedScene}
 use Rattle.proto_statement_described.proofs.MovedDescriptors.{imports_alone}

@@ -89,6 +89,30 @@ DeletionsMapDescriptors =
 
 -- ---- an import more, and one less
 
+-- a change of the imports of the file at the place by the path
+abbrev pub ImportChange : Type 1
+ImportChange = List FileOf → List ReadOf → List FileOf → List ReadOf → ℕ → Path → Type 0
+
+-- Such a change brings no fault of the checks,
+abbrev pub LeaveNoFault : ImportChange → Type 0
+LeaveNoFault IsChange =
+    (files : List FileOf) (reads : List ReadOf) (after : List FileOf) (seen : List ReadOf)
+    (place : ℕ) (path : Path)
+    → IsChange files reads after seen place path
+    → HasNoFault (CheckFaults files)
+    → HasNoFault (CheckFaults after)
+
+-- and the descriptors are the old ones, of which that of the file is mapped.
+abbrev pub MapDescriptors : ImportChange → (Path → FileDesc → FileDesc) → Type 0
+MapDescriptors IsChange mapped =
+    (files : List FileOf) (reads : List ReadOf) (after : List FileOf) (seen : List ReadOf)
+    (place : ℕ) (path : Path)
+    → IsChange files reads after seen place path
+    → (ds new : List FileDesc)
+    → AreDescribed files ds
+    → AreDescribed after new
+    → new ≡ changed_at place (mapped path) ds
+
 -- The file imports the path as well, as its last import, which is not public.
 pub record IsAddition
     (files : List FileOf) (reads : List ReadOf) (after : List FileOf) (seen : List ReadOf)
@@ -104,23 +128,11 @@ pub record IsAddition
 
 -- An added import brings no fault of the checks,
 abbrev pub AdditionsLeaveNoFault : Type 0
-AdditionsLeaveNoFault =
-    (files : List FileOf) (reads : List ReadOf) (after : List FileOf) (seen : List ReadOf)
-    (place : ℕ) (path : Path)
-    → IsAddition files reads after seen place path
-    → HasNoFault (CheckFaults files)
-    → HasNoFault (CheckFaults after)
+AdditionsLeaveNoFault = LeaveNoFault IsAddition
 
 -- and the descriptors are the old ones, of which that of the file has one dependency more.
 abbrev pub AdditionsMapDescriptors : Type 0
-AdditionsMapDescriptors =
-    (files : List FileOf) (reads : List ReadOf) (after : List FileOf) (seen : List ReadOf)
-    (place : ℕ) (path : Path)
-    → IsAddition files reads after seen place path
-    → (ds new : List FileDesc)
-    → AreDescribed files ds
-    → AreDescribed after new
-    → new ≡ changed_at place (with_dependency path) ds
+AdditionsMapDescriptors = MapDescriptors IsAddition with_dependency
 
 -- The file imports the path no more: the old file is the new one with the import put in, and
 -- had no earlier import of the path.
@@ -138,20 +150,8 @@ pub record IsDrop
 
 -- A dropped import brings no fault of the checks,
 abbrev pub DropsLeaveNoFault : Type 0
-DropsLeaveNoFault =
-    (files : List FileOf) (reads : List ReadOf) (after : List FileOf) (seen : List ReadOf)
-    (place : ℕ) (path : Path)
-    → IsDrop files reads after seen place path
-    → HasNoFault (CheckFaults files)
-    → HasNoFault (CheckFaults after)
+DropsLeaveNoFault = LeaveNoFault IsDrop
 
 -- and the descriptors are the old ones, of which that of the file has one dependency less.
 abbrev pub DropsMapDescriptors : Type 0
-DropsMapDescriptors =
-    (files : List FileOf) (reads : List ReadOf) (after : List FileOf) (seen : List ReadOf)
-    (place : ℕ) (path : Path)
-    → IsDrop files reads after seen place path
-    → (ds new : List FileDesc)
-    → AreDescribed files ds
-    → AreDescribed after new
-    → new ≡ changed_at place (without_dependency path) ds
+DropsMapDescriptors = MapDescriptors IsDrop without_dependency

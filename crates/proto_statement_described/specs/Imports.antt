@@ -6,6 +6,7 @@ use Rattle.proto_faults.specs.Texts.{Path}
 use Rattle.proto_tree.specs.Moved.{Move, move_tree}
 use Rattle.proto_tree.specs.Tree.{Tree}
 use Rattle.proto_listing.specs.FromTree.{Wanted, imports_in}
+use Rattle.proto_listing.specs.Moved.{move_wanted}
 use Rattle.proto_parts.specs.Scenes.{Scene, value}
 use Rattle.proto_checks_laws.specs.Imports.{without_imports}
 use Rattle.proto_described.specs.Described.{file_described}
@@ -45,10 +46,6 @@ without_dependency path d =
     (lowered (places_before (bytes_eq path) d.dependency) d.public_dependency) d
 
 -- ---- trees
-
--- an import of which the path stands at another token
-abbrev pub move_wanted : Move → Wanted → Wanted
-move_wanted g w = record { path = g w.path; is_public = w.is_public }
 
 -- The second tree has this import more at one place among its imports; all
 -- else is that of the first, moved.

@@ -15,9 +15,10 @@ use Rattle.proto_meaning.specs.Names.{Import}
 use Rattle.proto_imports.specs.Importing.{all_imports, import_from}
 use Rattle.proto_imports.specs.Links.{link_imports}
 use Rattle.proto_imports.specs.declared.import.FileImport.{FileImport}
+use Rattle.proto_imports.proofs.SeenFiles.{in_filter, of_filter}
 use Rattle.proto_statement_names.specs.Cases.{IsPlaceOf, asked_in, is_import_of}
 use Rattle.proto_statement_names.proofs.Imports.{asked_import, import_asked}
-use Rattle.proto_statement_names.proofs.SameImports.{import_own, in_filter, of_filter, own_import, set_imports}
+use Rattle.proto_statement_names.proofs.SameImports.{import_own, own_import, set_imports}
 
 -- two paths at one place are one
 pub one_path : (paths : List (List ℕ)) (a b : List ℕ) (k : ℕ) → file_of paths a ≡ Some k → file_of paths b ≡ Some k → a ≡ b

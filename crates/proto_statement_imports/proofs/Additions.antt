@@ -14,12 +14,13 @@ use Rattle.proto_files.specs.GivenFiles.{FileOf, paths_of}
 use Rattle.proto_files.specs.WorkspacePaths.{IsWorkspacePath}
 use Rattle.proto_meaning.specs.Faults.{file_of}
 use Rattle.proto_listing.specs.FromTree.{imports_in}
+use Rattle.proto_listing.specs.Moved.{move_wanted}
 use Rattle.proto_parts.specs.Scenes.{string_of, value, value_or_none as value_by_kind}
 use Rattle.proto_descriptors.specs.Descriptors.{FileDesc}
 use Rattle.proto_statement_described.specs.SceneOf.{lexemes_of}
 use Rattle.proto_statement_described.specs.Checked.{AreDescribed}
 use Rattle.proto_statement_laws.specs.Exchanges.{LexemesAreMoved}
-use Rattle.proto_statement_laws.specs.Imports.{import_place, move_wanted}
+use Rattle.proto_statement_laws.specs.Imports.{import_place}
 use Rattle.proto_statement_laws.specs.Insertions.{IsInsertion}
 use Rattle.proto_statement_laws.specs.Statements.{import_at, import_tokens, token}
 use Rattle.proto_statement_changes.specs.ImportChanges.{AdditionsAreChanges}

@@ -1,38 +1,16 @@
 -- A tree into which an import is put is, without its imports, the old one, moved.
-use Rattle.std.proofs.Common.{◌≡◌, true, refl, ap, ◌∙◌}
+use Rattle.std.proofs.Common.{◌≡◌, refl, ap}
 use Rattle.proto_tree.specs.declared.context.Context.{Context}
 use Rattle.proto_tree.specs.declared.context.Context.TheVariants as context
-use Rattle.proto_tree.specs.declared.context.Kind.{Kind}
-use Rattle.proto_tree.specs.declared.context.Kind.TheVariants as kind
 use Rattle.proto_tree.specs.declared.piece.Statement.{Statement}
 use Rattle.proto_tree.specs.declared.piece.Statement.TheVariants as statement
 use Rattle.proto_tree.specs.declared.tree.Import.{Import}
 use Rattle.proto_tree.specs.Moved.{Move, move_header, move_statement, move_tree}
-use Rattle.proto_tree.specs.Tree.{Tree, End, Leaf, Block, statement_kind, header_kind, allows, after, inside}
-use Rattle.proto_tree.proofs.Walks.{after_inner, inside_inner}
+use Rattle.proto_tree.specs.Tree.{Tree, End, Leaf, Block, statement_kind, header_kind, after, inside}
+use Rattle.proto_tree.proofs.Walks.{inside_inner}
 use Rattle.proto_checks_laws.specs.Imports.{without_imports}
 use Rattle.proto_statement_laws.specs.Exchanges.{IsExchanged, Here, Later, Inside, Behind}
-
--- ---- no import stands in a block
-
-no_import_in : (c : Context) → allows c kind.Close ≡ true → allows c kind.Import ≡ true → ⊥
-no_import_in context.Start h e = cc
-no_import_in context.File h e = cc
-no_import_in context.Packaged h e = cc
-no_import_in context.Message h e = cc
-no_import_in context.Oneof h e = cc
-no_import_in context.Enum h e = cc
-no_import_in context.Service h e = cc
-no_import_in context.Method h e = cc
-
-stays_inner : (c : Context) (k : Kind) → allows c kind.Close ≡ true → allows (after c k) kind.Close ≡ true
-stays_inner c k h = ap (λ d. allows d kind.Close) (after_inner c k h) ∙ h
-
-none_inside : (g : Move) (i : Import) (c : Context) (t u : Tree) → allows c kind.Close ≡ true → IsExchanged g End (Leaf (statement.Import i) End) c t u → ⊥
-none_inside g i _ t u h (Here c rest fine on) = no_import_in c h fine.0
-none_inside g i _ t u h (Later c s x y r) = none_inside g i (after c (statement_kind s)) x y (stays_inner c (statement_kind s) h) r
-none_inside g i _ t u h (Inside c k n x y j rest r) = none_inside g i (inside k) x y (inside_inner k) r
-none_inside g i _ t u h (Behind c k n within j x y r) = none_inside g i (after c (header_kind k)) x y (stays_inner c (header_kind k) h) r
+use Rattle.proto_statement_laws.proofs.ImportLists.{none_inside}
 
 -- ---- without imports
 

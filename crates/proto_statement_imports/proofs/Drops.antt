@@ -21,6 +21,7 @@ use Rattle.proto_meaning.specs.Grown.{at}
 use Rattle.proto_meaning.specs.Names.{Reference, Workspace}
 use Rattle.proto_meaning.proofs.Following.{Follows, follows_first}
 use Rattle.proto_listing.specs.FromTree.{Wanted, imports_in}
+use Rattle.proto_listing.specs.Moved.{move_wanted}
 use Rattle.proto_imports.specs.Links.{asked_as, names_of_files, text_of}
 use Rattle.proto_parts.specs.Scenes.{value}
 use Rattle.proto_descriptors.specs.Descriptors.{FileDesc}
@@ -36,7 +37,7 @@ use Rattle.proto_statement_names.specs.Files.{IsImportMore}
 use Rattle.proto_statement_names.specs.Kept.{DropsKeepLinks, DropsKeepMeanings, IsDropped, MeanTheSame}
 use Rattle.proto_statement_names.proofs.NamesOut.{imports_are_more}
 use Rattle.proto_statement_described.specs.Files.{IsDrop, scene_at, tree_at}
-use Rattle.proto_statement_described.specs.Imports.{HasImport, move_wanted, without_dependency}
+use Rattle.proto_statement_described.specs.Imports.{HasImport, without_dependency}
 use Rattle.proto_statement_described.specs.Lists.{changed_at}
 use Rattle.proto_statement_described.specs.Scenes.{IsMovedScene}
 use Rattle.proto_statement_described.proofs.OneFile.{drops_leave_no_fault, drops_map_descriptors}
@@ -139,6 +140,7 @@ module _ (laws : Laws) (files : List FileOf) (reads : List ReadOf) (after : List
     says = says;
   }
 
+  -- As in Additions, by the laws of dropped imports.
   faultless : AreFaultless after seen
   faultless = record {
     are = still;

@@ -14,6 +14,7 @@ use Rattle.proto_files.specs.FilesRead.{ReadOf}
 use Rattle.proto_files.specs.GivenFiles.{FileOf}
 use Rattle.proto_meaning.specs.Grown.{at}
 use Rattle.proto_listing.specs.FromTree.{Wanted, imports_in}
+use Rattle.proto_listing.specs.Moved.{move_wanted}
 use Rattle.proto_imports.specs.Links.{text_of}
 use Rattle.proto_statement_described.specs.SceneOf.{lexemes_of}
 use Rattle.proto_statement_laws.specs.Exchanges.{LexemesAreMoved}
@@ -21,7 +22,7 @@ use Rattle.proto_statement_laws.specs.Insertions.{IsInsertion}
 use Rattle.proto_statement_laws.proofs.ImportLists.{imports_come_in}
 use Rattle.proto_statement_names.specs.Files.{IsImportMore}
 use Rattle.proto_statement_names.specs.Lists.{HasOneMore}
-use Rattle.proto_statement_names.specs.Trees.{MovesNames, move_wanted}
+use Rattle.proto_statement_names.specs.Trees.{MovesNames}
 use Rattle.proto_statement_described.specs.Files.{tree_at}
 use Rattle.proto_statement_described.specs.Imports.{HasImport}
 use Rattle.proto_statement_described.proofs.Kept.{others_keep_apart}

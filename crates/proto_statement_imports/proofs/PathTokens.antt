@@ -1,55 +1,26 @@
 -- The token of an import's path is a string, whose value is the path.
-use Rattle.std.proofs.Common.{◌≡◌, ℕ, zero, suc, Bool, true, false, List, [], ◌∷◌, ◌++◌, get_or, Option, Some, None, refl, sym, ap, subst, ◌∙◌, inl, inr, arith, cond}
+use Rattle.std.proofs.Common.{◌≡◌, ℕ, zero, suc, List, [], ◌∷◌, ◌++◌, get_or, Option, Some, None, refl, sym, ap, subst, ◌∙◌, inl, inr, arith}
 use Rattle.std.specs.Prelude.{is_some, slice_get}
-use Rattle.std.specs.List.{AllByRecursion, Contains}
-use Rattle.std.specs.Str.{bytes_eq}
+use Rattle.std.specs.List.{Contains}
 use Rattle.std.proofs.lemmas.List.Elements.{Contains-append_cases, Contains-append_left, Contains-append_right}
 use Rattle.std.proofs.lemmas.Option.{slice_get-get_or}
 use Rattle.proto_faults.specs.Texts.{or_nothing}
-use Rattle.proto_text.specs.declared.kind.TokenKind.{TokenKind}
-use Rattle.proto_text.specs.declared.kind.TokenKind.TheVariants.{Word, Number, Text, Punctuation}
+use Rattle.proto_text.specs.declared.kind.TokenKind.TheVariants.{Text}
 use Rattle.proto_text.specs.Texts.{word_at}
 use Rattle.proto_text.specs.Tokens.{Lexeme}
 use Rattle.proto_text.specs.Values.{value_of}
 use Rattle.proto_faults.proofs.Lists.{contains_cases, contains_head}
-use Rattle.proto_tree.specs.declared.class.Class.{Class}
 use Rattle.proto_tree.specs.declared.class.Class.TheVariants as class
 use Rattle.proto_tree.specs.declared.class.Want.TheVariants as want
 use Rattle.proto_tree.specs.declared.piece.Statement.{Statement}
 use Rattle.proto_tree.specs.declared.piece.Statement.TheVariants as statement
-use Rattle.proto_tree.specs.Classes.{is_text, is_word}
 use Rattle.proto_tree.specs.Flat.{Mark, flat_header, flat_import, flat_option, flat_statement, mark, one, text as text_mark}
 use Rattle.proto_tree.specs.Tree.{Tree, End, Leaf, Block, Spells, flat}
-use Rattle.proto_tree.specs.Words.{Listed, class_by, class_in, classes, marks}
+use Rattle.proto_tree.specs.Words.{classes}
 use Rattle.proto_tree.proofs.MarkLaws.{marks_fit}
-use Rattle.proto_tree.proofs.WordLaws.{word_is_word}
 use Rattle.proto_listing.specs.FromTree.{Wanted, imports_in, statement_imports}
+use Rattle.proto_listing.proofs.ReadTrees.{text_only}
 use Rattle.proto_parts.specs.Scenes.{string_of, value_in, value_or_none as value_by_kind}
-
--- ---- a place that wants a string holds one
-
-differ : false ≡ true → ⊥
-differ e = cc
-
-no_word_text : (c : Class) → is_text c ≡ true → is_word c ≡ true → ⊥
-no_word_text class.ProtoText e h = cc
-no_word_text class.OtherText e h = cc
-no_word_text _ e h = cc
-
-no_text_in : (ks : List Listed) (c : Class) (w : List ℕ) → AllByRecursion (λ k. is_text k.class ≡ false) ks → is_text c ≡ false → is_text (class_in ks c w) ≡ false
-no_text_in [] c w h e = e
-no_text_in (k ∷ ks) c w h e = either (bytes_eq w k.word) h.0 (no_text_in ks c w h.1 e)
-  where
-    either : (b : Bool) → is_text k.class ≡ false → is_text (class_in ks c w) ≡ false → is_text (cond b k.class (class_in ks c w)) ≡ false
-    either true x y = x
-    either false x y = y
-
-text_only : (k : TokenKind) (w : List ℕ) → is_text (class_by k w) ≡ true → k ≡ Text
-text_only Text w h = refl
-text_only Word w h = absurd (no_word_text (class_by Word w) h (word_is_word w))
-text_only Number w h = absurd cc
-text_only Punctuation w h =
-    absurd (differ (sym (no_text_in marks class.Other w (refl, (refl, (refl, (refl, (refl, (refl, (refl, (refl, (refl, (refl, (refl, (refl, (refl, tt))))))))))))) refl) ∙ h))
 
 -- ---- the paths of imports
 

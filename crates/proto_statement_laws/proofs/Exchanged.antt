@@ -1,5 +1,5 @@
 -- Statements put in the place of others, in a tree that is moved (for the crates above).
-use Rattle.std.proofs.Common.{◌≡◌, ℕ, suc, ◌+◌, ◌<◌, List, [], ◌∷◌, ◌++◌, length, map, inl, inr, refl, sym, ap, subst, ◌∙◌, arith, append_assoc, length-append}
+use Rattle.std.proofs.Common.{◌≡◌, ℕ, ◌+◌, List, [], ◌∷◌, ◌++◌, length, map, inl, inr, refl, sym, ap, subst, ◌∙◌, arith, append_assoc, length-append}
 use Rattle.proto_text.specs.Tokens.{Lexeme}
 use Rattle.proto_tree.specs.declared.class.Class.TheVariants as class
 use Rattle.proto_tree.specs.declared.class.Lexeme.{Lexeme as Classed}
@@ -8,17 +8,19 @@ use Rattle.proto_tree.specs.declared.context.Context.TheVariants as context
 use Rattle.proto_tree.specs.declared.class.Want.TheVariants as want
 use Rattle.proto_tree.specs.declared.piece.Header.{Header}
 use Rattle.proto_tree.specs.Flat.{Mark, mark, one, Fit, flat_statement, flat_header}
-use Rattle.proto_tree.specs.Tree.{Tree, End, Leaf, Block, flat, statement_kind, header_kind, allows, after, inside, IsWellFormed, last_of, joined}
-use Rattle.proto_tree.specs.Words.{class_by, classes}
+use Rattle.proto_tree.specs.Tree.{Tree, End, Leaf, Block, flat, statement_kind, header_kind, allows, after, inside, IsWellFormed, last_of}
+use Rattle.proto_tree.specs.Words.{classes}
 use Rattle.proto_tree.specs.Moved.{Move, shift, move_header, move_statement, move_tree}
 use Rattle.proto_tree.proofs.Exact.{Fit-join}
 use Rattle.proto_tree.proofs.Nodes.{flat-joined, joined-fine}
+use Rattle.proto_tree.proofs.ReplaceLaws.{behind_fine, classes-append, classes-length, fit_moved, fit_parts, regroup}
 use Rattle.proto_tree.proofs.MoveLaws.{map_append, flat_moved, well_formed_moved, kind_moved, header_kind_moved, inside_moved}
 use Rattle.proto_statement_laws.proofs.Endings.{IsApart, apart_then, nothing_behind, the, then, tree_apart}
 use Rattle.proto_statement_laws.specs.Exchanges.{IsExchanged, Here, Later, Inside, Behind, before, StatementsAreExchanged}
 
 -- ---- marks before and behind the place
 
+-- As IsAround of ReplaceLaws of proto_tree, where the marks before the place are moved as well.
 pub record IsAround (g : Move) (a b t u : Tree) (n : ℕ) : Type 0 where
   pub front : List Mark
   pub back : List Mark
@@ -26,9 +28,6 @@ pub record IsAround (g : Move) (a b t u : Tree) (n : ℕ) : Type 0 where
   pub apart : IsApart front
   pub old : flat t ≡ front ++ (flat a ++ back)
   pub new : flat u ≡ map (shift g) front ++ (flat b ++ map (shift g) back)
-
-regroup : (x y z w : List Mark) → x ++ (y ++ (z ++ w)) ≡ (x ++ y) ++ (z ++ w)
-regroup x y z w = sym (append_assoc x y (z ++ w))
 
 -- marks before the place of which a whole item follows
 behind : (g : Move) (a b x y t u head : Tree) (n : ℕ) → flat t ≡ flat head ++ flat x → flat u ≡ map (shift g) (flat head) ++ flat y → IsAround g a b x y n → IsAround g a b t u (length (flat head) + n)
@@ -92,11 +91,6 @@ around g a b _ t u (Behind c k i within j x y r) =
 
 -- ---- what stands where
 
-pub behind_fine : (a rest : Tree) (c : Context) → IsWellFormed c (joined a rest) → IsWellFormed (last_of c a) rest
-behind_fine End rest c h = h
-behind_fine (Leaf s a) rest c h = behind_fine a rest (after c (statement_kind s)) h.1
-behind_fine (Block k i within j a) rest c h = behind_fine a rest (after c (header_kind k)) h.2
-
 put_fine : (g : Move) (a b : Tree) (c : Context) (t u : Tree) → IsExchanged g a b c t u → IsWellFormed c t → IsWellFormed c u
 put_fine g a b _ t u (Here c rest fine on) h = joined-fine b (move_tree g rest) c fine (well_formed_moved g (last_of c b) rest (on (behind_fine a rest c h)))
 put_fine g a b _ t u (Later c s x y r) h =
@@ -110,36 +104,6 @@ put_fine g a b _ t u (Behind c k i within j x y r) h =
     (ap (allows c) e ∙ h.0, subst (λ d. IsWellFormed d (move_tree g within)) (sym (inside_moved g k)) (well_formed_moved g (inside k) within h.1), subst (λ d. IsWellFormed (after c d) y) (sym e) (put_fine g a b (after c (header_kind k)) x y r h.2))
 
 -- ---- tokens
-
-pub classes-append : (n : ℕ) (x y : List Lexeme) → classes n (x ++ y) ≡ classes n x ++ classes (n + length x) y
-classes-append n [] y = ap (λ (k : ℕ). classes k y) (omega arith)
-classes-append n (l ∷ x) y =
-    let e : suc n + length x ≡ n + length (l ∷ x) = omega arith in
-    ap (λ (ls : List Classed). record { class = class_by l.kind l.text; at = n } ∷ ls) (classes-append (suc n) x y ∙ ap (λ (k : ℕ). classes (suc n) x ++ classes k y) e)
-
-pub classes-length : (n : ℕ) (x : List Lexeme) → length (classes n x) ≡ length x
-classes-length n [] = refl
-classes-length n (l ∷ x) = ap suc (classes-length (suc n) x)
-
-pub fit_parts : (a b : List Mark) (s t : List Classed) → length a ≡ length s → Fit (a ++ b) (s ++ t) → Fit a s × Fit b t
-fit_parts [] b [] t e h = (tt, h)
-fit_parts [] b (l ∷ s) t e h = absurd (omega (arith, e))
-fit_parts (m ∷ a) b [] t e h = absurd (omega (arith, e))
-fit_parts (m ∷ a) b (l ∷ s) t e h = let r = fit_parts a b s t (omega (arith, e)) h.2 in ((h.0, h.1, r.0), r.1)
-
-fit_moved : (g : Move) (n n' : ℕ) (ms : List Mark) (x : List Lexeme) → ((k : ℕ) → k < length x → g (n + k) ≡ n' + k) → Fit ms (classes n x) → Fit (map (shift g) ms) (classes n' x)
-fit_moved g n n' [] [] to h = tt
-fit_moved g n n' [] (l ∷ x) to h = absurd h
-fit_moved g n n' (m ∷ ms) [] to h = absurd h
-fit_moved g n n' (m ∷ ms) (l ∷ x) to h =
-    let here : g n ≡ n' = ap g (zero_more n) ∙ to 0 (omega arith) ∙ sym (zero_more n') in
-    (h.0, sym here ∙ ap g h.1, fit_moved g (suc n) (suc n') ms x (λ k lt. ap g (one_more n k) ∙ to (suc k) (omega (arith, lt)) ∙ sym (one_more n' k)) h.2)
-  where
-    zero_more : (n : ℕ) → n ≡ n + 0
-    zero_more n = omega arith
-
-    one_more : (n k : ℕ) → suc n + k ≡ n + suc k
-    one_more n k = omega arith
 
 -- the marks of a tree, cut at the place
 pub record AreCut (s : Tree) (front_marks a back_marks : List Mark) (front old back : List Lexeme) : Type 0 where

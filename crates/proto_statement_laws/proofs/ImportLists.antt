@@ -1,5 +1,5 @@
 -- The imports of a tree into which an import is put (for the crates above).
-use Rattle.std.proofs.Common.{◌≡◌, ℕ, true, Option, Some, None, List, [], ◌++◌, map, refl, sym, ap, ap₂, ◌∙◌, append_assoc}
+use Rattle.std.proofs.Common.{◌≡◌, true, None, List, [], ◌++◌, map, refl, sym, ap, ap₂, ◌∙◌, append_assoc}
 use Rattle.std.proofs.lemmas.List.{map-append}
 use Rattle.proto_tree.specs.declared.context.Context.{Context}
 use Rattle.proto_tree.specs.declared.context.Context.TheVariants as context
@@ -8,28 +8,17 @@ use Rattle.proto_tree.specs.declared.context.Kind.TheVariants as kind
 use Rattle.proto_tree.specs.declared.piece.Statement.{Statement}
 use Rattle.proto_tree.specs.declared.piece.Statement.TheVariants as statement
 use Rattle.proto_tree.specs.declared.tree.Import.{Import}
-use Rattle.proto_tree.specs.Moved.{Move, move_statement, move_tree}
+use Rattle.proto_tree.specs.Moved.{Move, move_statement}
 use Rattle.proto_tree.specs.Tree.{Tree, End, Leaf, Block, statement_kind, header_kind, allows, after, inside, joined}
 use Rattle.proto_tree.proofs.Walks.{after_inner, inside_inner}
 use Rattle.proto_listing.specs.FromTree.{Wanted, imports_in, statement_imports}
+use Rattle.proto_listing.specs.Moved.{move_wanted}
+use Rattle.proto_listing.proofs.MovedHeads.{imports_moved, statement_imports_moved}
 use Rattle.proto_statement_laws.specs.Exchanges.{IsExchanged, Here, Later, Inside, Behind}
-use Rattle.proto_statement_laws.specs.Imports.{HasImport, ImportsComeIn, behind_import, move_wanted}
+use Rattle.proto_statement_laws.specs.Imports.{HasImport, ImportsComeIn, behind_import}
 use Rattle.proto_statement_laws.proofs.LastOf.{last_by, last_option, or_none, some_is_not_none}
 
--- ---- imports that are moved
-
-import_moved : (g : Move) (s : Statement) → statement_imports (move_statement g s) ≡ map (move_wanted g) (statement_imports s)
-import_moved g (statement.Import i) = by i.public
-  where
-    by : (o : Option ℕ) → statement_imports (move_statement g (statement.Import (record { keyword = i.keyword; public = o; path = i.path; semicolon = i.semicolon }))) ≡ map (move_wanted g) (statement_imports (statement.Import (record { keyword = i.keyword; public = o; path = i.path; semicolon = i.semicolon })))
-    by None = refl
-    by (Some k) = refl
-import_moved g _ = refl
-
-pub imports_moved : (g : Move) (t : Tree) → imports_in (move_tree g t) ≡ map (move_wanted g) (imports_in t)
-imports_moved g End = refl
-imports_moved g (Leaf s rest) = ap₂ (λ (x y : List Wanted). x ++ y) (import_moved g s) (imports_moved g rest) ∙ sym (map-append (move_wanted g) (statement_imports s) (imports_in rest))
-imports_moved g (Block k i within j rest) = imports_moved g rest
+-- ---- imports of trees one behind the other
 
 pub imports_behind : (b t : Tree) → imports_in (joined b t) ≡ imports_in b ++ imports_in t
 imports_behind End t = refl
@@ -42,7 +31,7 @@ leaf_all s whole front tail e = ap (λ (x : List Wanted). statement_imports s ++
 
 pub leaf_now : (g : Move) (s : Statement) (whole front tail : List Wanted) → whole ≡ map (move_wanted g) front ++ tail → statement_imports (move_statement g s) ++ whole ≡ map (move_wanted g) (statement_imports s ++ front) ++ tail
 leaf_now g s whole front tail e =
-    ap₂ (λ (x y : List Wanted). x ++ y) (import_moved g s) e ∙ sym (append_assoc (map (move_wanted g) (statement_imports s)) (map (move_wanted g) front) tail)
+    ap₂ (λ (x y : List Wanted). x ++ y) (statement_imports_moved g s) e ∙ sym (append_assoc (map (move_wanted g) (statement_imports s)) (map (move_wanted g) front) tail)
     ∙ ap (λ (x : List Wanted). x ++ tail) (sym (map-append (move_wanted g) (statement_imports s) front))
 
 -- where none is looked for, there is none
@@ -59,18 +48,12 @@ no_imports (Block k i within j rest) e = no_imports rest e
 
 no_import_in : (c : Context) → allows c kind.Close ≡ true → allows c kind.Import ≡ true → ⊥
 no_import_in context.Start h e = cc
-no_import_in context.File h e = cc
-no_import_in context.Packaged h e = cc
-no_import_in context.Message h e = cc
-no_import_in context.Oneof h e = cc
-no_import_in context.Enum h e = cc
-no_import_in context.Service h e = cc
-no_import_in context.Method h e = cc
+no_import_in _ h e = cc
 
 stays_inner : (c : Context) (k : Kind) → allows c kind.Close ≡ true → allows (after c k) kind.Close ≡ true
 stays_inner c k h = ap (λ d. allows d kind.Close) (after_inner c k h) ∙ h
 
-none_inside : (g : Move) (i : Import) (c : Context) (t u : Tree) → allows c kind.Close ≡ true → IsExchanged g End (Leaf (statement.Import i) End) c t u → ⊥
+pub none_inside : (g : Move) (i : Import) (c : Context) (t u : Tree) → allows c kind.Close ≡ true → IsExchanged g End (Leaf (statement.Import i) End) c t u → ⊥
 none_inside g i _ t u h (Here c rest fine on) = no_import_in c h fine.0
 none_inside g i _ t u h (Later c s x y r) = none_inside g i (after c (statement_kind s)) x y (stays_inner c (statement_kind s) h) r
 none_inside g i _ t u h (Inside c k n x y j rest r) = none_inside g i (inside k) x y (inside_inner k) r

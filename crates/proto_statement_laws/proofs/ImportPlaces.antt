@@ -16,11 +16,13 @@ use Rattle.proto_tree.specs.Tree.{Tree, End, Leaf, Block, flat, statement_kind, 
 use Rattle.proto_tree.proofs.MarkLaws.{numbered_append}
 use Rattle.proto_tree.proofs.Nodes.{flat-joined}
 use Rattle.proto_listing.specs.FromTree.{Wanted, imports_in, statement_imports}
+use Rattle.proto_listing.specs.Moved.{move_wanted}
+use Rattle.proto_listing.proofs.MovedHeads.{imports_moved}
 use Rattle.proto_statement_laws.specs.Deletions.{last_of as last_index}
 use Rattle.proto_statement_laws.specs.Exchanges.{IsExchanged, Here, Later, Behind, before}
-use Rattle.proto_statement_laws.specs.Imports.{behind_import, behind_package, behind_syntax, import_place, move_wanted}
+use Rattle.proto_statement_laws.specs.Imports.{behind_import, behind_package, behind_syntax, import_place}
 use Rattle.proto_statement_laws.proofs.FileContexts.{IsOuter, IsSettled, file_from_start, outer, settled}
-use Rattle.proto_statement_laws.proofs.ImportLists.{imports_behind, imports_moved, leaf_all, leaf_now, no_imports}
+use Rattle.proto_statement_laws.proofs.ImportLists.{imports_behind, leaf_all, leaf_now, no_imports}
 use Rattle.proto_statement_laws.proofs.LastOf.{last_by, last_option, or_else, or_start, place_is, some_is_not_none}
 use Rattle.proto_statement_laws.proofs.Marks.{numbered_last, some_marks}
 

@@ -5,6 +5,8 @@ use Rattle.std.proofs.lemmas.Bool.{cond-true, cond-false, lt-ltb, le-ltb}
 use Rattle.proto_text.specs.Tokens.{Lexeme}
 use Rattle.proto_statement_laws.specs.Exchanges.{LexemesAreMoved}
 
+-- As the moved indices of Order of proto_text, of whole lexemes in place of their words.
+
 got_in_front : (xs ys : List Lexeme) (k : ℕ) → k < length xs → slice_get (xs ++ ys) k ≡ slice_get xs k
 got_in_front [] ys k lt = absurd (omega (arith, lt))
 got_in_front (x ∷ xs) ys zero lt = refl

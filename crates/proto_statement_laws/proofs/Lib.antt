@@ -16,4 +16,4 @@ pub mod Reversed
 pub mod Seams
 pub mod StandsOnce
 pub mod TakenOut
-mod TextLaws
+pub mod TextLaws

@@ -10,9 +10,10 @@ use Rattle.proto_tree.specs.Tree.{Tree, End, Leaf, Block, flat, statement_kind, 
 use Rattle.proto_tree.proofs.Faults.{one_tree}
 use Rattle.proto_tree.proofs.MoveLaws.{flat_moved, well_formed_moved, kind_moved, header_kind_moved, inside_moved}
 use Rattle.proto_tree.specs.Words.{classes}
+use Rattle.proto_tree.proofs.ReplaceLaws.{behind_fine}
 use Rattle.proto_statement_laws.specs.Exchanges.{IsExchanged, Here, Later, Inside, Behind, before, ExchangesAreReversed}
 use Rattle.proto_statement_laws.proofs.Endings.{nothing_behind}
-use Rattle.proto_statement_laws.proofs.Exchanged.{around, behind_fine, cut, header_moved, statements_are_exchanged}
+use Rattle.proto_statement_laws.proofs.Exchanged.{around, cut, header_moved, statements_are_exchanged}
 
 record IsBack (back : Move) (a b : Tree) (c : Context) (u : Tree) (n : ℕ) : Type 0 where
   tree : Tree

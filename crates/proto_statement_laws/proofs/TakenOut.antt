@@ -67,13 +67,7 @@ exchanged_long g a b c t u r =
 -- a oneof stands in a message
 oneof_in : (c : Context) → allows c kind.OpenOneof ≡ true → after c kind.OpenOneof ≡ context.Message
 oneof_in context.Message e = refl
-oneof_in context.Start e = absurd cc
-oneof_in context.File e = absurd cc
-oneof_in context.Packaged e = absurd cc
-oneof_in context.Oneof e = absurd cc
-oneof_in context.Enum e = absurd cc
-oneof_in context.Service e = absurd cc
-oneof_in context.Method e = absurd cc
+oneof_in _ e = absurd cc
 
 -- the statement is taken out where n tokens stand before it, and b put in
 pub record IsTakenOut (g k : Move) (s : Statement) (b : Tree) (c d : Context) (t : Tree) (n p : ℕ) : Type 0 where

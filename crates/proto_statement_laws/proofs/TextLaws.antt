@@ -1,4 +1,4 @@
--- The laws of texts that are called, as one record.
+-- The laws of texts that are called, as one record (for the crates above).
 use Rattle.proto_text.specs.Segments.{BetweenPlaces, DecimalIsNumber, QuotedStandsForItself, RunsAreReplaced, SegmentsJoin, SpaceIsSegment, TokenBeforeSegment, TokenIsSegment}
 
 pub record Laws : Type 0 where

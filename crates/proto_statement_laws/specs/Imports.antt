@@ -15,6 +15,7 @@ use Rattle.proto_tree.specs.Moved.{Move}
 use Rattle.proto_tree.specs.Reads.{Reads}
 use Rattle.proto_tree.specs.Tree.{Tree, End, Leaf}
 use Rattle.proto_listing.specs.FromTree.{Wanted, imports_in, statement_imports}
+use Rattle.proto_listing.specs.Moved.{move_wanted}
 use Rattle.proto_parts.specs.Parts.{statements}
 use Rattle.proto_statement_laws.specs.Deletions.{StandsIn, begins, ends, own, splice, without}
 use Rattle.proto_statement_laws.specs.Exchanges.{IsExchanged}
@@ -67,10 +68,6 @@ drop_of text tokens i =
     splice text (begins tokens (statement.Import i)) (ends tokens (statement.Import i)) []
 
 -- ---- what is read
-
--- an import of which the path stands at another token
-abbrev pub move_wanted : Move → Wanted → Wanted
-move_wanted g w = record { path = g w.path; is_public = w.is_public }
 
 -- The second tree has the imports of the first, moved, and between them that of the statement.
 pub record HasImport (g : Move) (i : Import) (t u : Tree) : Type 0 where

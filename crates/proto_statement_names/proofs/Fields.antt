@@ -7,7 +7,7 @@ use Rattle.proto_files.specs.Faults.{HasNoFault}
 use Rattle.proto_files.specs.FilesRead.{AreRead, ReadOf}
 use Rattle.proto_files.specs.GivenFiles.{FileOf}
 use Rattle.proto_meaning.specs.declared.kind.Kind.{Kind}
-use Rattle.proto_meaning.specs.declared.kind.Kind.TheVariants.{Package, Message, Entry, Enum, Service, Field, EntryField, Oneof, Value, Method}
+use Rattle.proto_meaning.specs.declared.kind.Kind.TheVariants.{Package, Field}
 use Rattle.proto_meaning.specs.Joined.{joined}
 use Rattle.proto_meaning.specs.Names.{Symbol}
 use Rattle.proto_meaning.specs.Skeleton.{symbol_of}
@@ -25,15 +25,7 @@ use Rattle.proto_statement_names.specs.Fields.{FieldsAreOne, FieldsAreThere, Fie
 
 field_or : (k : Kind) → (k ≡ Field) ⊎ (k ≢ Field)
 field_or Field = inl refl
-field_or Package = inr (λ e. cc)
-field_or Message = inr (λ e. cc)
-field_or Entry = inr (λ e. cc)
-field_or Enum = inr (λ e. cc)
-field_or Service = inr (λ e. cc)
-field_or EntryField = inr (λ e. cc)
-field_or Oneof = inr (λ e. cc)
-field_or Value = inr (λ e. cc)
-field_or Method = inr (λ e. cc)
+field_or _ = inr (λ e. cc)
 
 -- a kind that may not be renamed is not a field's
 no_field : (k : Kind) → may_rename k ≡ false → k ≢ Field

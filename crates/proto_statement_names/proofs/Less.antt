@@ -42,7 +42,7 @@ type_is_outer Oneof h = absurd (true≢false (sym h))
 type_is_outer Value h = absurd (true≢false (sym h))
 type_is_outer Method h = absurd (true≢false (sym h))
 
-type_stays : (k : Kind) → is_type k ≡ true → k ≢ Entry → goes_with_field k ≡ false
+pub type_stays : (k : Kind) → is_type k ≡ true → k ≢ Entry → goes_with_field k ≡ false
 type_stays k h ne = outer_stays k (type_is_outer k h) ne
 
 some_words : (front words : List (List ℕ)) → 0 < length words → 0 < length (front ++ take 1 words)

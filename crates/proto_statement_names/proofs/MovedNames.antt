@@ -9,7 +9,7 @@ use Rattle.proto_tree.specs.declared.tree.FieldType.TheVariants as field_type
 use Rattle.proto_tree.specs.declared.tree.Reference.{Reference}
 use Rattle.proto_tree.specs.declared.tree.Separated.{Separated}
 use Rattle.proto_tree.specs.declared.tree.Signature.{Signature}
-use Rattle.proto_tree.specs.Moved.{Move, move_behind, move_header, move_option, move_reference, move_separated, move_signature, move_statement, move_tree, move_type}
+use Rattle.proto_tree.specs.Moved.{Move, move_header, move_option, move_reference, move_separated, move_signature, move_statement, move_tree, move_type}
 use Rattle.proto_tree.specs.References.{dotted, first_of}
 use Rattle.proto_tree.specs.Tree.{Tree, End, Leaf, Block}
 use Rattle.proto_meaning.specs.declared.kind.Kind.{Kind}
@@ -17,9 +17,10 @@ use Rattle.proto_meaning.specs.declared.kind.Kind.TheVariants as kind
 use Rattle.proto_meaning.specs.Skeleton.{Source, Token, EntryOf, Given, Used, shifted_source, shifted_used}
 use Rattle.proto_meaning.specs.Tree.{Items, Members, Placed, all_placed, beside, items_placed, key_word, map_field, package_of, packaged, place, placed, prefixes, value_word}
 use Rattle.proto_meaning.proofs.Edited.{map_append, map_map}
-use Rattle.proto_listing.specs.FromTree.{Wanted, add_statement, block_names, block_uses, field_names, file_block, flat_uses, header_uses, imports_in, item_uses, items_in, member_uses, members_in, method_names, no_names, picked, scope_in, signature_uses, statement_imports, statement_uses, type_uses, used_as, value_names}
+use Rattle.proto_listing.specs.FromTree.{add_statement, block_names, block_uses, field_names, file_block, flat_uses, header_uses, item_uses, items_in, member_uses, members_in, method_names, no_names, picked, scope_in, signature_uses, statement_uses, type_uses, used_as, value_names}
+use Rattle.proto_listing.proofs.MovedHeads.{dotted_moved, imports_moved, package_moved}
 use Rattle.proto_rename_laws.specs.Imports.{without_imports}
-use Rattle.proto_statement_names.specs.Trees.{ImportsMoveNames, MovesNames, TreesMoveImports, TreesMoveNames, move_placed, move_wanted}
+use Rattle.proto_statement_names.specs.Trees.{ImportsMoveNames, MovesNames, TreesMoveImports, TreesMoveNames, move_placed}
 
 module _ (g : Move) where
   abbrev pub path_of : List (Source ℕ) → List (Source ℕ)
@@ -97,9 +98,6 @@ module _ (g : Move) where
 
   -- ---- uses
 
-  pub dotted_moved : (d : Separated ℕ) → dotted (move_separated g g d) ≡ map g (dotted d)
-  dotted_moved d = ap (λ (z : List ℕ). g d.first ∷ z) (map_map (move_behind g g) (λ b. b.item) d.rest ∙ sym (map_map (λ b. b.item) g d.rest))
-
   some_moved : (o : Option ℕ) → is_some (move_option g o) ≡ is_some o
   some_moved None = refl
   some_moved (Some i) = refl
@@ -108,14 +106,15 @@ module _ (g : Move) where
   first_moved None w = refl
   first_moved (Some i) w = refl
 
-  uses : (file : ℕ) (scope : List (Source ℕ)) (absolute is_method : Bool) (first : ℕ) (tokens : List ℕ) → Used ℕ
-  uses file scope absolute is_method first tokens = record { file = file; scope = scope; is_absolute = absolute; is_method = is_method; first = first; tokens = tokens }
-
   used_moved : (scope : List (Source ℕ)) (is_method : Bool) (r : Reference) → used_as (path_of scope) is_method (move_reference g r) ≡ shifted_used g (used_as scope is_method r)
-  unfolding uses
-  used_moved scope is_method r =
-      ap₂ (λ absolute first. uses 0 (path_of scope) absolute is_method first (dotted (move_separated g g r.words))) (some_moved r.dot) (first_moved r.dot r.words)
-      ∙ ap (λ tokens. uses 0 (path_of scope) (is_some r.dot) is_method (g (first_of r.dot r.words)) tokens) (dotted_moved r.words)
+  used_moved scope is_method r = λ i. record {
+    file = 0;
+    scope = path_of scope;
+    is_absolute = some_moved r.dot i;
+    is_method = is_method;
+    first = first_moved r.dot r.words i;
+    tokens = dotted_moved g r.words i;
+  }
 
   type_moved : (scope : List (Source ℕ)) (t : FieldType) → type_uses (path_of scope) (move_type g t) ≡ map (shifted_used g) (type_uses scope t)
   type_moved scope (field_type.Scalar t) = refl
@@ -177,23 +176,6 @@ module _ (g : Move) where
   prefixes_moved path [] = refl
   prefixes_moved path (t ∷ ts) = ap (λ (z : List Placed). place (path_of path) (Token (g t)) kind.Package ∷ z) (ap (λ p. prefixes p (map g ts)) (sym (path_more path (Token t))) ∙ prefixes_moved (path ++ Token t ∷ []) ts)
 
-  pub package_moved : (x : Tree) → package_of (items_in (move_tree g x)) ≡ map g (package_of (items_in x))
-  package_moved End = refl
-  package_moved (Leaf (statement.Package p) rest) = dotted_moved p.name
-  package_moved (Leaf (statement.Syntax s) rest) = package_moved rest
-  package_moved (Leaf (statement.Import i) rest) = package_moved rest
-  package_moved (Leaf (statement.Option o) rest) = package_moved rest
-  package_moved (Leaf (statement.Field f) rest) = package_moved rest
-  package_moved (Leaf (statement.MapField f) rest) = package_moved rest
-  package_moved (Leaf (statement.Reserved r) rest) = package_moved rest
-  package_moved (Leaf (statement.Extensions e) rest) = package_moved rest
-  package_moved (Leaf (statement.Value v) rest) = package_moved rest
-  package_moved (Leaf (statement.EnumReserved r) rest) = package_moved rest
-  package_moved (Leaf (statement.Method s i) rest) = package_moved rest
-  package_moved (Leaf (statement.Empty i) rest) = package_moved rest
-  package_moved (Block (header.Message h) i within j rest) = package_moved rest
-  package_moved (Block whole i within j rest) = package_moved rest
-
   -- ---- what the items of a file place
 
   both_placed : (a b c e : List Placed) → c ≡ map (move_placed g) a → e ≡ map (move_placed g) b → c ++ e ≡ map (move_placed g) (a ++ b)
@@ -208,7 +190,7 @@ module _ (g : Move) where
 
   pub items_moved : (path : List (Source ℕ)) (x : Tree) → items_placed (path_of path) (items_in (move_tree g x)) ≡ map (move_placed g) (items_placed path (items_in x))
   items_moved path End = refl
-  items_moved path (Leaf (statement.Package p) rest) = both_placed (prefixes [] (dotted p.name)) (items_placed path (items_in rest)) _ _ (ap (prefixes []) (dotted_moved p.name) ∙ prefixes_moved [] (dotted p.name)) (items_moved path rest)
+  items_moved path (Leaf (statement.Package p) rest) = both_placed (prefixes [] (dotted p.name)) (items_placed path (items_in rest)) _ _ (ap (prefixes []) (dotted_moved g p.name) ∙ prefixes_moved [] (dotted p.name)) (items_moved path rest)
   items_moved path (Leaf _ rest) = items_moved path rest
   items_moved path (Block (header.Message h) i within j rest) =
       both_placed (place path (Token h.name) kind.Message ∷ all_placed (path ++ Token h.name ∷ []) (members_in within)) (items_placed path (items_in rest)) _ _
@@ -220,16 +202,7 @@ module _ (g : Move) where
       (ap (λ (z : List Placed). place (path_of path) (Token (g h.name)) kind.Service ∷ z) (methods_placed path h.name (picked method_names block_names within) _ (methods_picked within))) (items_moved path rest)
   items_moved path (Block whole i within j rest) = items_moved path rest
 
-  -- ---- imports
-
-  statement_imports_moved : (s : Statement) → statement_imports (move_statement g s) ≡ map (move_wanted g) (statement_imports s)
-  statement_imports_moved (statement.Import i) = ap (λ (b : Bool). let w : Wanted = record { path = g i.path; is_public = b } in w ∷ []) (some_moved i.public)
-  statement_imports_moved _ = refl
-
-  imports_moved : (x : Tree) → imports_in (move_tree g x) ≡ map (move_wanted g) (imports_in x)
-  imports_moved End = refl
-  imports_moved (Leaf s rest) = ap₂ (λ (y z : List Wanted). y ++ z) (statement_imports_moved s) (imports_moved rest) ∙ sym (map_append (move_wanted g) (statement_imports s) (imports_in rest))
-  imports_moved (Block h i within j rest) = imports_moved rest
+-- ---- imports
 
 pub trees_move_imports : TreesMoveImports
 trees_move_imports = imports_moved

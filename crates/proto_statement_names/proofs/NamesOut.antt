@@ -10,11 +10,12 @@ use Rattle.proto_meaning.specs.Grown.{At, at}
 use Rattle.proto_meaning.specs.Names.{Import, Reference, Symbol, Workspace}
 use Rattle.proto_meaning.specs.Skeleton.{shifted_used}
 use Rattle.proto_listing.specs.FromTree.{file_names, imports_in}
+use Rattle.proto_listing.specs.Moved.{move_wanted}
 use Rattle.proto_imports.specs.Links.{all_wanted, link_imports, names_in, names_of_files, text_of}
 use Rattle.proto_statement_names.specs.Files.{DeletionsHaveLess, ImportsAreMore, IsFieldLess, IsImportMore, IsOneFile, MayGoAt}
 use Rattle.proto_statement_names.specs.Less.{MayGo}
 use Rattle.proto_statement_names.specs.Lists.{HasMore, HasOneMore, IsAny}
-use Rattle.proto_statement_names.specs.Trees.{move_placed, move_wanted, placed_in}
+use Rattle.proto_statement_names.specs.Trees.{move_placed, placed_in}
 use Rattle.proto_statement_names.proofs.Lists.{more_back, more_front, more_map, one_back, one_filter_map, one_front, one_map}
 use Rattle.proto_statement_names.proofs.Spelled.{imports_unplaced, one_function, reference_in, references_at, references_moved, references_walk, symbol_in, symbols_at, symbols_moved, symbols_walk, unplaced, wanted_at, wanted_in, wanted_moved, wanted_walk}
 use Rattle.proto_statement_names.proofs.Walks.{walk, walk_one}

@@ -1,31 +1,15 @@
 -- The place of a path among the files of a workspace (for the crates above).
-use Rattle.std.proofs.Common.{◌≡◌, ◌≢◌, ℕ, zero, suc, ◌+◌, ◌<◌, Bool, true, false, not, nat_lt, cond, List, [], ◌∷◌, length, get_or, Some, None, option_map, refl, sym, ap, subst, ◌∙◌, inl, inr, arith}
-use Rattle.std.specs.List.{AllPairs, position, position_or_len}
+use Rattle.std.proofs.Common.{◌≡◌, ◌≢◌, ℕ, zero, suc, ◌<◌, false, List, [], ◌∷◌, length, get_or, Some, option_map, refl, sym, ap, subst, ◌∙◌, arith}
+use Rattle.std.specs.List.{AllPairs, position}
 use Rattle.std.specs.Str.{bytes_eq}
-use Rattle.std.proofs.lemmas.Bool.{cases_lt, cond-false, cond-true}
-use Rattle.std.proofs.lemmas.Bool.Decides.{nat_tests}
+use Rattle.std.proofs.lemmas.Bool.{cond-false, cond-true}
 use Rattle.proto_faults.proofs.Lists.{same_from_word}
 use Rattle.proto_files.specs.GivenFiles.{AreWorkspaceFiles, FileOf, file_at, paths_of}
 use Rattle.proto_files.specs.WorkspacePaths.{IsBefore}
 use Rattle.proto_files.proofs.PathOrder.{bytes_apart, never_before_itself}
 use Rattle.proto_meaning.specs.Faults.{file_of}
+use Rattle.proto_imports.proofs.Resolving.{position_cons}
 use Rattle.proto_statement_names.specs.Cases.{IsNoFile, IsPlaceOf}
-
-position_cons : {X : Type 0} (p : X → Bool) (x : X) (xs : List X) → position p (x ∷ xs) ≡ cond (p x) (Some 0) (option_map suc (position p xs))
-position_cons p x xs = go (p x) (position_or_len p xs) (length xs)
-  where
-    go : (b : Bool) (n m : ℕ) → cond (nat_lt (cond (not b) (1 + n) 0) (suc m)) (Some (cond (not b) (1 + n) 0)) None ≡ cond b (Some 0) (option_map suc (cond (nat_lt n m) (Some n) None))
-    go true n m = grind (arith, nat_tests)
-    go false n m = elim (cases_lt n m) [
-      | inl l ↦
-          let a : nat_lt n m ≡ true = grind (arith, nat_tests) in
-          let b : nat_lt (1 + n) (suc m) ≡ true = grind (arith, nat_tests) in
-          cond-true (nat_lt (1 + n) (suc m)) (Some (1 + n)) None b ∙ ap Some (omega arith) ∙ sym (ap (option_map suc) (cond-true (nat_lt n m) (Some n) None a))
-      | inr l ↦
-          let a : nat_lt n m ≡ false = grind (arith, nat_tests) in
-          let b : nat_lt (1 + n) (suc m) ≡ false = grind (arith, nat_tests) in
-          cond-false (nat_lt (1 + n) (suc m)) (Some (1 + n)) None b ∙ sym (ap (option_map suc) (cond-false (nat_lt n m) (Some n) None a))
-    ]
 
 -- the path of a file is at its place
 at_place : (files : List FileOf) → AllPairs (λ f g. IsBefore f.path g.path) files → (k : ℕ) → k < length files → (path : List ℕ) → (file_at files k).path ≡ path → file_of (paths_of files) path ≡ Some k

@@ -1,16 +1,17 @@
 -- With the same imports, in whatever order, the same is seen; and the imports of files with those of one file changed (for the crates above).
-use Rattle.std.proofs.Common.{◌≡◌, ◌≢◌, ◌⊎◌, ◌↔◌, ℕ, zero, suc, ◌+◌, ◌<◌, Bool, true, false, ◌&&◌, ◌||◌, ◌==◌, List, [], ◌∷◌, length, get_or, filter, refl, sym, ◌∙◌, ap, subst, inl, inr, arith, slice_set}
+use Rattle.std.proofs.Common.{◌≡◌, ◌≢◌, ◌⊎◌, ◌↔◌, ℕ, zero, suc, ◌+◌, ◌<◌, Bool, true, false, ◌&&◌, ◌||◌, ◌==◌, List, [], length, get_or, filter, refl, sym, ◌∙◌, ap, subst, inl, inr, arith, slice_set}
 use Rattle.std.specs.List.{All, Contains, list_any}
-use Rattle.std.proofs.lemmas.Bool.{cases_Bool, cases_eq, both_ways, cond-true, cond-false}
+use Rattle.std.proofs.lemmas.Bool.{cases_eq}
 use Rattle.std.proofs.lemmas.List.{get_or_default, get_or-set_same, get_or-set_other}
 use Rattle.std.proofs.lemmas.List.Elements.{Contains-get_or}
-use Rattle.proto_faults.proofs.Lists.{any_from, any_to, contains_cases, contains_head, contains_later}
+use Rattle.proto_faults.proofs.Lists.{any_from, any_to}
 use Rattle.proto_meaning.specs.Edits.{with_imports}
 use Rattle.proto_meaning.specs.Marks.{MarksSeen}
 use Rattle.proto_meaning.specs.Names.{Import, Workspace, reaches, sees}
 use Rattle.proto_imports.specs.Importing.{all_imports, import_from}
 use Rattle.proto_imports.specs.declared.import.FileImport.{FileImport}
 use Rattle.proto_imports.proofs.ImportGraph.{import_in, import_of_file}
+use Rattle.proto_imports.proofs.SeenFiles.{in_filter}
 
 -- ---- what is seen
 
@@ -91,29 +92,6 @@ pub import_own : (is : List (List FileImport)) (k : ℕ) (x : FileImport) → Co
 import_own is k x c = let z : 0 + k ≡ k = omega arith in subst (λ j. Contains (all_imports 0 is) (import_from j x)) z (import_of_file 0 k is x c)
 
 -- ---- what passes a test
-
-pub in_filter : {X : Type 0} (p : X → Bool) (xs : List X) (x : X) → Contains (filter p xs) x → Contains xs x × (p x ≡ true)
-in_filter p [] x c = absurd (omega (arith, c.1))
-in_filter p (y ∷ xs) x c = elim (cases_Bool (p y)) [
-  | inl pass ↦ elim (contains_cases y x (filter p xs) (subst (λ z. Contains z x) (cond-true (p y) (y ∷ filter p xs) (filter p xs) pass) c)) [
-    | inl e ↦ (subst (Contains (y ∷ xs)) e (contains_head y xs), ap p (sym e) ∙ pass)
-    | inr d ↦ let r = in_filter p xs x d in (contains_later y x xs r.0, r.1)
-  ]
-  | inr fail ↦ let r = in_filter p xs x (subst (λ z. Contains z x) (cond-false (p y) (y ∷ filter p xs) (filter p xs) fail) c) in (contains_later y x xs r.0, r.1)
-]
-
-pub of_filter : {X : Type 0} (p : X → Bool) (xs : List X) (x : X) → Contains xs x → p x ≡ true → Contains (filter p xs) x
-of_filter p [] x c e = absurd (omega (arith, c.1))
-of_filter p (y ∷ xs) x c e = elim (cases_Bool (p y)) [
-  | inl pass ↦ subst (λ z. Contains z x) (sym (cond-true (p y) (y ∷ filter p xs) (filter p xs) pass)) (elim (contains_cases y x xs c) [
-    | inl same ↦ subst (Contains (y ∷ filter p xs)) same (contains_head y (filter p xs))
-    | inr d ↦ contains_later y x (filter p xs) (of_filter p xs x d e)
-  ])
-  | inr fail ↦ subst (λ z. Contains z x) (sym (cond-false (p y) (y ∷ filter p xs) (filter p xs) fail)) (elim (contains_cases y x xs c) [
-    | inl same ↦ absurd (both_ways (p y) fail (ap p same ∙ e))
-    | inr d ↦ of_filter p xs x d e
-  ])
-]
 
 -- what holds of all holds of those that pass
 pub all_filtered : {X : Type 0} (P : X → Type 0) (p : X → Bool) (xs : List X) → All P xs → All P (filter p xs)

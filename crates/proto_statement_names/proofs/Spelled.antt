@@ -13,8 +13,9 @@ use Rattle.proto_meaning.specs.Skeleton.{EntryOf, Given, Source, Token, Used, na
 use Rattle.proto_meaning.specs.Tree.{Placed}
 use Rattle.proto_meaning.proofs.Edited.{map_agree, map_append, map_map}
 use Rattle.proto_listing.specs.FromTree.{Wanted, file_names, imports_in}
+use Rattle.proto_listing.specs.Moved.{move_wanted}
 use Rattle.proto_imports.specs.Links.{all_wanted, asked_as, names_in}
-use Rattle.proto_statement_names.specs.Trees.{move_placed, move_wanted, placed_in}
+use Rattle.proto_statement_names.specs.Trees.{move_placed, placed_in}
 use Rattle.proto_statement_names.proofs.Walks.{walk}
 
 -- two functions that answer the same are one

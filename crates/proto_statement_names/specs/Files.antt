@@ -13,10 +13,11 @@ use Rattle.proto_meaning.specs.Grown.{at}
 use Rattle.proto_meaning.specs.Skeleton.{shifted_used}
 use Rattle.proto_meaning.specs.Tree.{Placed}
 use Rattle.proto_listing.specs.FromTree.{Wanted, file_names, imports_in}
+use Rattle.proto_listing.specs.Moved.{move_wanted}
 use Rattle.proto_imports.specs.Links.{link_imports, names_of_files, text_of}
 use Rattle.proto_statement_names.specs.Less.{HasLess, goes_with_field}
 use Rattle.proto_statement_names.specs.Lists.{HasMore, HasOneMore, IsAny}
-use Rattle.proto_statement_names.specs.Trees.{MovesNames, move_placed, move_wanted, placed_in}
+use Rattle.proto_statement_names.specs.Trees.{MovesNames, move_placed, placed_in}
 
 -- one file is read otherwise, and no path changes
 pub record IsOneFile

@@ -37,7 +37,30 @@ DeletionsKeepLinks =
     → IsFieldLess files reads after seen
     → HasNoFault (LinkFaults after)
 
--- ---- an import more
+-- ---- an import more, and one less
+
+-- a change of the imports of the file of the one path by the other path
+abbrev pub ImportChange : Type 1
+ImportChange = List FileOf → List ReadOf → List FileOf → List ReadOf → Path → Path → Type 0
+
+-- With such a change each reference means what it meant,
+abbrev pub KeepMeanings : ImportChange → Type 0
+KeepMeanings IsChanged =
+    (files : List FileOf) (reads : List ReadOf) (after : List FileOf) (seen : List ReadOf)
+    (file path : Path)
+    → AreClean files reads
+    → IsChanged files reads after seen file path
+    → MeanTheSame files reads after seen
+
+-- and the files are linked.
+abbrev pub KeepLinks : ImportChange → Type 0
+KeepLinks IsChanged =
+    (files : List FileOf) (reads : List ReadOf) (after : List FileOf) (seen : List ReadOf)
+    (file path : Path)
+    → AreClean files reads
+    → AreRead after seen
+    → IsChanged files reads after seen file path
+    → HasNoFault (LinkFaults after)
 
 -- the file of the one path imports the other as well, and no case refuses it
 pub record IsAdded
@@ -50,24 +73,11 @@ pub record IsAdded
 
 -- With an added import each reference means what it meant,
 abbrev pub AdditionsKeepMeanings : Type 0
-AdditionsKeepMeanings =
-    (files : List FileOf) (reads : List ReadOf) (after : List FileOf) (seen : List ReadOf)
-    (file path : Path)
-    → AreClean files reads
-    → IsAdded files reads after seen file path
-    → MeanTheSame files reads after seen
+AdditionsKeepMeanings = KeepMeanings IsAdded
 
 -- and the files are linked.
 abbrev pub AdditionsKeepLinks : Type 0
-AdditionsKeepLinks =
-    (files : List FileOf) (reads : List ReadOf) (after : List FileOf) (seen : List ReadOf)
-    (file path : Path)
-    → AreClean files reads
-    → AreRead after seen
-    → IsAdded files reads after seen file path
-    → HasNoFault (LinkFaults after)
-
--- ---- an import less
+AdditionsKeepLinks = KeepLinks IsAdded
 
 -- the first files are the second with the import put in, which may be a public
 -- one, and no case refuses to drop it
@@ -82,19 +92,8 @@ pub record IsDropped
 
 -- Without a dropped import each reference means what it meant,
 abbrev pub DropsKeepMeanings : Type 0
-DropsKeepMeanings =
-    (files : List FileOf) (reads : List ReadOf) (after : List FileOf) (seen : List ReadOf)
-    (file path : Path)
-    → AreClean files reads
-    → IsDropped files reads after seen file path
-    → MeanTheSame files reads after seen
+DropsKeepMeanings = KeepMeanings IsDropped
 
 -- and the files are linked.
 abbrev pub DropsKeepLinks : Type 0
-DropsKeepLinks =
-    (files : List FileOf) (reads : List ReadOf) (after : List FileOf) (seen : List ReadOf)
-    (file path : Path)
-    → AreClean files reads
-    → AreRead after seen
-    → IsDropped files reads after seen file path
-    → HasNoFault (LinkFaults after)
+DropsKeepLinks = KeepLinks IsDropped

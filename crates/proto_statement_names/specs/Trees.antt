@@ -5,7 +5,8 @@ use Rattle.proto_tree.specs.Moved.{Move, move_tree}
 use Rattle.proto_tree.specs.Tree.{Tree}
 use Rattle.proto_meaning.specs.Skeleton.{shifted_source, shifted_used}
 use Rattle.proto_meaning.specs.Tree.{Placed, file_placed}
-use Rattle.proto_listing.specs.FromTree.{Wanted, file_names, imports_in}
+use Rattle.proto_listing.specs.FromTree.{file_names, imports_in}
+use Rattle.proto_listing.specs.Moved.{move_wanted}
 use Rattle.proto_rename_laws.specs.Imports.{without_imports}
 
 -- a declaration by other tokens
@@ -15,10 +16,6 @@ move_placed g p = record {
   last = shifted_source g p.last;
   kind = p.kind;
 }
-
--- an import by another token
-abbrev pub move_wanted : Move → Wanted → Wanted
-move_wanted g w = record { path = g w.path; is_public = w.is_public }
 
 -- what a tree declares, by its tokens
 abbrev pub placed_in : Tree → List Placed

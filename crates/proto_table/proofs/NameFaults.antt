@@ -45,9 +45,7 @@ place_in n x (EntryOf t ∷ rest) = place_in n t rest
 place_in n x (Given w ∷ rest) = place_in n x rest
 
 names_are : (text : At → List ℕ) (n : ℕ) (p : Placed) → as_named text (declares n p) ≡ names text n p
-names_are text n p =
-    ap (λ (x : List (List ℕ)). let d : Named = record { name = x; kind = p.kind; place = place_of (declares n p) } in d) (name_in text n (whole p))
-    ∙ ap (λ (x : At). let d : Named = record { name = name_of (λ i. text (at n i)) entry_name (whole p); kind = p.kind; place = x } in d) (place_in n 0 (whole p))
+names_are text n p = λ i. record { name = name_in text n (whole p) i; kind = p.kind; place = place_in n 0 (whole p) i }
 
 symbols_are : (text : At → List ℕ) (n : ℕ) (p : Placed) → symbol_of text entry_name (declares n p) ≡ symbol_named (names text n p)
 symbols_are text n p = ap (λ (x : List (List ℕ)). let s : Symbol = record { name = x; kind = p.kind; file = n } in s) (name_in text n (whole p))

@@ -59,9 +59,8 @@ named_by_is file text before e s h t =
     let name : name_above (map (named_as file text) before) e.above ++ last_word text e ∷ [] ≡ name_of text entry_name (path ++ last ∷ []) =
     ap (λ (n : List (List ℕ)). n ++ last_word text e ∷ []) (name_above_is file text before e.above) ∙ sym (map-append (spell text entry_name) path (last ∷ [])) in
     let place : e.token ≡ place_from 0 (path ++ last ∷ []) = sym (place_is 0 (path ++ last ∷ []) ∙ ap (or_at 0) t) in
-    ap (named_bare file (map (named_as file text) before)) h
-    ∙ ap (λ (n : List (List ℕ)). let d : Named = record { name = n; kind = e.kind; place = at file e.token } in d) name
-    ∙ ap (λ (i : ℕ). let d : Named = record { name = name_of text entry_name (path ++ last ∷ []); kind = e.kind; place = at file i } in d) place
+    let same : named_bare file (map (named_as file text) before) (bare_of text e) ≡ named_as file text (seen path e) = λ i. record { name = name i; kind = e.kind; place = at file (place i) } in
+    ap (named_bare file (map (named_as file text) before)) h ∙ same
 
 abbrev tail_token : Placed → Option ℕ
 tail_token p = last_token (whole p)

@@ -10,7 +10,7 @@ pub mod Nodes
 mod OneFault
 mod PieceRules
 pub mod Places
-mod ReplaceLaws
+pub mod ReplaceLaws
 pub mod Roles
 mod Rules
 pub mod SpacedWords

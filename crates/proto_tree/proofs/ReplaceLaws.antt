@@ -1,5 +1,5 @@
--- Statements that are replaced.
-use Rattle.std.proofs.Common.{◌≡◌, ℕ, suc, ◌+◌, List, [], ◌∷◌, ◌++◌, length, map, refl, sym, ap, subst, ◌∙◌, arith, append_assoc, length-append}
+-- Statements that are replaced (for the crates above).
+use Rattle.std.proofs.Common.{◌≡◌, ℕ, suc, ◌+◌, ◌<◌, List, [], ◌∷◌, ◌++◌, length, map, refl, sym, ap, subst, ◌∙◌, arith, append_assoc, length-append}
 use Rattle.proto_text.specs.Tokens.{Lexeme}
 use Rattle.proto_tree.specs.declared.class.Class.TheVariants as class
 use Rattle.proto_tree.specs.declared.class.Lexeme.{Lexeme as Classed}
@@ -23,7 +23,7 @@ record IsAround (g : Move) (a b t u : Tree) (n : ℕ) : Type 0 where
   old : flat t ≡ front ++ (flat a ++ back)
   new : flat u ≡ front ++ (flat b ++ map (shift g) back)
 
-regroup : (x y z w : List Mark) → x ++ (y ++ (z ++ w)) ≡ (x ++ y) ++ (z ++ w)
+pub regroup : (x y z w : List Mark) → x ++ (y ++ (z ++ w)) ≡ (x ++ y) ++ (z ++ w)
 regroup x y z w = sym (append_assoc x y (z ++ w))
 
 around : (g : Move) (a b : Tree) (c : Context) (t u : Tree) (r : IsReplaced g a b c t u) → IsAround g a b t u (before r)
@@ -72,7 +72,7 @@ around g a b _ t u (Behind c k i within j x y r) =
 
 -- ---- what stands where
 
-behind_fine : (a rest : Tree) (c : Context) → IsWellFormed c (joined a rest) → IsWellFormed (last_of c a) rest
+pub behind_fine : (a rest : Tree) (c : Context) → IsWellFormed c (joined a rest) → IsWellFormed (last_of c a) rest
 behind_fine End rest c h = h
 behind_fine (Leaf s a) rest c h = behind_fine a rest (after c (statement_kind s)) h.1
 behind_fine (Block k i within j a) rest c h = behind_fine a rest (after c (header_kind k)) h.2
@@ -86,29 +86,29 @@ replaced_fine g a b _ t u (Behind c k i within j x y r) h = (h.0, h.1, replaced_
 
 -- ---- tokens
 
-classes-append : (n : ℕ) (x y : List Lexeme) → classes n (x ++ y) ≡ classes n x ++ classes (n + length x) y
+pub classes-append : (n : ℕ) (x y : List Lexeme) → classes n (x ++ y) ≡ classes n x ++ classes (n + length x) y
 classes-append n [] y = ap (λ (k : ℕ). classes k y) (omega arith)
 classes-append n (l ∷ x) y =
     let e : suc n + length x ≡ n + length (l ∷ x) = omega arith in
     ap (λ (ls : List Classed). record { class = class_by l.kind l.text; at = n } ∷ ls) (classes-append (suc n) x y ∙ ap (λ (k : ℕ). classes (suc n) x ++ classes k y) e)
 
-classes-length : (n : ℕ) (x : List Lexeme) → length (classes n x) ≡ length x
+pub classes-length : (n : ℕ) (x : List Lexeme) → length (classes n x) ≡ length x
 classes-length n [] = refl
 classes-length n (l ∷ x) = ap suc (classes-length (suc n) x)
 
-fit_parts : (a b : List Mark) (s t : List Classed) → length a ≡ length s → Fit (a ++ b) (s ++ t) → Fit a s × Fit b t
+pub fit_parts : (a b : List Mark) (s t : List Classed) → length a ≡ length s → Fit (a ++ b) (s ++ t) → Fit a s × Fit b t
 fit_parts [] b [] t e h = (tt, h)
 fit_parts [] b (l ∷ s) t e h = absurd (omega (arith, e))
 fit_parts (m ∷ a) b [] t e h = absurd (omega (arith, e))
 fit_parts (m ∷ a) b (l ∷ s) t e h = let r = fit_parts a b s t (omega (arith, e)) h.2 in ((h.0, h.1, r.0), r.1)
 
-fit_moved : (g : Move) (n n' : ℕ) (ms : List Mark) (x : List Lexeme) → ((k : ℕ) → g (n + k) ≡ n' + k) → Fit ms (classes n x) → Fit (map (shift g) ms) (classes n' x)
+pub fit_moved : (g : Move) (n n' : ℕ) (ms : List Mark) (x : List Lexeme) → ((k : ℕ) → k < length x → g (n + k) ≡ n' + k) → Fit ms (classes n x) → Fit (map (shift g) ms) (classes n' x)
 fit_moved g n n' [] [] to h = tt
 fit_moved g n n' [] (l ∷ x) to h = absurd h
 fit_moved g n n' (m ∷ ms) [] to h = absurd h
 fit_moved g n n' (m ∷ ms) (l ∷ x) to h =
-    let here : g n ≡ n' = ap g (zero_more n) ∙ to 0 ∙ sym (zero_more n') in
-    (h.0, sym here ∙ ap g h.1, fit_moved g (suc n) (suc n') ms x (λ k. ap g (one_more n k) ∙ to (suc k) ∙ sym (one_more n' k)) h.2)
+    let here : g n ≡ n' = ap g (zero_more n) ∙ to 0 (omega arith) ∙ sym (zero_more n') in
+    (h.0, sym here ∙ ap g h.1, fit_moved g (suc n) (suc n') ms x (λ k lt. ap g (one_more n k) ∙ to (suc k) (omega (arith, lt)) ∙ sym (one_more n' k)) h.2)
   where
     zero_more : (n : ℕ) → n ≡ n + 0
     zero_more n = omega arith
@@ -125,7 +125,7 @@ statements_are_replaced g a b t u r front old new back at len fits_b to h =
     let whole = subst (λ (ls : List Classed). Fit (s.front ++ (flat a ++ s.back)) ls) (split old) (subst (λ (ms : List Mark). Fit ms (classes 0 (front ++ (old ++ back)))) s.old h.fits) in
     let p = fit_parts s.front (flat a ++ s.back) (classes 0 front) (classes n old ++ classes (n + length old) back) (s.long ∙ at ∙ sym (classes-length 0 front)) whole in
     let q = fit_parts (flat a) s.back (classes n old) (classes (n + length old) back) (len ∙ sym (classes-length n old)) p.1 in
-    let moved = fit_moved g (n + length old) (n + length new) s.back back to q.1 in
+    let moved = fit_moved g (n + length old) (n + length new) s.back back (λ k lt. to k) q.1 in
     let fit = Fit-join s.front (flat b ++ map (shift g) s.back) (classes 0 front) (classes n new ++ classes (n + length new) back) p.0 (Fit-join (flat b) (map (shift g) s.back) (classes n new) (classes (n + length new) back) fits_b moved) in
     record {
       well_formed = replaced_fine g a b context.Start t u r h.well_formed;

@@ -1,4 +1,4 @@
-use Rattle.std.proofs.Common.{◌≡◌, List, ℕ, Bool, map, ◌∙◌, ap}
+use Rattle.std.proofs.Common.{◌≡◌, List, map, ◌∙◌, ap}
 use Rattle.std.specs.Prelude.{is_some}
 use Rattle.proto_text.specs.Texts.{word_at}
 use Rattle.proto_text.specs.Tokens.{Lexeme, lexeme_at}
@@ -10,7 +10,6 @@ use Rattle.proto_files.specs.FilesRead.{ReadOf}
 use Rattle.proto_parts.specs.Parts.{syntax_texts_in}
 use Rattle.proto_lint.proofs.HeadLists.{head_same, some_first}
 use Rattle.proto_lint.specs.Heads.{first_offset}
-use Rattle.proto_lint.specs.Packages.{Head}
 use Rattle.proto_lint.proofs.heads.FileHead.of.Goals as goal
 
 pub returns : goal.returns
@@ -26,7 +25,4 @@ returns c = λ (reads : List ReadOf) are.
     let offset : c.first_offset.result ≡ first_offset tokens names = c.first_offset.ensures ∙ ap (first_offset tokens) (c.deref-3.ensures.value ∙ c.in_ok-spelled.ensures) in
     let syntax = c.is_some.ensures ∙ ap is_some c.syntax_text.ensures ∙ some_first (syntax_texts_in tree) in
     head_same c.args.files.now reads c.args.file tokens tree _ are c.requires c.tokens-tokens.ensures.tokens c.tree-tree.ensures
-    (ap (λ (p : List ℕ). let h : Head = record { path = p; words = map (λ w. w.now) c.in_ok-words.words.items; offset = c.first_offset.result; has_syntax = c.is_some.result } in h) c.path.ensures
-    ∙ ap (λ (ws : List (List ℕ)). let h : Head = record { path = (file_at c.args.files.now c.args.file).path; words = ws; offset = c.first_offset.result; has_syntax = c.is_some.result } in h) words
-    ∙ ap (λ (o : ℕ). let h : Head = record { path = (file_at c.args.files.now c.args.file).path; words = map (word_at (map (lexeme_at bytes) tokens)) names; offset = o; has_syntax = c.is_some.result } in h) offset
-    ∙ ap (λ (b : Bool). let h : Head = record { path = (file_at c.args.files.now c.args.file).path; words = map (word_at (map (lexeme_at bytes) tokens)) names; offset = first_offset tokens names; has_syntax = b } in h) syntax))
+    (λ i. record { path = c.path.ensures i; words = words i; offset = offset i; has_syntax = syntax i }))
