@@ -9,7 +9,7 @@ no_point : (b : ℕ) (v : List ℕ) → list_any (λ x. x == 46) (b ∷ v) ≡ f
 no_point b v h e = both_ways (b == 46) (or_parts (b == 46) (list_any (λ x. x == 46) v) h).0 (eq-eqb b 46 e)
 
 -- up to the first point two texts agree
-at_point : (v w x y : List ℕ) → list_any (λ b. b == 46) v ≡ false → list_any (λ b. b == 46) w ≡ false → v ++ 46 ∷ x ≡ w ++ 46 ∷ y → (v ≡ w) × (x ≡ y)
+pub at_point : (v w x y : List ℕ) → list_any (λ b. b == 46) v ≡ false → list_any (λ b. b == 46) w ≡ false → v ++ 46 ∷ x ≡ w ++ 46 ∷ y → (v ≡ w) × (x ≡ y)
 at_point [] [] x y hv hw h = (refl, cc)
 at_point [] (b ∷ w) x y hv hw h = let e : b ≡ 46 = cc in absurd (no_point b w hw e)
 at_point (a ∷ v) [] x y hv hw h = let e : a ≡ 46 = cc in absurd (no_point a v hv e)

@@ -3,12 +3,12 @@ use Rattle.std.proofs.Common.{◌≡◌, ◌≢◌, ℕ, ◌+◌, ◌≤◌, Boo
 use Rattle.std.specs.Prelude.{◌==◌}
 use Rattle.std.specs.List.{list_any, count_by}
 use Rattle.std.specs.Option.{option_and_then}
-use Rattle.std.proofs.lemmas.Bool.{cases_Bool, cond-true, cond-false, eqb-true, eq-eqb, or_parts, both_ways}
+use Rattle.std.proofs.lemmas.Bool.{cases_Bool, cond-true, cond-false, eqb-true, eq-eqb, or_parts}
 use Rattle.std.proofs.lemmas.List.{append-nil}
 use Rattle.std.proofs.lemmas.List.Recursion.{is_count_by}
 use Rattle.std.proofs.lemmas.Option.{none-some, same_Some}
 use Rattle.proto_meaning.specs.Joined.{joined, ArePlain}
-use Rattle.proto_meaning.proofs.Joined.{joined_apart, not_pointed}
+use Rattle.proto_meaning.proofs.Joined.{at_point, joined_apart, not_pointed}
 use Rattle.proto_rename.specs.StandingTokens.{points, behind, words_in, words_behind}
 
 pub points_count : (text : List ℕ) → points text ≡ count_by (λ b. b == 46) text
@@ -68,20 +68,6 @@ joined_points (w ∷ v ∷ ms) p some =
     omega (arith, a, e, step, more)
 
 -- ---- names and their texts
-
-no_point : (b : ℕ) (v : List ℕ) → list_any (λ x. x == 46) (b ∷ v) ≡ false → b ≡ 46 → ⊥
-no_point b v h e = both_ways (b == 46) (or_parts (b == 46) (list_any (λ x. x == 46) v) h).0 (eq-eqb b 46 e)
-
--- up to the first point two texts agree
-at_point : (v w x y : List ℕ) → list_any (λ b. b == 46) v ≡ false → list_any (λ b. b == 46) w ≡ false → v ++ 46 ∷ x ≡ w ++ 46 ∷ y → (v ≡ w) × (x ≡ y)
-at_point [] [] x y hv hw h = (refl, cc)
-at_point [] (b ∷ w) x y hv hw h = let e : b ≡ 46 = cc in absurd (no_point b w hw e)
-at_point (a ∷ v) [] x y hv hw h = let e : a ≡ 46 = cc in absurd (no_point a v hv e)
-at_point (a ∷ v) (b ∷ w) x y hv hw h =
-    let t : v ++ 46 ∷ x ≡ w ++ 46 ∷ y = cc in
-    let e : a ≡ b = cc in
-    let r = at_point v w x y (or_parts (a == 46) (list_any (λ z. z == 46) v) hv).1 (or_parts (b == 46) (list_any (λ z. z == 46) w) hw).1 t in
-    (ap (λ z. z ∷ v) e ∙ ap (λ l. b ∷ l) r.0, r.1)
 
 -- a text that goes on at a point is that of a name that goes on
 goes_on : (t m : List (List ℕ)) (r : List ℕ) → ArePlain t → ArePlain m → t ≢ [] → joined m ≡ joined t ++ 46 ∷ r → (rest : List (List ℕ)) × (m ≡ t ++ rest) × ArePlain rest × (rest ≢ []) × (joined rest ≡ r)
