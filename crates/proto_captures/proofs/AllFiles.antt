@@ -1,10 +1,8 @@
 -- The first reference of all files that a rename captures, and the rename that an aim asks for.
-use Rattle.std.proofs.Common.{◌≡◌, ℕ, suc, ◌+◌, ◌<◌, true, List, [], ◌∷◌, length, map, Option, Some, None, refl, sym, ap, subst, ◌∙◌, inl, inr, arith}
+use Rattle.std.proofs.Common.{◌≡◌, ℕ, ◌+◌, ◌<◌, true, List, [], ◌∷◌, length, map, Option, Some, None, refl, sym, ap, subst, ◌∙◌, inl, inr, arith}
 use Rattle.std.specs.Prelude.{Result, Ok, Err, IfOk}
 use Rattle.std.specs.List.{Contains}
-use Rattle.std.proofs.lemmas.List.Elements.{Contains-append_cases}
 use Rattle.proto_case.specs.Camel.{entry_name}
-use Rattle.proto_faults.proofs.Lists.{from_map}
 use Rattle.proto_text.specs.Tokens.{Lexeme, lexeme_at}
 use Rattle.proto_text.specs.Texts.{word_at}
 use Rattle.proto_text.specs.Words.{is_run}
@@ -13,9 +11,9 @@ use Rattle.proto_files.specs.Faults.{HasNoFault}
 use Rattle.proto_files.specs.FileTokens.{AreTokensOf}
 use Rattle.proto_files.specs.FilesRead.{ReadOf, AreRead, read_at}
 use Rattle.proto_files.specs.GivenFiles.{FileOf, file_at}
-use Rattle.proto_imports.specs.Links.{LinkFaults, names_in, names_of_files, text_of}
+use Rattle.proto_imports.specs.Links.{LinkFaults, names_of_files, text_of}
 use Rattle.proto_meaning.specs.Edits.{Collides, target}
-use Rattle.proto_meaning.specs.Grown.{At, at, all_used, file_used, used_in}
+use Rattle.proto_meaning.specs.Grown.{At, at, used_in}
 use Rattle.proto_meaning.specs.Joined.{joined}
 use Rattle.proto_meaning.specs.Skeleton.{Token, Used, name_of, spell}
 use Rattle.proto_meaning.proofs.Edited.{map_append}
@@ -28,26 +26,13 @@ use Rattle.proto_captures.specs.declared.aim.Aim.{Aim}
 use Rattle.proto_captures.specs.FirstCaptured.{AreNewNames, IsFirstCaptured, IsFirstIn, IsRenameOf}
 use Rattle.proto_captures.specs.NewTexts.{NewTexts, texts_by}
 use Rattle.proto_captures.proofs.JoinedNames.{word_is_plain}
+use Rattle.proto_names.proofs.UsesOfFiles.{from_use}
 
 pub if_ok : {A E : Type 0} {P Q : A → Type 0} (r : Result A E) → IfOk r P → ((x : A) → P x → Q x) → IfOk r Q
 if_ok (Ok x) h f = f x h
 if_ok (Err e) h f = tt
 
 -- ---- the file of a use
-
-from_use : (n : ℕ) (rs : List ReadOf) (u : Used At) → Contains (all_used n (map names_in rs)) u → (k : ℕ) × (v : Used ℕ) × (k < length rs) × Contains (names_in (read_at rs k)).used v × (used_in (n + k) v ≡ u)
-from_use n [] u c = absurd (omega (arith, c.1))
-from_use n (r ∷ rs) u c = elim (Contains-append_cases (file_used n (names_in r)) (all_used (suc n) (map names_in rs)) u c) [
-  | inl a ↦
-      let v = from_map (used_in n) (names_in r).used u a in
-      let e : n ≡ n + 0 = omega arith in
-      (0, v.0, omega arith, v.1, subst (λ m. used_in m v.0 ≡ u) e v.2)
-  | inr b ↦
-      let o = from_use (suc n) rs u b in
-      let l = o.2 in
-      let e : suc n + o.0 ≡ n + suc o.0 = omega arith in
-      (suc o.0, o.1, omega (arith, l), o.3, subst (λ m. used_in m o.1 ≡ u) e o.4)
-]
 
 module _ (files : List FileOf) (reads : List ReadOf) (are : AreRead files reads) (t : Target) (to : List ℕ) where
   -- a captured use by its file

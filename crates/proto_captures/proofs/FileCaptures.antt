@@ -1,9 +1,8 @@
 -- The references of a file that a rename captures, by what is read of it; and those of all files.
-use Rattle.std.proofs.Common.{◌≡◌, ℕ, zero, suc, ◌+◌, ◌<◌, Bool, true, false, not, ◌&&◌, if◌then◌else◌, List, [], ◌∷◌, ◌++◌, length, get_or, map, Option, Some, None, refl, sym, ap, subst, ◌∙◌, arith}
+use Rattle.std.proofs.Common.{◌≡◌, ℕ, ◌+◌, ◌<◌, Bool, true, false, not, ◌&&◌, if◌then◌else◌, List, [], ◌∷◌, ◌++◌, length, get_or, map, Option, Some, None, refl, sym, ap, subst, ◌∙◌, arith}
 use Rattle.std.specs.Prelude.{option_map}
 use Rattle.std.specs.List.{AllPairs, Contains}
 use Rattle.std.proofs.lemmas.Bool.{and_from, and_parts, not-true, not_from_false}
-use Rattle.std.proofs.lemmas.List.Elements.{Contains-append_left, Contains-append_right}
 use Rattle.proto_faults.specs.Texts.{or_nothing}
 use Rattle.proto_case.specs.Camel.{entry_name}
 use Rattle.proto_case.proofs.EntryNames.{entry_differs}
@@ -11,13 +10,13 @@ use Rattle.proto_faults.proofs.Lists.{contains_map}
 use Rattle.proto_text.specs.Texts.{words}
 use Rattle.proto_files.specs.FilesRead.{ReadOf, read_at}
 use Rattle.proto_files.specs.GivenFiles.{FileOf, file_at}
-use Rattle.proto_imports.specs.Links.{link_skeleton, names_in, names_of_files, text_of}
+use Rattle.proto_imports.specs.Links.{link_skeleton, names_of_files, text_of}
 use Rattle.proto_listing.specs.Listing.{path_of, read, used_by}
 use Rattle.proto_listing.specs.declared.listing.Listed.{Listed}
 use Rattle.proto_listing.specs.declared.listing.Use.{Use}
 use Rattle.proto_listing.proofs.ReadTrees.{uses_plain}
 use Rattle.proto_meaning.specs.Edits.{Renaming, IsCaptured, target}
-use Rattle.proto_meaning.specs.Grown.{At, at, all_used, file_used, used_in}
+use Rattle.proto_meaning.specs.Grown.{At, at, used_in}
 use Rattle.proto_meaning.specs.Joined.{ArePlain, IsPlain, joined}
 use Rattle.proto_meaning.specs.Linked.{IsLinked, EntryFits, IsRenaming}
 use Rattle.proto_meaning.specs.Names.{Reference, Workspace, meaning}
@@ -43,17 +42,7 @@ use Rattle.proto_captures.proofs.ByTexts.{texts_for}
 use Rattle.proto_captures.proofs.CapturedWords.{back, forth}
 use Rattle.proto_captures.proofs.FirstOnes.{none_passes, one_passes}
 use Rattle.proto_captures.proofs.PlainWords.{has_scope, scope_plain}
-
--- ---- references and their files
-
-pub use_there : (n : ℕ) (rs : List ReadOf) (k : ℕ) (u : Used ℕ) → k < length rs → Contains (names_in (read_at rs k)).used u → Contains (all_used n (map names_in rs)) (used_in (n + k) u)
-use_there n [] k u l c = absurd (omega (arith, l))
-use_there n (x ∷ rs) zero u l c =
-    let zero_is : n ≡ n + 0 = omega arith in
-    subst (λ m. Contains (all_used n (map names_in (x ∷ rs))) (used_in m u)) zero_is (Contains-append_left (file_used n (names_in x)) (all_used (suc n) (map names_in rs)) (used_in n u) (contains_map (used_in n) (names_in x).used u c))
-use_there n (x ∷ rs) (suc k) u l c =
-    let more : suc n + k ≡ n + suc k = omega arith in
-    subst (λ m. Contains (all_used n (map names_in (x ∷ rs))) (used_in m u)) more (Contains-append_right (file_used n (names_in x)) (all_used (suc n) (map names_in rs)) (used_in (suc n + k) u) (use_there (suc n) rs k u (omega (arith, l)) c))
+use Rattle.proto_names.proofs.UsesOfFiles.{use_there}
 
 -- ---- the name map of a target
 

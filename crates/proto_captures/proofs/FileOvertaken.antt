@@ -32,7 +32,7 @@ use Rattle.proto_imports.proofs.PlainNames.{name_in}
 use Rattle.proto_imports.specs.Links.{used_named}
 use Rattle.proto_captures.specs.FirstCaptured.{first_of}
 use Rattle.proto_captures.specs.Overtaking.{IsFirstOvertaken, Overtakes, SeesMarked, TellsPackages, overtakes_by, overtakes_use, overtakes_words}
-use Rattle.proto_captures.proofs.FileCaptures.{use_there}
+use Rattle.proto_names.proofs.UsesOfFiles.{use_there}
 use Rattle.proto_captures.proofs.FirstOnes.{none_passes, one_passes}
 use Rattle.proto_captures.proofs.Overtaken.{IsPackageIn, back, forth}
 use Rattle.proto_captures.proofs.PackagesSeen.{packages_are}

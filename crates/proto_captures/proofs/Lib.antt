@@ -8,7 +8,7 @@ mod FileOvertaken
 mod FirstOnes
 mod FrontLengths
 mod IfOks
-mod JoinedNames
+pub mod JoinedNames
 mod KindNamed
 mod LookedUp
 mod NewNames

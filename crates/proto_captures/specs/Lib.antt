@@ -6,6 +6,7 @@ pub mod Overtaking
 pub mod ShownAnew
 pub mod ShownTexts
 pub mod Aims
+pub mod CapturedPlaces
 pub mod Collisions
 pub mod Looked
 pub use Rattle.proto_rename_laws.specs.Cases

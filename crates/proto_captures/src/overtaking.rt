@@ -178,6 +178,7 @@ fn is_overtaken(
 
 /// The first token of the first reference of a list that is overtaken. What
 /// they mean is given in the same order.
+// As `first_of` of first.rt, with another test of a reference.
 fn first_in_list(
     alloc: Global,
     link: &Link,

@@ -22,7 +22,7 @@ pub(crate) fn word<'a>(files: &'a Files, file: u32, token: u32) -> &'a str
 }
 
 /// What stands before the last word of a full name: nothing, or what it is declared in and a dot.
-pub(crate) fn front<'a>(name: &'a str, word: &str) -> &'a str
+pub fn front<'a>(name: &'a str, word: &str) -> &'a str
     requires { (front : List ℕ) × (name.now ≡ front ++ word.now) }
     ensures { name.entry.now ≡ result.now ++ word.now }
 {
@@ -33,7 +33,7 @@ pub(crate) fn front<'a>(name: &'a str, word: &str) -> &'a str
 }
 
 /// The full name of a word behind a front.
-pub(crate) fn beside(alloc: Global, front: &str, word: &str) -> Result<String, NoMemory>
+pub fn beside(alloc: Global, front: &str, word: &str) -> Result<String, NoMemory>
     ensures { IfOk result (λ name. string_bytes name ≡ front.now ++ word.now) }
 {
     let mut name = front.to_string(alloc)?;

@@ -1,7 +1,7 @@
 -- The tokens of files that were read: those of their texts, by their indices.
 use Rattle.std.proofs.Common.{◌≡◌, ℕ, zero, suc, ◌<◌, ◌≤◌, List, [], ◌∷◌, length, get_or, refl, sym, ap, ◌∙◌, subst, arith}
 use Rattle.std.specs.List.{All}
-use Rattle.std.specs.Prelude.{Some, slice_get}
+use Rattle.std.specs.Prelude.{Some, slice_get, map}
 use Rattle.std.proofs.lemmas.Option.{get_or_from_slice_get, slice_get_within}
 use Rattle.proto_text.specs.declared.kind.TokenKind.TheVariants.{Text}
 use Rattle.proto_text.specs.declared.lexer.Token.{Token}
@@ -12,12 +12,15 @@ use Rattle.proto_text.specs.Tokens.{AreTokens}
 use Rattle.proto_text.proofs.Once.{one_token_list}
 use Rattle.proto_text.proofs.OneEdit.{word_at_token}
 use Rattle.proto_text.proofs.Order.{text_token_is_string}
+use Rattle.proto_tree.specs.File.{tree_of_file}
+use Rattle.proto_tree.specs.Reads.{Reads}
 use Rattle.proto_files.specs.declared.stages.ReadFile.{ReadFile}
 use Rattle.proto_files.specs.FileTokens.{AreTokensOf, HasString}
+use Rattle.proto_files.specs.FilesRead.{ReadOf, AreRead, read_at}
 use Rattle.proto_files.specs.GivenFiles.{FileOf, file_at}
 use Rattle.proto_files.specs.Reading.{IsReadFile}
 use Rattle.proto_files.specs.Stages.{read_files}
-use Rattle.proto_files.proofs.LeastOfFiles.{file_at-read}
+use Rattle.proto_files.proofs.LeastOfFiles.{file_at-read, length-read_files}
 
 pub offset_past : (ts : List Token) (i : ℕ) → length ts ≤ i → offset_at ts i ≡ 0
 offset_past [] i h = refl
@@ -61,3 +64,30 @@ text_is_slice text own tokens i t found is at there =
 pub text_is_word : (text : List ℕ) (own tokens : List Token) (i : ℕ) (found : Token) → own ≡ tokens → i < length own → found ≡ get_or own i found → text_at text found.span ≡ words text tokens i
 text_is_word text own tokens i found is lt at =
     ap (λ (x : Token). text_at text x.span) at ∙ sym (word_at_token text own i found lt) ∙ ap (λ (ts : List Token). words text ts i) is
+
+-- what is read of a file, as it is kept
+abbrev read_of : ReadFile → ReadOf
+read_of f = record { tokens = f.tokens.items; tree = tree_of_file f.tree }
+
+length-reads : (files : List ReadFile) → length (map read_of files) ≡ length files
+length-reads [] = refl
+length-reads (f ∷ files) = ap suc (length-reads files)
+
+each_is_read : (files : List ReadFile) → All IsReadFile files → (k : ℕ) → k < length files → Reads (file_at (read_files files) k).bytes (read_at (map read_of files) k).tokens (read_at (map read_of files) k).tree
+each_is_read [] all k lt = absurd (omega (arith, lt))
+each_is_read (f ∷ files) all zero lt = (all 0 f lt).reads
+each_is_read (f ∷ files) all (suc k) lt = each_is_read files (λ i d l. all (suc i) d (omega (arith, l))) k (omega (arith, lt))
+
+-- files that were read have tokens and trees
+pub files_are_read : (read : List ReadFile) (files : List FileOf) → read_files read ≡ files → All IsReadFile read → (reads : List ReadOf) × AreRead files reads
+files_are_read read files is all = (
+  map read_of read,
+  subst (λ (fs : List FileOf). AreRead fs (map read_of read)) is (record {
+    same = length-reads read ∙ sym (length-read_files read);
+    tokens = λ k l. (each_is_read read all k (within k l)).tokens_are;
+    trees = λ k l. each_is_read read all k (within k l);
+  }),
+)
+  where
+    within : (k : ℕ) → k < length (read_files read) → k < length read
+    within k l = omega (arith, l, length-read_files read)

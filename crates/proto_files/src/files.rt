@@ -11,6 +11,7 @@ ghost use Rattle.proto_tree.specs.File.{tree_of_file};
 ghost use Rattle.proto_tree.specs.Reads.{Reads};
 ghost use Rattle.proto_files.specs.Faults.{HasNoFault, IsFilesError};
 ghost use Rattle.proto_files.specs.FileTokens.{AreTokensOf, HasToken, HasString};
+ghost use Rattle.proto_files.specs.FilesRead.{AreRead, ReadOf};
 ghost use Rattle.proto_files.specs.GivenFiles.{AreWorkspaceFiles, file_at};
 ghost use Rattle.proto_files.specs.ReadFaults.{ReadFaults};
 
@@ -144,4 +145,11 @@ impl Files {
     /// Lets the files go. A crate that ends them by this call need not prove how each of their
     /// parts is dropped.
     pub fn release(self) {}
+}
+
+/// Answers nothing, and looks at no file: its contract says that each file has tokens and a tree.
+pub fn are_read(files: &Files)
+    ensures { (reads : List ReadOf) × AreRead files.now reads }
+{
+    let _count = files.files.len();
 }

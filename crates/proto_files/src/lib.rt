@@ -12,8 +12,8 @@ mod stages;
 mod tokens;
 mod words;
 
-pub use files::Files;
-pub use looking::{all_paths, are_read, file_named};
+pub use files::{Files, are_read};
+pub use looking::{all_paths, file_named};
 pub use path::{MAX_PATH_LEN, is_workspace_path};
 pub use paths::{MAX_FILES, Paths};
 pub use proto_faults::{Fault, FaultKind, NoMemory, SchemaFault as FilesFault};

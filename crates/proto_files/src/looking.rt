@@ -1,7 +1,6 @@
 //! What is looked up among the files of a workspace.
 
-ghost use Rattle.std.specs.Prelude.{◌≡◌, ◌≢◌, ◌<◌, ◌≤◌, ℕ, List, length, map, IfOk, IfSome, IfNone};
-ghost use Rattle.proto_files.specs.FilesRead.{AreRead, ReadOf};
+ghost use Rattle.std.specs.Prelude.{◌≡◌, ◌≢◌, ◌<◌, ◌≤◌, ℕ, length, map, IfOk, IfSome, IfNone};
 ghost use Rattle.proto_files.specs.GivenFiles.{file_at, paths_of};
 
 use crate::files::Files;
@@ -17,16 +16,6 @@ pub fn all_paths<'a>(alloc: Global, files: &'a Files) -> Result<Vec<&'a str>, No
         paths.push(files.path(file))?;
     }
     Ok(paths)
-}
-
-/// Answers nothing: its contract says that each file has tokens and a tree.
-pub fn are_read(files: &Files)
-    ensures { (reads : List ReadOf) × AreRead files.now reads }
-{
-    for file in 0..files.len() {
-        let _tokens = files.tokens(file);
-        let _tree = files.tree(file);
-    }
 }
 
 // The first file with the path among those with places from `start` to `end`.

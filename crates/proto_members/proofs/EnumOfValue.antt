@@ -1,7 +1,8 @@
 -- The enum that has a value stands beside it.
-use Rattle.std.proofs.Common.{◌≡◌, ℕ, ◌+◌, ◌<◌, ◌==◌, Bool, true, cond, List, [], ◌∷◌, ◌++◌, length, map, find, Option, Some, None, option_map, refl, sym, ap, ap₂, subst, ◌∙◌, inl, inr, arith, append_assoc}
+use Rattle.std.proofs.Common.{◌≡◌, ℕ, ◌+◌, ◌<◌, ◌==◌, Bool, true, cond, List, [], ◌∷◌, ◌++◌, length, map, find, Option, Some, None, option_map, refl, sym, ap, ap₂, subst, ◌∙◌, inl, inr, arith}
 use Rattle.std.specs.List.{Contains}
 use Rattle.std.proofs.lemmas.Bool.{cases_Bool, eqb-true, true≢false}
+use Rattle.std.proofs.lemmas.List.{append_cancel_right}
 use Rattle.std.proofs.lemmas.Option.{none-some, same_Some}
 use Rattle.proto_case.specs.Camel.{entry_name}
 use Rattle.proto_text.specs.Tokens.{lexeme_at}
@@ -30,6 +31,7 @@ use Rattle.proto_checks_laws.proofs.Declarations.{values_are_declared}
 use Rattle.proto_captures.specs.SceneOf.{is_enum_at}
 use Rattle.proto_captures.specs.Targets.{HasEnum, IsEnumOf, Target}
 use Rattle.proto_captures.proofs.Blocks.{one_block}
+use Rattle.proto_captures.proofs.JoinedNames.{joined_last, lead}
 use Rattle.proto_captures.proofs.Declarations.{declared_there, ends_with_token, is_written}
 use Rattle.proto_captures.proofs.NoLinkFault.{files_are_woven}
 use Rattle.proto_captures.proofs.OneTarget.{place_last}
@@ -40,19 +42,6 @@ use Rattle.proto_members.specs.Blocks.{holders_in, may_hold}
 use Rattle.proto_members.specs.Members.{has_value, holds_value, name_token}
 use Rattle.proto_members.proofs.AimedAt.{aim_inside}
 use Rattle.proto_members.proofs.MemberTests.{from_filter, in_filter, value_there}
-
--- ---- names as texts
-
--- what stands before the last word
-lead : List (List ℕ) → List ℕ
-lead [] = []
-lead (w ∷ ws) = w ++ 46 ∷ lead ws
-
-joined_last : (ws : List (List ℕ)) (w : List ℕ) → joined (ws ++ w ∷ []) ≡ lead ws ++ w
-unfolding lead
-joined_last [] w = refl
-joined_last (v ∷ []) w = sym (append_assoc v (46 ∷ []) w)
-joined_last (v ∷ u ∷ ws) w = ap (λ l. v ++ 46 ∷ l) (joined_last (u ∷ ws) w) ∙ sym (append_assoc v (46 ∷ lead (u ∷ ws)) w)
 
 -- ---- blocks
 
@@ -134,9 +123,15 @@ module _ (files : List FileOf) (reads : List ReadOf) (are : AreRead files reads)
       ∙ joined_last (name_of (text_of files reads) entry_name t.above) (text_of files reads t.token)
       ∙ ap (λ z. lead (name_of (text_of files reads) entry_name t.above) ++ text_of files reads z) (sym h.token)
 
+  -- its name is a front, and its word behind that
+  pub front_of : (word : List ℕ) → word ≡ text_of files reads (at a.file a.token) → (front : List ℕ) × (a.name.now ≡ front ++ word)
+  front_of word is =
+      let front = lead (name_of (text_of files reads) entry_name t.above) in
+      (front, named_as ∙ ap (λ w. front ++ w) (sym is))
+
   pub enum_found : a.kind ≡ Value → (n : ℕ) → option_map (λ (b : BlockOf). name_token b.header) (find (λ (b : BlockOf). holds_value a.token b.header b.within) (holders_in tree)) ≡ Some n
-      → (name : List ℕ) → ((front : List ℕ) → a.name.now ≡ front ++ text_of files reads (at a.file a.token) → name ≡ front ++ text_of files reads (at a.file n)) → Some name ≡ option_map joined t.enum
-  enum_found kind n found name beside = go (find (λ (b : BlockOf). holds_value a.token b.header b.within) (holders_in tree)) refl found t.enum h.named.enum_is
+      → (front : List ℕ) → a.name.now ≡ front ++ text_of files reads (at a.file a.token) → (name : List ℕ) → name ≡ front ++ text_of files reads (at a.file n) → Some name ≡ option_map joined t.enum
+  enum_found kind n found front front_is name beside = go (find (λ (b : BlockOf). holds_value a.token b.header b.within) (holders_in tree)) refl found t.enum h.named.enum_is
     where
       go : (o : Option BlockOf) → find (λ (b : BlockOf). holds_value a.token b.header b.within) (holders_in tree) ≡ o → option_map (λ (b : BlockOf). name_token b.header) o ≡ Some n
           → (p : Option (List (List ℕ))) → HasEnum files reads t.aim t.token p → Some name ≡ option_map joined p
@@ -145,7 +140,8 @@ module _ (files : List FileOf) (reads : List ReadOf) (are : AreRead files reads)
       go (Some c) f e (Some enum) q =
           let is = enum_is c f enum (subst (λ z. IsEnumOf files reads z enum) (sym h.token) q.1) in
           ap (λ l. Some l)
-          (beside (lead (name_of (text_of files reads) entry_name t.above)) named_as
+          (beside
+          ∙ ap (λ l. l ++ text_of files reads (at a.file n)) (append_cancel_right front (lead (name_of (text_of files reads) entry_name t.above)) (text_of files reads (at a.file a.token)) (sym front_is ∙ named_as))
           ∙ ap (λ m. lead (name_of (text_of files reads) entry_name t.above) ++ text_of files reads (at a.file m)) (sym (same_Some (name_token c.header) n e))
           ∙ sym (joined_last (name_of (text_of files reads) entry_name t.above) (text_of files reads (at a.file (name_token c.header))))
           ∙ sym (ap joined is))

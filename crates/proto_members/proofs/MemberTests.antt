@@ -81,10 +81,8 @@ member_from ps (header.Oneof h) within token d (inl c) = field_there (fields_in 
 member_from ps (header.Oneof h) within token d (inr c) = absurd (none_there (values_in within) (λ (v : Value). v.name) token d.3 c)
 member_from ps (header.Enum h) within token d (inl c) = absurd (none_there (fields_in within) (λ (f : FieldOf). f.name) token d.3 c)
 member_from ps (header.Enum h) within token d (inr c) = value_there (values_in within) token c
-member_from ps (header.Service h) within token d (inl c) = absurd (none_there (fields_in within) (λ (f : FieldOf). f.name) token d.2 c)
-member_from ps (header.Service h) within token d (inr c) = absurd (none_there (values_in within) (λ (v : Value). v.name) token d.3 c)
-member_from ps (header.Method s) within token d (inl c) = absurd (none_there (fields_in within) (λ (f : FieldOf). f.name) token d.2 c)
-member_from ps (header.Method s) within token d (inr c) = absurd (none_there (values_in within) (λ (v : Value). v.name) token d.3 c)
+member_from ps whole within token d (inl c) = absurd (none_there (fields_in within) (λ (f : FieldOf). f.name) token d.2 c)
+member_from ps whole within token d (inr c) = absurd (none_there (values_in within) (λ (v : Value). v.name) token d.3 c)
 
 -- ---- fields
 

@@ -1,6 +1,6 @@
 //! The full name of a value's enum.
 
-ghost use Rattle.std.specs.Prelude.{◌≡◌, ◌++◌, List, ℕ, true, false, find, map, option_map, IfOk};
+ghost use Rattle.std.specs.Prelude.{◌≡◌, List, true, false, find, map, option_map, IfOk};
 ghost use Rattle.std.specs.String.{string_bytes};
 ghost use Rattle.proto_tree.specs.File.{tree_of_file};
 ghost use Rattle.proto_files.specs.FilesRead.{AreRead, ReadOf};
@@ -13,7 +13,7 @@ ghost use Rattle.proto_members.specs.Members.{holds_value, name_token};
 
 use crate::blocks::{BlockAt, blocks_of};
 use crate::members::has_value;
-use proto_captures::Aim;
+use proto_captures::{Aim, beside, front};
 use proto_faults::NoMemory;
 use proto_files::{Files, Words, are_read};
 use proto_meaning::Kind;
@@ -71,26 +71,6 @@ fn enum_in(alloc: Global, file: &File, token: u32) -> Result<Option<u32>, NoMemo
     enum_of_value(alloc, &blocks, token)
 }
 
-/// What stands before the last word of a name.
-fn before_word<'a>(name: &'a str, word: &str) -> &'a str
-    ensures { (front : List ℕ) → name.now ≡ front ++ word.now → result.now ≡ front }
-{
-    match name.strip_suffix(word) {
-        Some(front) => front,
-        None => "",
-    }
-}
-
-/// The name with another word in place of its last one.
-fn beside(alloc: Global, name: &str, word: &str, other: &str) -> Result<String, NoMemory>
-    ensures { IfOk result (λ s. (front : List ℕ)
-        → name.now ≡ front ++ word.now → string_bytes s ≡ front ++ other.now) }
-{
-    let mut beside = String::from_str(alloc, before_word(name, word))?;
-    beside.push_str(other)?;
-    Ok(beside)
-}
-
 /// The full name of the enum that has the value, which stands beside it; none for what is no value.
 pub fn enum_name(alloc: Global, files: &Files, aim: Aim) -> Result<Option<String>, NoMemory>
     requires { IsAimOf files.now aim }
@@ -106,7 +86,8 @@ pub fn enum_name(alloc: Global, files: &Files, aim: Aim) -> Result<Option<String
     let words = Words::new(files, place);
     match enum_in(alloc, files.tree(place), aim.token)? {
         Some(token) => {
-            let name = beside(alloc, aim.name, words.get(aim.token), words.get(token))?;
+            let front = front(aim.name, words.get(aim.token));
+            let name = beside(alloc, front, words.get(token))?;
             Ok(Some(name))
         }
         None => Ok(None),

@@ -55,6 +55,7 @@ fn message_reserves(
 }
 
 /// Whether an enum has the value and reserves the word.
+// As `message_reserves`, over the items of an enum.
 fn enum_reserves(
     alloc: Global,
     scene: &Scene,

@@ -16,3 +16,4 @@ mod NameErrors
 mod Referring
 mod Scopes
 mod TableNames
+pub mod UsesOfFiles

@@ -16,4 +16,5 @@ pub use link::{Link, RefId, SymbolId};
 pub use proto_faults::SchemaFault as LinkFault;
 pub use proto_files::are_read;
 pub use proto_meaning::Kind;
+pub use read_files::all_written;
 pub use references::Meant;

@@ -62,7 +62,7 @@ pub(crate) fn all_spelled(
 }
 
 /// The imports of each file with their paths.
-pub(crate) fn all_written(alloc: Global, files: &Files) -> Result<Vec<Vec<WrittenImport>>, NoMemory>
+pub fn all_written(alloc: Global, files: &Files) -> Result<Vec<Vec<WrittenImport>>, NoMemory>
     ensures len { IfOk result (λ ws. length ws.items ≡ length files.now) }
     ensures rising { IfOk result (λ ws. All (λ v. AreRising v.items) ws.items) }
     ensures asked { IfOk result (λ ws. (reads : List ReadOf) → AreRead files.now reads → all_asked 0

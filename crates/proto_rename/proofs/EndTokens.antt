@@ -1,23 +1,23 @@
 -- Elements of lists by how many stand behind them.
 use Rattle.std.proofs.Common.{◌≡◌, ℕ, suc, ◌-◌, ◌<◌, ◌≤◌, List, [], ◌∷◌, ◌++◌, length, get_or, map, slice_index_or, Option, Some, None, refl, sym, ap, ap₂, subst, ◌∙◌, inl, inr, arith, length-append}
-use Rattle.std.specs.Prelude.{◌==◌}
+use Rattle.std.specs.Prelude.{◌==◌, option_to_list}
 use Rattle.std.specs.List.{Contains}
 use Rattle.std.proofs.lemmas.Bool.{cases_Bool, cond-true, cond-false, eqb-true, eq-eqb, both_ways, false_from_ne_true}
 use Rattle.std.proofs.lemmas.List.{get_or-map, length-map}
 use Rattle.std.proofs.lemmas.Option.{none-some, same_Some}
 use Rattle.proto_faults.proofs.Lists.{contains_cases, contains_head}
 use Rattle.proto_tree.specs.declared.tree.Behind.{Behind}
-use Rattle.proto_rename.specs.StandingTokens.{from_end, listed}
+use Rattle.proto_rename.specs.StandingTokens.{from_end}
 
-pub listed_is : {X : Type 0} (o : Option X) (x : X) → Contains (listed o) x → o ≡ Some x
+pub listed_is : {X : Type 0} (o : Option X) (x : X) → Contains (option_to_list o) x → o ≡ Some x
 listed_is None x c = absurd (omega (arith, c.1))
 listed_is (Some y) x c = elim (contains_cases y x [] c) [
   | inl e ↦ ap Some e
   | inr d ↦ absurd (omega (arith, d.1))
 ]
 
-pub is_listed : {X : Type 0} (o : Option X) (x : X) → o ≡ Some x → Contains (listed o) x
-is_listed o x e = subst (λ z. Contains (listed z) x) (sym e) (contains_head x [])
+pub is_listed : {X : Type 0} (o : Option X) (x : X) → o ≡ Some x → Contains (option_to_list o) x
+is_listed o x e = subst (λ z. Contains (option_to_list z) x) (sym e) (contains_head x [])
 
 -- ---- with so many behind
 

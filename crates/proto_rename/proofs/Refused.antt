@@ -22,10 +22,11 @@ use Rattle.proto_meaning.specs.Skeleton.{Used, symbol_of}
 use Rattle.proto_imports.specs.Links.{LinkFaults, link_skeleton, names_in, names_of_files, text_of}
 use Rattle.proto_text.proofs.OneEdit.{length_map}
 use Rattle.proto_names.specs.declared.link.RefId.{RefId}
+use Rattle.proto_captures.specs.CapturedPlaces.{IsCapturedPlace}
 use Rattle.proto_captures.specs.FirstCaptured.{IsFirstCaptured}
 use Rattle.proto_rename_laws.specs.Cases.{Clashes, Reserves, is_keyword_of, unknown_target, kind_not_allowed, not_an_identifier, keyword_name, same_name, collision, captured, name_reserved, json_clash, too_large}
 use Rattle.proto_rename_laws.specs.Targets.{Target, name_map}
-use Rattle.proto_rename.specs.Cases.{IsCapturedPlace, IsFreeBefore}
+use Rattle.proto_rename.specs.Cases.{IsFreeBefore}
 use Rattle.proto_rename.specs.Changes.{AreChangesOf, IsChangesFault, IsFaultIn}
 use Rattle.proto_rename.specs.Renames.{IsLeastRenameCase, IsRenameCase, IsRenameRefusal, IsRenamed}
 use Rattle.proto_rename.proofs.LeastCases.{all_free, first_free, from_1, from_16, from_2, from_3, from_4, from_5, from_6, from_7, from_8, from_9, last_free, least, next_free}

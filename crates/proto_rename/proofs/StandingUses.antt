@@ -1,5 +1,6 @@
 -- The words that stand for a target, by counting, are those by the front at the hit.
 use Rattle.std.proofs.Common.{◌≡◌, ◌≢◌, ◌↔◌, ℕ, ◌+◌, ◌<◌, true, List, [], ◌∷◌, ◌++◌, length, get_or, map, option_map, flat_map, Option, Some, None, refl, sym, ap, subst, ◌∙◌, inl, inr, arith, append_assoc, length-append, if◌then◌else◌}
+use Rattle.std.specs.Prelude.{option_to_list}
 use Rattle.std.specs.List.{Contains}
 use Rattle.std.specs.Option.{option_and_then}
 use Rattle.std.proofs.lemmas.List.{append-nil, length-map}
@@ -29,6 +30,7 @@ use Rattle.proto_meaning.proofs.Renamed.{has_meaning, meant}
 use Rattle.proto_imports.specs.Links.{LinkFaults, link_skeleton, names_in, names_of_files, text_of}
 use Rattle.proto_imports.specs.Links.{used_named}
 use Rattle.proto_imports.specs.Links.{uses_of}
+use Rattle.proto_names.proofs.UsesOfFiles.{from_use, use_there}
 use Rattle.proto_names.specs.LinkOfFiles.{IsLinkRead, TextMeant, meant_by_link, meant_by_use}
 use Rattle.proto_names.specs.Linking.{LinkOf, text_at}
 use Rattle.proto_names.specs.declared.references.Meant.{Meant}
@@ -39,7 +41,7 @@ use Rattle.proto_rename_laws.proofs.Places.{from_flat_map, stands_at, to_flat_ma
 use Rattle.proto_rename_laws.proofs.PlacesSuit.{meaning_parts}
 use Rattle.proto_imports.proofs.FileUses.{use_from, use_in}
 use Rattle.proto_imports.proofs.PlainNames.{names_are_plain}
-use Rattle.proto_rename.specs.StandingTokens.{counted, from_end, listed, standing_tokens, words_behind}
+use Rattle.proto_rename.specs.StandingTokens.{counted, from_end, standing_tokens, words_behind}
 use Rattle.proto_rename.proofs.EndTokens.{cons_parts, end_split, is_listed, listed_is, same_fronts, split_end, split_map}
 use Rattle.proto_rename.proofs.NameTexts.{behind_is, is_behind}
 
@@ -95,7 +97,7 @@ module _ (files : List FileOf) (reads : List ReadOf) (are : AreRead files reads)
   used_there u c =
       let same = are.same in
       let none : 0 + file ≡ file = omega arith in
-      subst (λ (n : ℕ). Contains k.used (used_in n u)) none (use_in 0 file reads u (omega (arith, same, within)) c)
+      subst (λ (n : ℕ). Contains k.used (used_in n u)) none (use_there 0 reads file u (omega (arith, same, within)) c)
 
   -- what a reference of the file means
   means : (u : Used ℕ) → Contains (uses_of reads file) u → (m : List (List ℕ)) × (meaning w (used_named text file u) ≡ Some m) × ArePlain m
@@ -113,10 +115,10 @@ module _ (files : List FileOf) (reads : List ReadOf) (are : AreRead files reads)
     whole : m ≡ front ++ map text (map (at file) u.tokens)
     whole = meaning_parts w (used_named text file u) m is
 
-    one_forth : (i : ℕ) → Contains (listed (counted name u.tokens (Some (joined m)))) i → Contains (standing text k e (used_in file u)) (at file i)
+    one_forth : (i : ℕ) → Contains (option_to_list (counted name u.tokens (Some (joined m)))) i → Contains (standing text k e (used_in file u)) (at file i)
     one_forth i c = by (words_behind name (joined m)) refl c
       where
-        by : (o : Option ℕ) → words_behind name (joined m) ≡ o → Contains (listed (option_and_then (λ n. from_end n u.tokens) o)) i → Contains (standing text k e (used_in file u)) (at file i)
+        by : (o : Option ℕ) → words_behind name (joined m) ≡ o → Contains (option_to_list (option_and_then (λ n. from_end n u.tokens) o)) i → Contains (standing text k e (used_in file u)) (at file i)
         by None q c = absurd (omega (arith, c.1))
         by (Some n) q c =
             let s = end_split u.tokens n i (listed_is (from_end n u.tokens) i c) in
@@ -130,7 +132,7 @@ module _ (files : List FileOf) (reads : List ReadOf) (are : AreRead files reads)
             subst (λ z. Contains (stands e text front z) (at file i)) (sym tokens)
             (stands_here e text (map (at file) s.0) front (at file i) (map (at file) s.1) (same_from_name ((front ++ map text (map (at file) s.0)) ++ text (at file i) ∷ []) (target e) same))
 
-    one_back : (i : ℕ) → Contains (standing text k e (used_in file u)) (at file i) → Contains (listed (counted name u.tokens (Some (joined m)))) i
+    one_back : (i : ℕ) → Contains (standing text k e (used_in file u)) (at file i) → Contains (option_to_list (counted name u.tokens (Some (joined m)))) i
     one_back i c =
         let st = stands_at e text front (map (at file) u.tokens) (at file i) c in
         let sp = split_map (at file) u.tokens st.before (at file i) st.behind st.parts in
@@ -151,7 +153,7 @@ module _ (files : List FileOf) (reads : List ReadOf) (are : AreRead files reads)
 
   module _ (ds : List Placed) where
     abbrev one : Use → Meant → List ℕ
-    one u m = listed (counted name (dotted u.reference.now.words) (text_at l m.row))
+    one u m = option_to_list (counted name (dotted u.reference.now.words) (text_at l m.row))
 
     text_meant : (u : Use) (m : Meant) (x : List (List ℕ)) → meant_by_link l m ≡ meant_by_use files reads file (used_by ds u) → meaning w (used_named text file (used_by ds u)) ≡ Some x → text_at l m.row ≡ Some (joined x)
     text_meant u m x h is = ap (λ (z : TextMeant). z.text) h ∙ ap (option_map joined) is
@@ -168,7 +170,7 @@ module _ (files : List FileOf) (reads : List ReadOf) (are : AreRead files reads)
               let x = means (used_by ds u) there in (
                 used_by ds u,
                 there,
-                one_forth (used_by ds u) x.0 x.1 x.2 i (subst (λ (z : Option (List ℕ)). Contains (listed (counted name (dotted u.reference.now.words) z)) i) (text_meant u m x.0 p.0 x.1) a),
+                one_forth (used_by ds u) x.0 x.1 x.2 i (subst (λ (z : Option (List ℕ)). Contains (option_to_list (counted name (dotted u.reference.now.words) z)) i) (text_meant u m x.0 p.0 x.1) a),
               )
           | inr b ↦ forth us ms (λ v cv. ok v (contains_later u v us cv)) p.1 i b
         ]
@@ -184,7 +186,7 @@ module _ (files : List FileOf) (reads : List ReadOf) (are : AreRead files reads)
               let x = means (used_by ds v) (ok v (contains_head v us)) in
               let here = one_back (used_by ds v) x.0 x.1 x.2 i (subst (λ (z : Used ℕ). Contains (standing text k e (used_in file z)) (at file i)) (sym same) c) in
               Contains-append_left (one v m) (standing_tokens l name us ms) i
-              (subst (λ (z : Option (List ℕ)). Contains (listed (counted name (dotted v.reference.now.words) z)) i) (sym (text_meant v m x.0 p.0 x.1)) here)
+              (subst (λ (z : Option (List ℕ)). Contains (option_to_list (counted name (dotted v.reference.now.words) z)) i) (sym (text_meant v m x.0 p.0 x.1)) here)
           | inr later ↦ Contains-append_right (one v m) (standing_tokens l name us ms) i (back us ms (λ x cx. ok x (contains_later v x us cx)) p.1 u later i c)
         ]
 
@@ -192,13 +194,13 @@ module _ (files : List FileOf) (reads : List ReadOf) (are : AreRead files reads)
     of_file : (i : ℕ) → Contains (flat_map (standing text k e) k.used) (at file i) → (u : Used ℕ) × Contains (uses_of reads file) u × Contains (standing text k e (used_in file u)) (at file i)
     of_file i c =
         let f = from_flat_map (standing text k e) k.used (at file i) c in
-        let v = use_from 0 reads f.0 f.1 in
-        let c1 = subst (λ (z : Used At). Contains (standing text k e z) (at file i)) (sym v.2.2) f.2 in
-        let st = stands_at e text (front_of text k (used_in (0 + v.0) v.2.0)) (map (at (0 + v.0)) v.2.0.tokens) (at file i) c1 in
-        let sp = split_map (at (0 + v.0)) v.2.0.tokens st.before (at file i) st.behind st.parts in
+        let v = from_use 0 reads f.0 f.1 in
+        let c1 = subst (λ (z : Used At). Contains (standing text k e z) (at file i)) (sym v.4) f.2 in
+        let st = stands_at e text (front_of text k (used_in (0 + v.0) v.1)) (map (at (0 + v.0)) v.1.tokens) (at file i) c1 in
+        let sp = split_map (at (0 + v.0)) v.1.tokens st.before (at file i) st.behind st.parts in
         let same : 0 + v.0 ≡ file = ap (λ (z : At). z.file) {x = at (0 + v.0) sp.1} {y = at file i} sp.4 in
         let own : v.0 ≡ file = omega (arith, same) in
-        (v.2.0, subst (λ (z : ℕ). Contains (uses_of reads z) v.2.0) own v.2.1, subst (λ (z : ℕ). Contains (standing text k e (used_in z v.2.0)) (at file i)) same c1)
+        (v.1, subst (λ (z : ℕ). Contains (uses_of reads z) v.1) own v.3, subst (λ (z : ℕ). Contains (standing text k e (used_in z v.1)) (at file i)) same c1)
 
     all_standing : (us : List Use) → map (used_by ds) us ≡ uses_of reads file → (i : ℕ) → Contains (standing_tokens l name us (get_or l.meant file [])) i ↔ Contains (flat_map (standing text k e) k.used) (at file i)
     all_standing us is i =

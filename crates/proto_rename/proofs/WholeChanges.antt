@@ -1,5 +1,6 @@
 -- The changes file by file are all changes.
 use Rattle.std.proofs.Common.{◌≡◌, ℕ, zero, suc, ◌+◌, ◌<◌, List, [], ◌∷◌, ◌++◌, length, map, Option, refl, sym, ap, ap₂, subst, ◌∙◌, inl, inr, arith, append_assoc}
+use Rattle.std.specs.Prelude.{option_to_list}
 use Rattle.std.proofs.lemmas.Bool.{cases_lt}
 use Rattle.std.proofs.lemmas.List.{append-nil}
 use Rattle.proto_text.specs.Texts.{token_edits}
@@ -11,7 +12,6 @@ use Rattle.proto_entries.specs.declared.entry.Change.{Change}
 use Rattle.proto_rename_laws.specs.Changes.{IsTooLong, change_by, changes_from, changes_of_words}
 use Rattle.proto_rename_laws.specs.Rewording.{NewWords, in_file}
 use Rattle.proto_rename.specs.MadeChanges.{IsMade}
-use Rattle.proto_rename.specs.StandingTokens.{listed}
 use Rattle.proto_rename.specs.Changes.{AreWholeChanges, changes_up_to}
 
 module _ (c : NewWords) where
@@ -56,12 +56,12 @@ pub record AreChangesUpTo (files : List FileOf) (reads : List ReadOf) (c : NewWo
   pub changes : cs ≡ changes_up_to c files reads n
   pub short : (k : ℕ) → k < n → IsTooLong c files reads k → ⊥
 
-pub more_changes : (files : List FileOf) (reads : List ReadOf) (c : NewWords) (n m : ℕ) → m ≡ n + 1 → (items more : List Change) (found : Option Change) → AreChangesUpTo files reads c n (map change_of items) → more ≡ items ++ listed found → IsMade files reads c n found
+pub more_changes : (files : List FileOf) (reads : List ReadOf) (c : NewWords) (n m : ℕ) → m ≡ n + 1 → (items more : List Change) (found : Option Change) → AreChangesUpTo files reads c n (map change_of items) → more ≡ items ++ option_to_list found → IsMade files reads c n found
     → AreChangesUpTo files reads c m (map change_of more)
 more_changes files reads c n m e items more found h pushed made =
     let next : suc n ≡ m = omega (arith, e) in
     subst (λ (z : ℕ). AreChangesUpTo files reads c z (map change_of more)) next (record {
-      changes = ap (map change_of) pushed ∙ map_append change_of items (listed found) ∙ ap₂ (λ (x y : List ChangeOf). x ++ y) h.changes made.change;
+      changes = ap (map change_of) pushed ∙ map_append change_of items (option_to_list found) ∙ ap₂ (λ (x y : List ChangeOf). x ++ y) h.changes made.change;
       short = λ k l. elim (cases_lt k n) [
         | inl below ↦ h.short k below
         | inr past ↦ (let same : n ≡ k = omega (arith, l, past) in λ x. made.short (subst (λ (z : ℕ). IsTooLong c files reads z) (sym same) x))

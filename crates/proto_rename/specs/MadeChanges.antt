@@ -1,5 +1,5 @@
 -- The change of a file that puts a word at some of its tokens.
-use Rattle.std.specs.Prelude.{◌≡◌, ℕ, ◌+◌, ◌-◌, ◌<◌, ◌≤◌, Bool, true, if◌then◌else◌, List, [], ◌∷◌, ◌++◌, map, Option, Some, None, slice_set}
+use Rattle.std.specs.Prelude.{◌≡◌, ℕ, ◌+◌, ◌-◌, ◌<◌, ◌≤◌, Bool, true, if◌then◌else◌, List, [], ◌∷◌, ◌++◌, map, Option, Some, None, slice_set, option_to_list}
 use Rattle.std.specs.List.{Contains}
 use Rattle.proto_faults.specs.Texts.{Text}
 use Rattle.proto_text.specs.declared.lexer.Token.{Token}
@@ -12,7 +12,6 @@ use Rattle.proto_entries.specs.Entries.{change_of}
 use Rattle.proto_entries.specs.declared.entry.Change.{Change}
 use Rattle.proto_rename_laws.specs.Changes.{splices_in, IsTooLong, change_by}
 use Rattle.proto_rename_laws.specs.Rewording.{NewWords}
-use Rattle.proto_rename.specs.StandingTokens.{listed}
 use Rattle.proto_rename.specs.declared.changing.RewordFault.{RewordFault}
 use Rattle.proto_rename.specs.declared.changing.RewordFault.TheVariants.{TooLarge, NoMemory}
 
@@ -26,7 +25,7 @@ pub record PutsAt (c : NewWords) (file : ℕ) (places : List ℕ) (to : Text) : 
 pub record IsMade
     (files : List FileOf) (reads : List ReadOf) (c : NewWords) (file : ℕ) (found : Option Change)
     : Type 0 where
-  pub change : map change_of (listed found)
+  pub change : map change_of (option_to_list found)
       ≡ change_by (file_at files file) (splices_in c files reads file)
   pub short : IsTooLong c files reads file → ⊥
 

@@ -1,5 +1,5 @@
 -- The tokens of a file's references that stand for what a rename aims at.
-use Rattle.std.specs.Prelude.{◌↔◌, ℕ, ◌+◌, ◌==◌, if◌then◌else◌, List, [], ◌∷◌, ◌++◌, length, flat_map, Option, Some, None}
+use Rattle.std.specs.Prelude.{◌↔◌, ℕ, ◌+◌, ◌==◌, if◌then◌else◌, List, [], ◌∷◌, ◌++◌, length, flat_map, Option, Some, None, option_to_list}
 use Rattle.std.specs.List.{Contains}
 use Rattle.std.specs.Option.{option_and_then}
 use Rattle.proto_faults.specs.Texts.{Text}
@@ -59,11 +59,6 @@ abbrev pub from_end : ℕ → List ℕ → Option ℕ
 from_end n [] = None
 from_end n (t ∷ ts) = if length ts == n then Some t else from_end n ts
 
--- what is there, as a list of one; nothing, as an empty list
-abbrev pub listed : {X : Type 0} → Option X → List X
-listed None = []
-listed (Some x) = x ∷ []
-
 -- the word of a reference that stands for the name, where the reference means what has this text
 abbrev pub counted : Text → List ℕ → Option Text → Option ℕ
 counted name tokens text =
@@ -73,5 +68,5 @@ counted name tokens text =
 abbrev pub standing_tokens : LinkOf → Text → List Use → List Meant → List ℕ
 standing_tokens l name [] ms = []
 standing_tokens l name (u ∷ us) [] = []
-standing_tokens l name (u ∷ us) (m ∷ ms) = listed
+standing_tokens l name (u ∷ us) (m ∷ ms) = option_to_list
     (counted name (dotted u.reference.now.words) (text_at l m.row)) ++ standing_tokens l name us ms

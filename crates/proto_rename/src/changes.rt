@@ -1,12 +1,11 @@
 //! The changes that a rename makes of files.
 
-ghost use Rattle.std.specs.Prelude.{◌≡◌, ◌<◌, ◌++◌, length, map, option_map, IfOk, IfErr, OnOk};
+ghost use Rattle.std.specs.Prelude.{◌≡◌, ◌<◌, ◌++◌, length, map, option_map, IfOk, IfErr, OnOk, option_to_list};
 ghost use Rattle.proto_entries.specs.Entries.{change_of};
 ghost use Rattle.proto_files.specs.Faults.{HasNoFault};
 ghost use Rattle.proto_imports.specs.Links.{LinkFaults};
 ghost use Rattle.proto_names.specs.LinkOfFiles.{IsLinkOf};
 ghost use Rattle.proto_rename.specs.Changes.{AreChangesOf, IsChangesFault, IsValueOf, IsChangeIn, IsFaultIn};
-ghost use Rattle.proto_rename.specs.StandingTokens.{listed};
 ghost use Rattle.proto_captures.specs.Aims.{IsAimOf};
 
 use crate::changing::{RewordFault, change_of_file};
@@ -20,7 +19,7 @@ use proto_names::Link;
 use std::alloc::Global;
 
 fn push_some(changes: &mut Vec<Change>, change: Option<Change>) -> Result<(), NoMemory>
-    ensures { OnOk result (changes.new.items ≡ changes.old.items ++ listed change) }
+    ensures { OnOk result (changes.new.items ≡ changes.old.items ++ option_to_list change) }
 {
     if let Some(change) = change {
         changes.push(change)?;

@@ -1,21 +1,20 @@
 //! The cases that refuse a rename, in the order of their numbers.
 
-ghost use Rattle.std.specs.Prelude.{◌≡◌, ◌<◌, true, length, IfOk, IfErr};
+ghost use Rattle.std.specs.Prelude.{◌≡◌, true, IfOk, IfErr};
 ghost use Rattle.proto_files.specs.Faults.{HasNoFault};
 ghost use Rattle.proto_imports.specs.Links.{LinkFaults};
 ghost use Rattle.proto_names.specs.LinkOfFiles.{IsLinkOf};
-ghost use Rattle.proto_rename.specs.Cases.{IsFreeBefore, IsCapturedPlace};
+ghost use Rattle.proto_rename.specs.Cases.{IsFreeBefore};
 ghost use Rattle.proto_rename.specs.Renames.{IsRenameRefusal};
 ghost use Rattle.proto_captures.specs.Aims.{IsAimOf};
 ghost use Rattle.proto_text.specs.Words.{is_run};
 
 use crate::json_names::clashes;
-use proto_captures::{Aim, collides, first_captured, has_name, is_keyword};
+use proto_captures::{Aim, captured, collides, first_captured, has_name, is_keyword};
 use proto_entries::Refusal;
-use proto_faults::NoMemory;
-use proto_files::{Files, are_read, offset_of};
+use proto_files::{Files, are_read};
 use proto_members::is_reserved;
-use proto_names::{Link, RefId};
+use proto_names::Link;
 use proto_text::is_word;
 use std::alloc::Global;
 
@@ -42,18 +41,6 @@ pub(crate) fn check_word(files: &Files, aim: Aim, to: &str) -> Result<(), Refusa
     Ok(())
 }
 
-/// The refusal for a captured reference, with its place.
-fn captured(alloc: Global, files: &Files, reference: RefId) -> Result<Refusal, NoMemory>
-    requires { reference.file < length files.now }
-    ensures { IfOk result (IsCapturedPlace files.now reference.file reference.token) }
-{
-    let file = reference.file as usize;
-    Ok(Refusal::Captured {
-        path: files.path(file).to_string(alloc)?,
-        offset: offset_of(files.tokens(file), reference.token),
-    })
-}
-
 /// Cases 6 and 7: no new name is taken, and no reference is captured.
 pub(crate) fn check_names<'a>(
     alloc: Global,
@@ -77,7 +64,7 @@ pub(crate) fn check_names<'a>(
     }
     match first_captured(alloc, files, link, &aim, to)? {
         None => Ok(()),
-        Some(reference) => Err(captured(alloc, files, reference)?),
+        Some(reference) => Err(captured(alloc, files, reference.file, reference.token)?),
     }
 }
 

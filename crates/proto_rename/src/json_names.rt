@@ -58,6 +58,7 @@ fn is_other(
     Ok(other.as_str() == name)
 }
 
+// As `has_made`, with the name of the other field.
 fn has_other(
     alloc: Global,
     scene: &Scene,
@@ -109,6 +110,7 @@ fn clash_in(
     fields_clash(alloc, scene, &fields, token, name)
 }
 
+// As `one_reserves` of proto_members, with another test of a block.
 fn one_clashes(
     alloc: Global,
     scene: &Scene,

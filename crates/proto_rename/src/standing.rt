@@ -1,13 +1,13 @@
 //! The tokens of references that stand for what a rename aims at.
 
-ghost use Rattle.std.specs.Prelude.{◌≡◌, ◌==◌, ◌<◌, ◌++◌, length, IfOk, OnOk};
+ghost use Rattle.std.specs.Prelude.{◌≡◌, ◌==◌, ◌<◌, ◌++◌, length, IfOk, OnOk, option_to_list};
 ghost use Rattle.std.specs.List.{count_by};
 ghost use Rattle.proto_tree.specs.References.{dotted};
 ghost use Rattle.proto_files.specs.Faults.{HasNoFault};
 ghost use Rattle.proto_imports.specs.Links.{LinkFaults};
 ghost use Rattle.proto_names.specs.Linking.{text_at};
 ghost use Rattle.proto_names.specs.LinkOfFiles.{IsLinkOf};
-ghost use Rattle.proto_rename.specs.StandingTokens.{IsStandingIn, words_in, words_behind, from_end, counted, listed, standing_tokens};
+ghost use Rattle.proto_rename.specs.StandingTokens.{IsStandingIn, words_in, words_behind, from_end, counted, standing_tokens};
 
 use proto_captures::Aim;
 use proto_faults::NoMemory;
@@ -63,7 +63,7 @@ fn standing_words(
 }
 
 fn push_some(found: &mut Vec<u32>, token: Option<u32>) -> Result<(), NoMemory>
-    ensures { OnOk result (found.new.items ≡ found.old.items ++ listed token) }
+    ensures { OnOk result (found.new.items ≡ found.old.items ++ option_to_list token) }
 {
     if let Some(token) = token {
         found.push(token)?;

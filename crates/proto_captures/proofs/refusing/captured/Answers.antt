@@ -3,11 +3,11 @@ use Rattle.proto_text.specs.declared.lexer.Token.{Token}
 use Rattle.proto_text.specs.Texts.{offset_at}
 use Rattle.proto_text.proofs.Once.{one_token_list}
 use Rattle.proto_files.specs.GivenFiles.{file_at}
-use Rattle.proto_rename.proofs.checks.captured.Goals as goal
+use Rattle.proto_captures.proofs.refusing.captured.Goals as goal
 
 pub returns : goal.returns
 returns c = (
   c.in_ok-to_string.ensures.ok ∙ c.path.ensures,
   λ tokens are.
-      c.offset_of.ensures ∙ ap (λ (ts : List Token). offset_at ts c.args.reference.token) (one_token_list (file_at c.args.files.now c.args.reference.file).bytes c.tokens.result.now tokens c.tokens.ensures.tokens are),
+      c.offset_of.ensures ∙ ap (λ (ts : List Token). offset_at ts c.args.token) (one_token_list (file_at c.args.files.now c.args.file).bytes c.tokens.result.now tokens c.tokens.ensures.tokens are),
 )

@@ -1,0 +1,22 @@
+//! The refusal for a captured reference.
+
+ghost use Rattle.std.specs.Prelude.{◌<◌, length, IfOk};
+ghost use Rattle.proto_captures.specs.CapturedPlaces.{IsCapturedPlace};
+
+use proto_entries::Refusal;
+use proto_faults::NoMemory;
+use proto_files::{Files, offset_of};
+use std::alloc::Global;
+
+/// The refusal for a captured reference, with the place of its first token. Refused for want of
+/// memory alone.
+pub fn captured(alloc: Global, files: &Files, file: u32, token: u32) -> Result<Refusal, NoMemory>
+    requires { file < length files.now }
+    ensures { IfOk result (IsCapturedPlace files.now file token) }
+{
+    let place = file as usize;
+    Ok(Refusal::Captured {
+        path: files.path(place).to_string(alloc)?,
+        offset: offset_of(files.tokens(place), token),
+    })
+}
