@@ -18,7 +18,8 @@ use Rattle.proto_tree.specs.declared.tree.ServiceItem.TheVariants as service_ite
 use Rattle.proto_tree.specs.declared.tree.Signature.{Signature}
 use Rattle.proto_tree.specs.File.{enum_item_tree, enum_tree, field_tree, member_tree, message_tree, method_by, method_item_tree, oneof_tree, service_item_tree, service_tree, trees}
 use Rattle.proto_tree.specs.Tree.{Tree, End, Leaf, Block, joined}
-use Rattle.proto_findings.specs.Placed.{Found, below}
+use Rattle.proto_meaning.specs.Forest.{under}
+use Rattle.proto_findings.specs.Placed.{Found}
 use Rattle.proto_findings.specs.Readings.{Reading, reading_of, text}
 use Rattle.proto_block_rules.specs.declared.walk.Walk.{Walk}
 use Rattle.proto_block_rules.specs.Blocks.{Scoped, blocks_in, scope_within}
@@ -88,7 +89,7 @@ module _ (w : Walk) where
   -- ---- what stands in a message or a file
 
   pub finds_of_message : (scope : List ℕ) (m : Braced Member) → walk_finds w scope (message_tree m)
-      ≡ message_finds w.rules.now.chosen r scope m.name (trees member_tree m.members.items) ++ walk_finds w (below scope (text r m.name)) (trees member_tree m.members.items)
+      ≡ message_finds w.rules.now.chosen r scope m.name (trees member_tree m.members.items) ++ walk_finds w (under scope (text r m.name)) (trees member_tree m.members.items)
   finds_of_message scope m = finds_of_block scope (header.Message (record { keyword = m.keyword; name = m.name })) m.open (trees member_tree m.members.items) m.close
 
   pub finds_of_oneof : (scope : List ℕ) (o : Braced Field) → walk_finds w scope (oneof_tree o) ≡ oneof_finds w.rules.now.chosen r scope o.name
@@ -102,5 +103,5 @@ module _ (w : Walk) where
   pub finds_of_service : (scope : List ℕ) (s : Braced ServiceItem) → walk_finds w scope (service_tree s)
       ≡ service_finds w.rules.now.chosen r scope s.name ++ methods_finds w.rules.now.chosen r w.messages.now scope s.name (trees service_item_tree s.members.items)
   finds_of_service scope s =
-      let inner = below scope (text r s.name) in
+      let inner = under scope (text r s.name) in
       finds_of_flat scope (header.Service (record { keyword = s.keyword; name = s.name })) s.open (trees service_item_tree s.members.items) s.close (no_finds service_item_tree inner (none_in_service inner) s.members.items)

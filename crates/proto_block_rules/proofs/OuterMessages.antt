@@ -1,73 +1,40 @@
 -- Services stand right in a file alone, so their methods are those of the whole file.
-use Rattle.std.proofs.Common.{◌≡◌, ℕ, Bool, true, false, List, [], ◌∷◌, ◌++◌, flat_map, refl, sym, ap, ◌∙◌, append_assoc}
+use Rattle.std.proofs.Common.{◌≡◌, ℕ, true, List, [], ◌∷◌, ◌++◌, flat_map, refl, sym, ap, ◌∙◌, append_assoc}
 use Rattle.std.proofs.lemmas.Grind.{flat_map-append}
 use Rattle.proto_tree.specs.declared.context.Context.{Context}
 use Rattle.proto_tree.specs.declared.context.Context.TheVariants as context
-use Rattle.proto_tree.specs.declared.context.Kind.{Kind}
 use Rattle.proto_tree.specs.declared.context.Kind.TheVariants as kind
 use Rattle.proto_tree.specs.declared.piece.Header.{Header}
 use Rattle.proto_tree.specs.declared.piece.Header.TheVariants as header
 use Rattle.proto_tree.specs.Tree.{Tree, End, Leaf, Block, IsWellFormed, after, allows, header_kind, inside, joined, statement_kind}
 use Rattle.proto_tree.specs.File.{trees}
+use Rattle.proto_tree.proofs.Walks.{after_inner, inside_inner}
 use Rattle.proto_findings.specs.Readings.{Reading}
 use Rattle.proto_block_rules.specs.Blocks.{Scoped, blocks_in, scope_within}
 use Rattle.proto_block_rules.specs.BlockFinds.{block_messages, file_messages}
 use Rattle.proto_block_rules.specs.Walks.{outer_messages}
 
-abbrev is_inner : Context → Bool
-is_inner context.Start = false
-is_inner context.File = false
-is_inner context.Packaged = false
-is_inner context.Message = true
-is_inner context.Oneof = true
-is_inner context.Enum = true
-is_inner context.Service = true
-is_inner context.Method = true
-
-inside_is_inner : (h : Header) → is_inner (inside h) ≡ true
-inside_is_inner (header.Message h) = refl
-inside_is_inner whole = refl
-
-stays : (c : Context) (k : Kind) → is_inner c ≡ true → after c k ≡ c
-stays context.Start k e = cc
-stays context.File k e = cc
-stays context.Packaged k e = cc
-stays context.Message k e = refl
-stays context.Oneof k e = refl
-stays context.Enum k e = refl
-stays context.Service k e = refl
-stays context.Method k e = refl
-
-no_service : (c : Context) → is_inner c ≡ true → allows c kind.OpenService ≡ true → ⊥
+no_service : (c : Context) → allows c kind.Close ≡ true → allows c kind.OpenService ≡ true → ⊥
 no_service context.Start e a = cc
-no_service context.File e a = cc
-no_service context.Packaged e a = cc
-no_service context.Message e a = cc
-no_service context.Oneof e a = cc
-no_service context.Enum e a = cc
-no_service context.Service e a = cc
-no_service context.Method e a = cc
+no_service _ e a = cc
 
 module _ (r : Reading) where
   abbrev one : Scoped → List (List ℕ)
   one b = block_messages r b.header b.within
 
-  none_here : (c : Context) (h : Header) (within : Tree) → is_inner c ≡ true → allows c (header_kind h) ≡ true → block_messages r h within ≡ []
-  none_here c (header.Message h) within e a = refl
-  none_here c (header.Oneof h) within e a = refl
-  none_here c (header.Enum h) within e a = refl
+  none_here : (c : Context) (h : Header) (within : Tree) → allows c kind.Close ≡ true → allows c (header_kind h) ≡ true → block_messages r h within ≡ []
   none_here c (header.Service h) within e a = absurd (no_service c e a)
-  none_here c (header.Method s) within e a = refl
+  none_here c _ within e a = refl
 
-  no_messages : (c : Context) (scope : List ℕ) (t : Tree) → is_inner c ≡ true → IsWellFormed c t → flat_map one (blocks_in r scope t) ≡ []
+  no_messages : (c : Context) (scope : List ℕ) (t : Tree) → allows c kind.Close ≡ true → IsWellFormed c t → flat_map one (blocks_in r scope t) ≡ []
   no_messages c scope End e w = refl
-  no_messages c scope (Leaf s rest) e w = no_messages (after c (statement_kind s)) scope rest (ap is_inner (stays c (statement_kind s) e) ∙ e) w.1
+  no_messages c scope (Leaf s rest) e w = no_messages (after c (statement_kind s)) scope rest (ap (λ d. allows d kind.Close) (after_inner c (statement_kind s) e) ∙ e) w.1
   no_messages c scope (Block h i within j rest) e w =
       let inner = blocks_in r (scope_within r scope h) within in
       ap (λ (ms : List (List ℕ)). ms ++ flat_map one (inner ++ blocks_in r scope rest)) (none_here c h within e w.0)
       ∙ flat_map-append one inner (blocks_in r scope rest)
-      ∙ ap (λ (ms : List (List ℕ)). ms ++ flat_map one (blocks_in r scope rest)) (no_messages (inside h) (scope_within r scope h) within (inside_is_inner h) w.1)
-      ∙ no_messages (after c (header_kind h)) scope rest (ap is_inner (stays c (header_kind h) e) ∙ e) w.2
+      ∙ ap (λ (ms : List (List ℕ)). ms ++ flat_map one (blocks_in r scope rest)) (no_messages (inside h) (scope_within r scope h) within (inside_inner h) w.1)
+      ∙ no_messages (after c (header_kind h)) scope rest (ap (λ d. allows d kind.Close) (after_inner c (header_kind h) e) ∙ e) w.2
 
   outer_alone : (c : Context) (scope : List ℕ) (t : Tree) → IsWellFormed c t → flat_map one (blocks_in r scope t) ≡ outer_messages r t
   outer_alone c scope End w = refl
@@ -77,7 +44,7 @@ module _ (r : Reading) where
       let inner = blocks_in r (scope_within r scope h) within in
       ap (λ (ms : List (List ℕ)). own ++ ms)
       (flat_map-append one inner (blocks_in r scope rest)
-      ∙ ap (λ (ms : List (List ℕ)). ms ++ flat_map one (blocks_in r scope rest)) (no_messages (inside h) (scope_within r scope h) within (inside_is_inner h) w.1)
+      ∙ ap (λ (ms : List (List ℕ)). ms ++ flat_map one (blocks_in r scope rest)) (no_messages (inside h) (scope_within r scope h) within (inside_inner h) w.1)
       ∙ outer_alone (after c (header_kind h)) scope rest w.2)
 
   pub outer_is_all : (c : Context) (t : Tree) → IsWellFormed c t → outer_messages r t ≡ file_messages r t

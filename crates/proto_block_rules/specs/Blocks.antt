@@ -5,8 +5,8 @@ use Rattle.proto_tree.specs.declared.piece.Header.{Header}
 use Rattle.proto_tree.specs.declared.piece.Header.TheVariants as header
 use Rattle.proto_tree.specs.Tree.{Tree, End, Leaf, Block}
 use Rattle.proto_meaning.specs.Joined.{joined}
+use Rattle.proto_meaning.specs.Forest.{under}
 use Rattle.proto_findings.specs.Readings.{package_words, Reading, text}
-use Rattle.proto_findings.specs.Placed.{below}
 
 -- a block in a scope: a full name, empty for none
 pub record Scoped : Type 0 where
@@ -16,8 +16,8 @@ pub record Scoped : Type 0 where
 
 -- the scope in a block (what stands in an enum or in a oneof is declared beside it)
 abbrev pub scope_within : Reading → Text → Header → Text
-scope_within r scope (header.Message h) = below scope (text r h.name)
-scope_within r scope (header.Service h) = below scope (text r h.name)
+scope_within r scope (header.Message h) = under scope (text r h.name)
+scope_within r scope (header.Service h) = under scope (text r h.name)
 scope_within r scope (header.Oneof h) = scope
 scope_within r scope (header.Enum h) = scope
 scope_within r scope (header.Method s) = scope

@@ -13,7 +13,8 @@ use Rattle.proto_tree.specs.Tree.{Tree, End, Leaf, Block}
 use Rattle.proto_tree.specs.References.{first_of}
 use Rattle.proto_case.specs.Cases.{is_pascal}
 use Rattle.proto_rules.specs.declared.rule.Rule.TheVariants as rule
-use Rattle.proto_findings.specs.Placed.{Found, Named, below, behind_last, found_by, unless}
+use Rattle.proto_meaning.specs.Forest.{under}
+use Rattle.proto_findings.specs.Placed.{Found, Named, behind_last, found_by, unless}
 use Rattle.proto_findings.specs.Readings.{Reading, meant, text}
 
 -- ---- the methods of a service
@@ -42,7 +43,7 @@ type_meant r t = meant r (first_of t.reference.dot t.reference.words)
 
 -- a method of the service with a full name, at its own name, unless it passes
 abbrev pub method_unless : Reading → Text → Bool → Signature → List Named
-method_unless r service passes s = unless passes s.name (below service (text r s.name))
+method_unless r service passes s = unless passes s.name (under service (text r s.name))
 
 -- RPC_PASCAL_CASE: a method whose name is not Pascal
 abbrev pub rpc_pascal_case : Reading → Text → Signature → List Named
@@ -115,4 +116,4 @@ method_finds rules r all service name s =
 -- what the rules find at the methods of a service, with the scope around it
 abbrev pub methods_finds : List Bool → Reading → List Text → Text → ℕ → Tree → List Found
 methods_finds rules r all scope name within =
-    flat_map (method_finds rules r all (below scope (text r name)) name) (signatures_in within)
+    flat_map (method_finds rules r all (under scope (text r name)) name) (signatures_in within)

@@ -1,5 +1,5 @@
 -- The rules of names: of messages, fields and oneofs, of enums and their values, and of services.
-use Rattle.std.specs.Prelude.{ℕ, Bool, false, not, ◌==◌, ◌||◌, ◌&&◌, nat_eq, List, [], ◌∷◌, ◌++◌, flat_map, Option, Some, None, codes}
+use Rattle.std.specs.Prelude.{ℕ, Bool, not, ◌==◌, ◌||◌, ◌&&◌, nat_eq, List, [], ◌∷◌, ◌++◌, flat_map, codes}
 use Rattle.std.specs.List.{starts_with, ends_with}
 use Rattle.std.specs.Str.{bytes_eq}
 use Rattle.proto_faults.specs.Texts.{Text}
@@ -12,7 +12,8 @@ use Rattle.proto_parts.specs.Options.{truth_of, is_true}
 use Rattle.proto_parts.specs.Parts.{fields_in, statements, values_in}
 use Rattle.proto_case.specs.Cases.{is_lower_snake, is_pascal, is_upper_snake, upper}
 use Rattle.proto_rules.specs.declared.rule.Rule.TheVariants as rule
-use Rattle.proto_findings.specs.Placed.{Found, Named, below, found_by, unless, unless_word}
+use Rattle.proto_meaning.specs.Forest.{under}
+use Rattle.proto_findings.specs.Placed.{Found, Named, found_by, unless, unless_word}
 use Rattle.proto_findings.specs.Readings.{Reading, text}
 
 -- ---- messages, with the scope around them
@@ -24,7 +25,7 @@ message_pascal_case r scope name = unless_word r is_pascal scope name
 -- FIELD_LOWER_SNAKE_CASE: a field, also of a oneof or a map, whose name is not lower snake
 abbrev pub field_lower_snake_case : Reading → Text → ℕ → Tree → List Named
 field_lower_snake_case r scope name within =
-    flat_map (λ f. unless_word r is_lower_snake (below scope (text r name)) f.name)
+    flat_map (λ f. unless_word r is_lower_snake (under scope (text r name)) f.name)
     (fields_in within)
 
 -- ONEOF_LOWER_SNAKE_CASE: a oneof whose name is not lower snake
@@ -82,7 +83,7 @@ allowed_alias r enum _ = []
 -- ENUM_NO_ALLOW_ALIAS: each such statement of an enum
 abbrev pub enum_no_allow_alias : Reading → Text → ℕ → Tree → List Named
 enum_no_allow_alias r scope name within =
-    flat_map (allowed_alias r (below scope (text r name))) (statements within)
+    flat_map (allowed_alias r (under scope (text r name))) (statements within)
 
 -- ---- services, with the scope around them
 

@@ -17,10 +17,13 @@ ghost use Rattle.proto_block_rules.specs.NameRules.{allowed_alias, enum_finds, e
 use crate::names::add_name;
 use proto_case::{is_pascal, is_upper_snake, upper};
 use proto_faults::NoMemory;
-use proto_findings::{Found, Reading, Rule, RuleSet, add_below_unless, add_unless, below};
+use proto_findings::{Found, Reading, Rule, RuleSet, add_below_unless, add_unless, under};
 use proto_parts::number_of;
 use proto_tree::{Constant, Enum, EnumItem, Option_, Value};
 use std::alloc::Global;
+
+// The loops over items differ in their rule and in what it finds at one item alone; a common loop
+// would be given the latter as a closure.
 
 // ---- numbers
 
@@ -234,6 +237,9 @@ fn add_prefixes(
 
 // ---- aliases
 
+// These are as `truth` of proto_parts and `is_alias_option` of proto_checks, over a Reading in
+// place of a Scene.
+
 fn is_true(reading: &Reading, value: &Constant) -> bool
     ensures { result ≡ is_true (truth_of (text (reading_of reading.now)) value.now) }
 {
@@ -316,7 +322,7 @@ fn add_aliases(
     if !rules.has(Rule::EnumNoAllowAlias) {
         return Ok(());
     }
-    let full_name = below(alloc, scope, reading.text(names.name))?;
+    let full_name = under(alloc, scope, reading.text(names.name))?;
     add_each_alias(alloc, found, reading, &full_name, &names.members)
 }
 

@@ -13,7 +13,7 @@ ghost use Rattle.proto_block_rules.specs.NameRules.{field_lower_snake_case, mess
 use crate::names::add_name;
 use proto_case::{is_lower_snake, is_pascal};
 use proto_faults::NoMemory;
-use proto_findings::{Found, Reading, Rule, RuleSet, add_below_unless, below};
+use proto_findings::{Found, Reading, Rule, RuleSet, add_below_unless, under};
 use proto_parts::{FieldAt, fields_of};
 use proto_tree::{Message, Oneof};
 use std::alloc::Global;
@@ -55,7 +55,7 @@ fn add_field_names(
     if !rules.has(Rule::FieldLowerSnakeCase) {
         return Ok(());
     }
-    let full_name = below(alloc, scope, reading.text(message.name))?;
+    let full_name = under(alloc, scope, reading.text(message.name))?;
     let fields = fields_of(alloc, &message.members)?;
     add_each_field(alloc, found, reading, &full_name, &fields)
 }

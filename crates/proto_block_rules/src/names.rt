@@ -1,7 +1,8 @@
 //! A name that a rule asks for.
 
 ghost use Rattle.std.specs.Prelude.{◌≡◌, ◌++◌, map, OnOk};
-ghost use Rattle.proto_findings.specs.Placed.{below, found_by, unless};
+ghost use Rattle.proto_meaning.specs.Forest.{under};
+ghost use Rattle.proto_findings.specs.Placed.{found_by, unless};
 ghost use Rattle.proto_findings.specs.Readings.{reading_of, text};
 ghost use Rattle.proto_findings.specs.Views.{found_of};
 
@@ -23,7 +24,7 @@ pub(crate) fn add_name(
 ) -> Result<(), NoMemory>
     ensures { OnOk result (map found_of found.new.items ≡ map found_of found.old.items
         ++ found_by rules.now.chosen (reading_of reading.now) rule
-        (unless passes token (below scope.now (text (reading_of reading.now) token)))) }
+        (unless passes token (under scope.now (text (reading_of reading.now) token)))) }
 {
     if !rules.has(rule) {
         return Ok(());

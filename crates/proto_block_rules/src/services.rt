@@ -13,7 +13,7 @@ use crate::names::add_name;
 use crate::shared::Messages;
 use proto_case::is_pascal;
 use proto_faults::NoMemory;
-use proto_findings::{Found, Reading, Rule, RuleSet, below};
+use proto_findings::{Found, Reading, Rule, RuleSet, under};
 use proto_tree::{Service, ServiceItem};
 use std::alloc::Global;
 
@@ -85,7 +85,7 @@ fn add_methods(
         ++ methods_finds rules.now.chosen (reading_of reading.now) messages.now scope.now
         service.now.name (trees service_item_tree service.now.members.items)) }
 {
-    let full = below(alloc, scope, reading.text(service.name))?;
+    let full = under(alloc, scope, reading.text(service.name))?;
     let name = ServiceName {
         full: &full,
         token: service.name,

@@ -14,7 +14,7 @@ use crate::messages::{add_message, add_oneof};
 use crate::services::add_service;
 use crate::shared::Messages;
 use proto_faults::NoMemory;
-use proto_findings::{Found, Reading, RuleSet, below};
+use proto_findings::{Found, Reading, RuleSet, under};
 use proto_tree::{File, Item, Member, Message};
 use std::alloc::Global;
 
@@ -40,7 +40,7 @@ fn add_message_block(
         ++ walk_finds walk.now scope.now (message_tree message.now)) }
 {
     add_message(alloc, found, walk.rules, walk.reading, scope, message)?;
-    let full_name = below(alloc, scope, walk.reading.text(message.name))?;
+    let full_name = under(alloc, scope, walk.reading.text(message.name))?;
     add_members(alloc, found, walk, &full_name, &message.members)
 }
 

@@ -2,23 +2,19 @@
 use Rattle.std.proofs.Common.{◌≡◌, ℕ, false, ◌==◌, ◌<◌, List, [], ◌∷◌, ◌++◌, length, flat_map, refl, sym, ap, ◌∙◌, inl, inr, arith}
 use Rattle.std.proofs.lemmas.Bool.{cases_Bool, eqb-true}
 use Rattle.std.proofs.lemmas.Grind.{flat_map-append}
+use Rattle.std.proofs.lemmas.List.{append-nil}
 use Rattle.proto_tree.specs.declared.tree.Field.{Field}
 use Rattle.proto_tree.specs.declared.tree.EnumItem.{EnumItem}
-use Rattle.proto_tree.specs.declared.tree.EnumItem.TheVariants as enum_item
 use Rattle.proto_tree.specs.declared.tree.MethodItem.{MethodItem}
-use Rattle.proto_tree.specs.declared.tree.MethodItem.TheVariants as method_item
 use Rattle.proto_tree.specs.declared.piece.Header.{Header}
 use Rattle.proto_tree.specs.Tree.{Tree, End, Block, joined}
 use Rattle.proto_tree.specs.File.{trees, field_tree, enum_item_tree, method_item_tree}
 use Rattle.proto_parts.specs.Parts.{BlockOf, blocks_in, statements}
 use Rattle.proto_parts.specs.Scenes.{Scene}
+use Rattle.proto_parts.proofs.ItemBlocks.{no_block_in_enum, no_block_in_method, no_blocks}
 use Rattle.proto_parts.proofs.JoinedTrees.{blocks_joined}
 use Rattle.proto_numbers.specs.declared.flaw.Flaw.{Flaw}
 use Rattle.proto_checks.specs.FileFlaws.{block_flaws, flaws_in_blocks, is_empty}
-
-append_nil : {A : Type 0} (xs : List A) → xs ++ [] ≡ xs
-append_nil [] = refl
-append_nil (x ∷ xs) = ap (λ (ys : List _). x ∷ ys) (append_nil xs)
 
 flaws_joined : (scene : Scene) (t u : Tree) → flaws_in_blocks scene (joined t u) ≡ flaws_in_blocks scene t ++ flaws_in_blocks scene u
 flaws_joined scene t u =
@@ -33,28 +29,14 @@ flaws_of_trees view scene (x ∷ xs) =
 -- one block: its own, and those in it
 pub flaws_of_block : (scene : Scene) (h : Header) (i : ℕ) (within : Tree) (j : ℕ) → flaws_in_blocks scene (Block h i within j End) ≡ block_flaws scene h within ++ flaws_in_blocks scene within
 flaws_of_block scene h i within j =
-    ap (λ (bs : List BlockOf). block_flaws scene h within ++ flat_map (λ b. block_flaws scene b.header b.within) bs) (append_nil (blocks_in within))
+    ap (λ (bs : List BlockOf). block_flaws scene h within ++ flat_map (λ b. block_flaws scene b.header b.within) bs) (append-nil (blocks_in within))
 
 -- a block with no other in it
 flaws_of_flat : (scene : Scene) (h : Header) (i : ℕ) (within : Tree) (j : ℕ) → blocks_in within ≡ [] → flaws_in_blocks scene (Block h i within j End) ≡ block_flaws scene h within
 flaws_of_flat scene h i within j e =
     flaws_of_block scene h i within j
     ∙ ap (λ (bs : List BlockOf). block_flaws scene h within ++ flat_map (λ b. block_flaws scene b.header b.within) bs) e
-    ∙ append_nil (block_flaws scene h within)
-
-no_blocks : {A : Type 0} (view : A → Tree) → ((x : A) → blocks_in (view x) ≡ []) → (xs : List A) → blocks_in (trees view xs) ≡ []
-no_blocks view none [] = refl
-no_blocks view none (x ∷ xs) = blocks_joined (view x) (trees view xs) ∙ ap (λ (bs : List BlockOf). bs ++ blocks_in (trees view xs)) (none x) ∙ no_blocks view none xs
-
-no_block_in_enum : (item : EnumItem) → blocks_in (enum_item_tree item) ≡ []
-no_block_in_enum (enum_item.Value v) = refl
-no_block_in_enum (enum_item.Option o) = refl
-no_block_in_enum (enum_item.Reserved r) = refl
-no_block_in_enum (enum_item.Empty i) = refl
-
-no_block_in_method : (item : MethodItem) → blocks_in (method_item_tree item) ≡ []
-no_block_in_method (method_item.Option o) = refl
-no_block_in_method (method_item.Empty i) = refl
+    ∙ append-nil (block_flaws scene h within)
 
 pub flaws_of_enum : (scene : Scene) (h : Header) (i : ℕ) (items : List EnumItem) (j : ℕ) → flaws_in_blocks scene (Block h i (trees enum_item_tree items) j End) ≡ block_flaws scene h (trees enum_item_tree items)
 flaws_of_enum scene h i items j = flaws_of_flat scene h i (trees enum_item_tree items) j (no_blocks enum_item_tree no_block_in_enum items)

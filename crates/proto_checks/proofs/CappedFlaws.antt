@@ -29,6 +29,7 @@ use Rattle.proto_checks.specs.FileFlaws.{name_flaws, json_clashes, extension_fla
 use Rattle.proto_numbers.proofs.CappedNumbers.{Alike, AlikeCaps, equal_alike, within_alike, caps_back, past_or_none, capped, alike_at, alike_signed, alike_end, field_limit, value_limit}
 use Rattle.proto_numbers.proofs.CappedCovers.{Beneath, Covered, covered_equal, covered_join, covered_more, covered_unless, covered_flat, least_kept}
 use Rattle.proto_numbers.proofs.CappedRanges.{outside_here, outside_same, covered_repeated, broken_here, broken_same, sound_same, inside_same, covered_overlaps, covered_reserved}
+use Rattle.proto_checks.proofs.KnownNames.{flat_map_same}
 
 -- ---- fields: their flaws are the same
 
@@ -49,10 +50,6 @@ holds_same scalar a b h =
     four false false true l s t u v s' t' u' v' a b c d = c
     four false false false true s t u v s' t' u' v' a b c d = d
     four false false false false s t u v s' t' u' v' a b c d = refl
-
-flat_same : {A X : Type 0} (f g : A → List X) → ((a : A) → f a ≡ g a) → (items : List A) → flat_map f items ≡ flat_map g items
-flat_same f g h [] = refl
-flat_same f g h (a ∷ items) = ap (λ l. l ++ flat_map f items) (h a) ∙ ap (λ l. g a ++ l) (flat_same f g h items)
 
 -- where a number is outside its limits, a flaw with a greater number has no effect
 under_range : (zs : List Flaw) (k : FaultKind) (t : ℕ) → number_of kind.NumberRange < number_of k → Contains zs (flaw kind.NumberRange t) → Beneath zs (flaw k t)
@@ -158,7 +155,7 @@ module _ (scene : Scene) (c d : Option ℕ) (caps : AlikeCaps c d) where
       let fields : List Flaw = flat_map (field_flaws two) fs in
       let rest : List Flaw = name_flaws scene (reserved_names_in within) (map (λ f. f.name) fs) ++ (json_clashes scene fs ++ (extension_flaws scene within ++ option_flaws scene element.Message (options_in within))) in
       covered_join (message_flaws two within) (flat_map (field_flaws one) fs) fields (parts fs rs c ++ rest) (parts fs rs d ++ rest)
-      (covered_equal (message_flaws two within) (flat_map (field_flaws one) fs) fields (flat_same (field_flaws one) (field_flaws two) field_same fs))
+      (covered_equal (message_flaws two within) (flat_map (field_flaws one) fs) fields (flat_map_same (field_flaws one) (field_flaws two) field_same fs))
       (covered_join (message_flaws two within) (parts fs rs c) (parts fs rs d) rest rest
       (covered_more (parts fs rs d) (message_flaws two within) (parts fs rs c) (parts fs rs d) (in_second fields (parts fs rs d) rest) (covered_fields fs rs))
       (covered_equal (message_flaws two within) rest rest refl))

@@ -51,7 +51,7 @@ use Rattle.proto_checks.specs.FileFlaws.{alias_flaws, allows_alias, block_flaws,
 
 -- ---- lists
 
-both : {A : Type 0} (P : A → Type 0) (xs ys : List A) → AllByRecursion P xs → AllByRecursion P ys → AllByRecursion P (xs ++ ys)
+pub both : {A : Type 0} (P : A → Type 0) (xs ys : List A) → AllByRecursion P xs → AllByRecursion P ys → AllByRecursion P (xs ++ ys)
 both P [] ys h g = g
 both P (x ∷ xs) ys h g = (h.0, both P xs ys h.1 g)
 
@@ -63,11 +63,11 @@ pub aft : {A : Type 0} (P : A → Type 0) (xs ys : List A) → AllByRecursion P 
 aft P [] ys h = h
 aft P (x ∷ xs) ys h = aft P xs ys h.1
 
-mapped : {A B : Type 0} (P : A → Type 0) (Q : B → Type 0) (f : A → B) → ((a : A) → P a → Q (f a)) → (xs : List A) → AllByRecursion P xs → AllByRecursion Q (map f xs)
+pub mapped : {A B : Type 0} (P : A → Type 0) (Q : B → Type 0) (f : A → B) → ((a : A) → P a → Q (f a)) → (xs : List A) → AllByRecursion P xs → AllByRecursion Q (map f xs)
 mapped P Q f h [] g = tt
 mapped P Q f h (x ∷ xs) g = (h x g.0, mapped P Q f h xs g.1)
 
-flattened : {A B : Type 0} (P : A → Type 0) (Q : B → Type 0) (f : A → List B) → ((a : A) → P a → AllByRecursion Q (f a)) → (xs : List A) → AllByRecursion P xs → AllByRecursion Q (flat_map f xs)
+pub flattened : {A B : Type 0} (P : A → Type 0) (Q : B → Type 0) (f : A → List B) → ((a : A) → P a → AllByRecursion Q (f a)) → (xs : List A) → AllByRecursion P xs → AllByRecursion Q (flat_map f xs)
 flattened P Q f h [] g = tt
 flattened P Q f h (x ∷ xs) g = both Q (f x) (flat_map f xs) (h x g.0) (flattened P Q f h xs g.1)
 

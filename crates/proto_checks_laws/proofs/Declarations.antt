@@ -13,14 +13,18 @@ use Rattle.proto_tree.specs.declared.piece.Heading.{Heading}
 use Rattle.proto_tree.specs.declared.piece.Statement.{Statement}
 use Rattle.proto_tree.specs.declared.piece.Statement.TheVariants as statement
 use Rattle.proto_tree.specs.declared.tree.Value.{Value as ValueParts}
+use Rattle.proto_tree.specs.Answer.{IsOuter}
 use Rattle.proto_tree.specs.References.{dotted}
 use Rattle.proto_tree.specs.Tree.{Tree, End, Leaf, Block, IsWellFormed, after, allows, field_kind, header_kind, statement_kind}
+use Rattle.proto_tree.proofs.Walks.{last_outer}
 use Rattle.proto_meaning.specs.declared.kind.Kind.TheVariants.{Message, Entry, Enum, Service, Field, Oneof, Value, Method}
 use Rattle.proto_meaning.specs.Skeleton.{Source, Token, EntryOf}
 use Rattle.proto_meaning.specs.Tree.{Items, Members, Placed, all_placed, enum, field, file_placed, items_placed, map_field, message, oneof, package_of, place, placed, prefixes, service}
 use Rattle.proto_listing.specs.FromTree.{add_statement, block_names, field_names, file_statement, items_in, members_in, method_names, no_names, picked, value_names}
 use Rattle.proto_parts.specs.Parts.{BlockOf, FieldOf, blocks_in, fields_from, fields_in, map_field as field_of_map, plain_field, statement_fields, statements, values_in}
+use Rattle.proto_checks.proofs.FlawTokens.{both}
 use Rattle.proto_checks_laws.specs.Declarations.{BlocksAreDeclared, FieldsAreDeclared, IsDeclared, IsDeclaredField, ValuesAreDeclared}
+use Rattle.proto_checks_laws.proofs.Outermost.{no_method, no_oneof}
 
 differ : false ≡ true → ⊥
 differ h = cc
@@ -117,7 +121,7 @@ none_in_method whole e = differ e
 -- ---- fields and values of one block
 
 -- of the fields of a oneof, wherever it stands
-oneof_field : (o : Option ℕ) (t : Tree) → IsWellFormed context.Oneof t → (f : FieldOf) → Contains (flat_map (statement_fields o) (statements t)) f → Contains (picked field_names no_names t) f.name × (f.map_key ≡ None)
+pub oneof_field : (o : Option ℕ) (t : Tree) → IsWellFormed context.Oneof t → (f : FieldOf) → Contains (flat_map (statement_fields o) (statements t)) f → Contains (picked field_names no_names t) f.name × (f.map_key ≡ None)
 oneof_field o End w f c = absurd (omega (arith, c.1))
 oneof_field o (Leaf (statement.Field g) rest) w f c = elim (contains_cases (plain_field o g) f (flat_map (statement_fields o) (statements rest)) c) [
   | inl q ↦ subst (λ (z : FieldOf). Contains (g.name ∷ picked field_names no_names rest) z.name × (z.map_key ≡ None)) q (contains_head g.name (picked field_names no_names rest), refl)
@@ -180,10 +184,6 @@ field_declared path n (Block (header.Enum h) i within j rest) w f c =
 field_declared path n (Block whole i within j rest) w f c = field_declared path n rest w.2 f c
 
 -- ---- the blocks of a message
-
-both : {A : Type 0} (P : A → Type 0) (xs ys : List A) → AllByRecursion P xs → AllByRecursion P ys → AllByRecursion P (xs ++ ys)
-both P [] ys h g = g
-both P (x ∷ xs) ys h g = (h.0, both P xs ys h.1 g)
 
 module _ (declared : List Placed) where
   abbrev Inside : List Placed → Type 0
@@ -288,67 +288,25 @@ module _ (declared : List Placed) where
 
   -- ---- the blocks of a file
 
-  abbrev Outer : Context → Type 0
-  Outer context.Start = Unit {0}
-  Outer context.File = Unit {0}
-  Outer context.Packaged = Unit {0}
-  Outer context.Message = ⊥
-  Outer context.Oneof = ⊥
-  Outer context.Enum = ⊥
-  Outer context.Service = ⊥
-  Outer context.Method = ⊥
-
-  outer_after : (c : Context) (k : Kind) → Outer c → Outer (after c k)
-  outer_after context.Start kind.Package o = tt
-  outer_after context.Start _ o = tt
-  outer_after context.File kind.Package o = tt
-  outer_after context.File _ o = tt
-  outer_after context.Packaged k o = tt
-  outer_after context.Message k o = o
-  outer_after context.Oneof k o = o
-  outer_after context.Enum k o = o
-  outer_after context.Service k o = o
-  outer_after context.Method k o = o
-
-  no_oneof : (c : Context) → Outer c → allows c kind.OpenOneof ≡ true → ⊥
-  no_oneof context.Start o h = differ h
-  no_oneof context.File o h = differ h
-  no_oneof context.Packaged o h = differ h
-  no_oneof context.Message o h = o
-  no_oneof context.Oneof o h = o
-  no_oneof context.Enum o h = o
-  no_oneof context.Service o h = o
-  no_oneof context.Method o h = o
-
-  no_method : (c : Context) → Outer c → allows c kind.OpenMethod ≡ true → ⊥
-  no_method context.Start o h = differ h
-  no_method context.File o h = differ h
-  no_method context.Packaged o h = differ h
-  no_method context.Message o h = o
-  no_method context.Oneof o h = o
-  no_method context.Enum o h = o
-  no_method context.Service o h = o
-  no_method context.Method o h = o
-
   items_behind : (path : List (Source ℕ)) (s : Statement) (is : Items) → Inside (items_placed path (file_statement s is)) → Inside (items_placed path is)
   items_behind path (statement.Package x) is i = aft (prefixes [] (dotted x.name)) (items_placed path is) i
   items_behind path _ is i = i
 
-  items_are : (path : List (Source ℕ)) (c : Context) → Outer c → (t : Tree) → IsWellFormed c t → Inside (items_placed path (items_in t)) → Blocks_are (blocks_in t)
+  items_are : (path : List (Source ℕ)) (c : Context) → IsOuter c → (t : Tree) → IsWellFormed c t → Inside (items_placed path (items_in t)) → Blocks_are (blocks_in t)
   items_are path c o End w i = tt
-  items_are path c o (Leaf s rest) w i = items_are path (after c (statement_kind s)) (outer_after c (statement_kind s) o) rest w.1 (items_behind path s (items_in rest) i)
+  items_are path c o (Leaf s rest) w i = items_are path (after c (statement_kind s)) (last_outer (Leaf s End) c o) rest w.1 (items_behind path s (items_in rest) i)
   items_are path c o (Block (header.Message h) opens within closes rest) w i =
       let mine : Inside (placed path (message h.name (members_in within))) = fore (placed path (message h.name (members_in within))) (items_placed path (items_in rest)) i in
       let inner : Inside (all_placed (path ++ Token h.name ∷ []) (members_in within)) = λ p c. mine p (contains_later (place path (Token h.name) Message) p (all_placed (path ++ Token h.name ∷ []) (members_in within)) c) in (
         message_is path h within w.1 mine,
         both Block_is (blocks_in within) (blocks_in rest) (members_are (path ++ Token h.name ∷ []) within w.1 inner)
-            (items_are path (after c kind.OpenMessage) (outer_after c kind.OpenMessage o) rest w.2 (aft (placed path (message h.name (members_in within))) (items_placed path (items_in rest)) i)),
+            (items_are path (after c kind.OpenMessage) (last_outer (Block (header.Message h) opens within closes End) c o) rest w.2 (aft (placed path (message h.name (members_in within))) (items_placed path (items_in rest)) i)),
       )
   items_are path c o (Block (header.Enum h) opens within closes rest) w i =
       let mine = placed path (enum h.name (picked value_names no_names within)) in (
         enum_is path h within w.1 (fore mine (items_placed path (items_in rest)) i),
         both Block_is (blocks_in within) (blocks_in rest) (nothing (blocks_in within) (no_blocks context.Enum in_enum none_in_enum within w.1))
-            (items_are path (after c kind.OpenEnum) (outer_after c kind.OpenEnum o) rest w.2 (aft mine (items_placed path (items_in rest)) i)),
+            (items_are path (after c kind.OpenEnum) (last_outer (Block (header.Enum h) opens within closes End) c o) rest w.2 (aft mine (items_placed path (items_in rest)) i)),
       )
   items_are path c o (Block (header.Service h) opens within closes rest) w i =
       let ms = picked method_names block_names within in
@@ -364,7 +322,7 @@ module _ (declared : List Placed) where
             (λ m d. mine (place (path ++ Token h.name ∷ []) (Token m) Method)
             (contains_later (place path (Token h.name) Service) (place (path ++ Token h.name ∷ []) (Token m) Method) (map (λ x. place (path ++ Token h.name ∷ []) (Token x) Method) ms)
             (contains_map (λ x. place (path ++ Token h.name ∷ []) (Token x) Method) ms m d))))
-            (items_are path (after c kind.OpenService) (outer_after c kind.OpenService o) rest w.2 (aft (placed path (service h.name (picked method_names block_names within))) (items_placed path (items_in rest)) i)),
+            (items_are path (after c kind.OpenService) (last_outer (Block (header.Service h) opens within closes End) c o) rest w.2 (aft (placed path (service h.name (picked method_names block_names within))) (items_placed path (items_in rest)) i)),
       )
   items_are path c o (Block (header.Oneof h) opens within closes rest) w i = absurd (no_oneof c o w.0)
   items_are path c o (Block (header.Method s) opens within closes rest) w i = absurd (no_method c o w.0)
@@ -374,7 +332,7 @@ module _ (declared : List Placed) where
 pub blocks_are_declared : BlocksAreDeclared
 blocks_are_declared tree ls spells b c =
     let declared = file_placed (items_in tree) in
-    let all = items_are declared (map (λ t. Token t) (package_of (items_in tree))) context.Start tt tree spells.well_formed (λ p d. d) in
+    let all = items_are declared (map (λ t. Token t) (package_of (items_in tree))) context.Start refl tree spells.well_formed (λ p d. d) in
     All-contains (Block_is declared) (blocks_in tree) b (All-from_recursion (Block_is declared) (blocks_in tree) all) c
 
 pub fields_are_declared : FieldsAreDeclared

@@ -18,6 +18,7 @@ use Rattle.proto_tree.proofs.MarkLaws.{numbered_append, numbered_at, trees_are_n
 use Rattle.proto_meaning.proofs.RisingLists.{Rising, rising_append, rising_pairs, rising_within}
 use Rattle.proto_parts.specs.Parts.{BlockOf, FieldOf, blocks_in, fields_from, fields_in, map_field, plain_field, statement_fields, statements}
 use Rattle.proto_checks_laws.specs.Declarations.{FieldNamesRise}
+use Rattle.proto_checks.proofs.FlawTokens.{both}
 
 abbrev Rise : ℕ → ℕ → List FieldOf → Type 0
 Rise = Rising (λ (f : FieldOf). f.name) (λ f. Unit {0})
@@ -114,10 +115,6 @@ fields_rise k (Block (header.Oneof h) i inner j rest) n num =
 fields_rise k (Block whole i inner j rest) n num = behind_block (fields_from k rest) whole i inner j rest n num (λ c m. fields_rise k rest c m)
 
 -- ---- each block's tokens are numbered
-
-both : {A : Type 0} (P : A → Type 0) (xs ys : List A) → AllByRecursion P xs → AllByRecursion P ys → AllByRecursion P (xs ++ ys)
-both P [] ys h g = g
-both P (x ∷ xs) ys h g = (h.0, both P xs ys h.1 g)
 
 abbrev IsNumbered : BlockOf → Type 0
 IsNumbered b = (n : ℕ) × Numbered n (flat b.within)

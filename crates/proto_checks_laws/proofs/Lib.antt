@@ -5,5 +5,6 @@ pub mod MovedFlaws
 pub mod MovedParts
 pub mod NamedFlaws
 pub mod OneField
+pub mod Outermost
 pub mod RenamedFlaws
 pub mod Roles

@@ -41,22 +41,11 @@ use Rattle.proto_tree.proofs.Roles.{roles_are_one}
 use Rattle.proto_parts.specs.Options.{is_named}
 use Rattle.proto_parts.specs.Parts.{FieldOf, OptionOf, BlockOf, blocks_in, closed_ranges, enum_ranges, fields_from, fields_in, map_field, option_of_setting, options_in, plain_field, ranges_of, separated, settings_of, statement_fields, statement_options, statement_values, statements, values_in}
 use Rattle.proto_parts.specs.Scenes.{Scene, text}
+use Rattle.proto_checks.proofs.FlawTokens.{both, flattened, mapped}
 use Rattle.proto_checks_laws.specs.Renamed.{asked_tokens, block_tokens, constant_tokens, end_tokens, field_tokens, header_tokens, option_tokens, range_tokens, scalar_tokens, up_to_tokens, value_tokens}
 use Rattle.proto_checks_laws.specs.Roles.{AskedTokensHaveRoles, DefaultsAreNotAsked, FieldOptionsHaveRoles, IsOtherValue, NamesAreNotAsked, ValueHasRole, ValueNumbersAreNumbers, is_asked, is_of_declarations}
 
 -- ---- lists
-
-both : {A : Type 0} (P : A → Type 0) (xs ys : List A) → AllByRecursion P xs → AllByRecursion P ys → AllByRecursion P (xs ++ ys)
-both P [] ys h g = g
-both P (x ∷ xs) ys h g = (h.0, both P xs ys h.1 g)
-
-mapped : {A B : Type 0} (P : A → Type 0) (Q : B → Type 0) (f : A → B) → ((a : A) → P a → Q (f a)) → (xs : List A) → AllByRecursion P xs → AllByRecursion Q (map f xs)
-mapped P Q f h [] g = tt
-mapped P Q f h (x ∷ xs) g = (h x g.0, mapped P Q f h xs g.1)
-
-flattened : {A B : Type 0} (P : A → Type 0) (Q : B → Type 0) (f : A → List B) → ((a : A) → P a → AllByRecursion Q (f a)) → (xs : List A) → AllByRecursion P xs → AllByRecursion Q (flat_map f xs)
-flattened P Q f h [] g = tt
-flattened P Q f h (x ∷ xs) g = both Q (f x) (flat_map f xs) (h x g.0) (flattened P Q f h xs g.1)
 
 one_of : {A : Type 0} (P : A → Type 0) (xs : List A) (x : A) → AllByRecursion P xs → Contains xs x → P x
 one_of P xs x all c = All-contains P xs x (All-from_recursion P xs all) c

@@ -17,6 +17,7 @@ use Rattle.proto_tree.specs.declared.piece.Header.TheVariants as header
 use Rattle.proto_tree.specs.Tree.{Tree, End, Leaf, Block}
 use Rattle.proto_case.specs.Camel.{entry_name}
 use Rattle.proto_listing.specs.FromTree.{Wanted, imports_in, items_in}
+pub use Rattle.proto_meaning.specs.Joined.{below}
 use Rattle.proto_meaning.specs.Joined.{joined}
 use Rattle.proto_meaning.specs.Tree.{package_of, key_word, value_word}
 use Rattle.proto_parts.specs.Options.{truth_option, word_option, text_option, value_named}
@@ -101,10 +102,6 @@ absolute name = 46 ∷ name
 abbrev pub type_name_of : Scene → WrittenType → Option Text
 type_name_of scene (written_type.Scalar t) = None
 type_name_of scene (written_type.Reference r) = option_map (λ m. absolute m.name) (meant_by scene r)
-
--- a name right below one that stands behind a dot
-abbrev pub below : Text → Text → Text
-below full word = full ++ 46 ∷ word
 
 -- ---- fields
 

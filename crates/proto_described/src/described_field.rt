@@ -9,12 +9,12 @@ ghost use Rattle.proto_parts.specs.Labels.{has_label};
 ghost use Rattle.proto_described.specs.Described.{label_of, field_type_of, field_type_name, default_text, field_options, field_described};
 ghost use Rattle.proto_descriptors.specs.Views.{field_desc};
 
-use crate::described_names::below;
 use crate::described_numbers::{default_number, field_number};
 use crate::described_type::{type_name, type_of};
 use proto_case::entry_name;
 use proto_descriptors::{FieldDescriptor, FieldOptions, FieldType, Label};
 use proto_faults::NoMemory;
+use proto_meaning::below;
 use proto_parts::{
     FieldAt, OptionAt, Scene, has_label, json_name, option_named, options_between, text_value,
     truth_option,

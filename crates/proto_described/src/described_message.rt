@@ -11,13 +11,14 @@ ghost use Rattle.proto_descriptors.specs.Views.{enum_desc, field_desc, message_t
 use crate::described_entry::entry_descriptor;
 use crate::described_enum::push_enum;
 use crate::described_field::field_descriptor;
-use crate::described_names::{below, strings};
+use crate::described_names::strings;
 use crate::described_numbers::number_range;
 use proto_descriptors::{
     EnumDescriptor, FieldDescriptor, MessageDescriptor, MessageOptions, NumberRange,
     OneofDescriptor,
 };
 use proto_faults::NoMemory;
+use proto_meaning::below;
 use proto_numbers::field_ranges;
 use proto_parts::{
     Scene, extension_ranges, fields_of, message_options, reserved_names, reserved_ranges,

@@ -2,22 +2,13 @@
 
 ghost use Rattle.std.specs.Prelude.{◌≡◌, map, string_bytes, IfOk};
 ghost use Rattle.proto_parts.specs.Scenes.{value};
-ghost use Rattle.proto_described.specs.Described.{absolute, below, type_text};
+ghost use Rattle.proto_described.specs.Described.{absolute, type_text};
 
 use proto_faults::NoMemory;
+use proto_meaning::below;
 use proto_parts::Scene;
 use proto_tree::Reference;
 use std::alloc::Global;
-
-/// The name right below one that stands behind a dot.
-pub(crate) fn below(alloc: Global, full: &str, word: &str) -> Result<String, NoMemory>
-    ensures { IfOk result (λ s. string_bytes s ≡ below full.now word.now) }
-{
-    let mut name = String::from_str(alloc, full)?;
-    name.push('.')?;
-    name.push_str(word)?;
-    Ok(name)
-}
 
 /// A full name behind a dot. Fails for want of memory alone.
 pub fn absolute(alloc: Global, name: &str) -> Result<String, NoMemory>

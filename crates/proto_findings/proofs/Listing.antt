@@ -9,6 +9,7 @@ use Rattle.std.specs.String.{string_bytes}
 use Rattle.std.specs.declared.cmp.Ordering.{Ordering}
 use Rattle.std.specs.declared.cmp.Ordering.TheVariants.{Less, Equal, Greater}
 use Rattle.std.proofs.lemmas.Cmp.{eq_by_cmp_equiv}
+use Rattle.std.proofs.lemmas.List.{length-map}
 use Rattle.std.proofs.lemmas.List.Kept.{Any-dedup, Contains-from_dedup, IsStrictlySortedBy-dedup}
 use Rattle.std.proofs.lemmas.List.Sorted.{Contains-permutation, IsPermutation-sym}
 use Rattle.std.proofs.lemmas.Map.Keys.{Less-from_sorted}
@@ -55,10 +56,6 @@ at_map f [] i a b l = absurd (omega (arith, l))
 at_map f (x ∷ xs) zero a b l = refl
 at_map f (x ∷ xs) (suc i) a b l = at_map f xs i a b (omega (arith, l))
 
-map_count : {A B : Type 0} (f : A → B) (xs : List A) → length (map f xs) ≡ length xs
-map_count f [] = refl
-map_count f (x ∷ xs) = ap suc (map_count f xs)
-
 -- an element that is seen so
 abbrev Seen : List Finding → FindingOf → Type 0
 Seen xs y = (x : Finding) × Contains xs x × (finding_of x ≡ y)
@@ -66,7 +63,7 @@ Seen xs y = (x : Finding) × Contains xs x × (finding_of x ≡ y)
 seen_from : (xs : List Finding) (y : FindingOf) → Contains (map finding_of xs) y → Seen xs y
 seen_from [] y (k, l, e) = absurd (omega (arith, l))
 seen_from (x ∷ xs) y (k, l, e) =
-    let within : k < length (x ∷ xs) = let n = map_count finding_of (x ∷ xs) in omega (arith, n, l) in
+    let within : k < length (x ∷ xs) = let n = length-map (x ∷ xs) finding_of in omega (arith, n, l) in
     (get_or (x ∷ xs) k x, (k, within, itself (x ∷ xs) k x within), sym (at_map finding_of (x ∷ xs) k x y within) ∙ e) where
       itself : (xs : List Finding) (k : ℕ) (d : Finding) → k < length xs → get_or xs k (get_or xs k d) ≡ get_or xs k d
       itself [] k d l = absurd (omega (arith, l))
@@ -74,7 +71,7 @@ seen_from (x ∷ xs) y (k, l, e) =
       itself (x ∷ xs) (suc k) d l = itself xs k d (omega (arith, l))
 
 from_seen : (xs : List Finding) (y : FindingOf) → Seen xs y → Contains (map finding_of xs) y
-from_seen xs y (x, (k, l, e), is) = (k, (let n = map_count finding_of xs in omega (arith, n, l)), at_map finding_of xs k x y l ∙ ap finding_of e ∙ is)
+from_seen xs y (x, (k, l, e), is) = (k, (let n = length-map xs finding_of in omega (arith, n, l)), at_map finding_of xs k x y l ∙ ap finding_of e ∙ is)
 
 module _ (cmp : Finding → Finding → Ordering) (total : IsTotalOrder cmp) (same : Finding → Finding → Bool) (ties : (f g : Finding) → same f g ≡ eq_by_cmp cmp f g) (agrees : (f g : Finding) → cmp f g ≡ finding_cmp (finding_of f) (finding_of g)) where
   equivalence : IsEquivalence same
@@ -97,7 +94,7 @@ module _ (cmp : Finding → Finding → Ordering) (total : IsTotalOrder cmp) (sa
   in_order : (fs : List Finding) → IsStrictlySortedBy cmp fs → AllPairs (λ f g. finding_cmp f g ≡ Less) (map finding_of fs)
   in_order [] s i j d a b = absurd (omega (arith, b))
   in_order (f ∷ fs) s i j d a b =
-      let n = map_count finding_of (f ∷ fs) in
+      let n = length-map (f ∷ fs) finding_of in
       let last : j < length (f ∷ fs) = omega (arith, n, b) in
       let first : i < length (f ∷ fs) = omega (arith, a, last) in
       ap (λ (x : FindingOf). finding_cmp x (get_or (map finding_of (f ∷ fs)) j d)) (at_map finding_of (f ∷ fs) i f d first)

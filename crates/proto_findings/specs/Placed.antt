@@ -1,7 +1,8 @@
 -- Names at their tokens, and findings at their places.
-use Rattle.std.specs.Prelude.{ℕ, Bool, true, false, if◌then◌else◌, List, [], ◌∷◌, ◌++◌, map, Option, Some, None}
+use Rattle.std.specs.Prelude.{ℕ, Bool, true, false, if◌then◌else◌, List, [], ◌∷◌, map, Option, Some, None}
 use Rattle.std.specs.Path.{rsplit_once}
 use Rattle.proto_faults.specs.Texts.{Text}
+use Rattle.proto_meaning.specs.Forest.{under}
 use Rattle.proto_text.specs.Texts.{offset_at}
 use Rattle.proto_rules.specs.declared.rule.Rule.{Rule}
 use Rattle.proto_findings.specs.Readings.{Reading, text}
@@ -23,14 +24,9 @@ abbrev pub unless : Bool → ℕ → Text → List Named
 unless true token name = []
 unless false token name = record { token = token; name = name } ∷ []
 
--- the full name of a word right below another full name, or outermost where that is empty
-abbrev pub below : Text → Text → Text
-below [] word = word
-below (b ∷ bs) word = (b ∷ bs) ++ 46 ∷ word
-
 -- a name right in a scope, at its own token, unless its word passes
 abbrev pub unless_word : Reading → (Text → Bool) → Text → ℕ → List Named
-unless_word r passes scope token = unless (passes (text r token)) token (below scope (text r token))
+unless_word r passes scope token = unless (passes (text r token)) token (under scope (text r token))
 
 -- what a rule finds at a name: its finding where the name's token begins
 abbrev pub found_at : Reading → Rule → Named → Found

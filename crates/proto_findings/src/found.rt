@@ -2,12 +2,14 @@
 
 ghost use Rattle.std.specs.Prelude.{◌≡◌, ◌++◌, map, IfOk, OnErr, OnOk};
 ghost use Rattle.std.specs.String.{string_bytes};
-ghost use Rattle.proto_findings.specs.Placed.{below, found_at, unless};
+ghost use Rattle.proto_meaning.specs.Forest.{under};
+ghost use Rattle.proto_findings.specs.Placed.{found_at, unless};
 ghost use Rattle.proto_findings.specs.Readings.{reading_of, text};
 ghost use Rattle.proto_findings.specs.Views.{found_of};
 
 use crate::reading::Reading;
 use proto_faults::NoMemory;
+use proto_meaning::below;
 use proto_rules::Rule;
 use std::alloc::Global;
 
@@ -19,17 +21,15 @@ pub struct Found {
     pub name: String,
 }
 
-/// A name right below another, or outermost where that is empty. Only want of memory is refused,
-/// here and below.
-pub fn below(alloc: Global, scope: &str, word: &str) -> Result<String, NoMemory>
-    ensures { IfOk result (λ s. string_bytes s ≡ below scope.now word.now) }
+/// A name right below another, or outermost where that is empty (where `below` puts a dot too).
+/// Only want of memory is refused, here and below.
+pub fn under(alloc: Global, scope: &str, word: &str) -> Result<String, NoMemory>
+    ensures { IfOk result (λ s. string_bytes s ≡ under scope.now word.now) }
 {
-    let mut name = String::from_str(alloc, scope)?;
-    if !scope.is_empty() {
-        name.push('.')?;
+    if scope.is_empty() {
+        return Ok(String::from_str(alloc, word)?);
     }
-    name.push_str(word)?;
-    Ok(name)
+    below(alloc, scope, word)
 }
 
 /// Adds a name at a token, unless it passes. After want of memory nothing is added.
@@ -67,12 +67,12 @@ pub fn add_below_unless(
 ) -> Result<(), NoMemory>
     ensures added { OnOk result (map found_of found.new.items ≡ map found_of found.old.items ++ map
         (found_at (reading_of reading.now) rule)
-        (unless passes token (below scope.now (text (reading_of reading.now) token)))) }
+        (unless passes token (under scope.now (text (reading_of reading.now) token)))) }
     ensures unchanged { OnErr result (found.new.items ≡ found.old.items) }
 {
     if !passes {
         let offset = reading.offset(token);
-        let name = below(alloc, scope, reading.text(token))?;
+        let name = under(alloc, scope, reading.text(token))?;
         found.push(Found { offset, rule, name })?;
     }
     Ok(())

@@ -7,7 +7,7 @@ mod parts;
 mod reading;
 
 pub use finding::{Finding, add_findings, listed};
-pub use found::{Found, add_below_unless, add_unless, below};
+pub use found::{Found, add_below_unless, add_unless, under};
 pub use parts::{directory_of, file_name_of, last_part};
 pub use proto_rules::{Rule, RuleSet, laws};
 pub use reading::Reading;

@@ -72,7 +72,7 @@ lead_falls rank imports falls {f} {g} (onward i c e l) =
     let t : rank i.from ≡ rank f = ap rank e in
     omega (arith, r, s, t)
 
-contains_filtered : {X Y : Type 0} (h : X → Option Y) (xs : List X) (x : X) (y : Y) → Contains xs x → h x ≡ Some y → Contains (filter_map h xs) y
+pub contains_filtered : {X Y : Type 0} (h : X → Option Y) (xs : List X) (x : X) (y : Y) → Contains xs x → h x ≡ Some y → Contains (filter_map h xs) y
 contains_filtered h [] x y c e = absurd (omega (arith, c.1))
 contains_filtered {Y = Y} h (z ∷ xs) x y c e = elim (contains_cases z x xs c) [
   | inl same ↦ subst (λ o. Contains (cons_option o (filter_map h xs)) y) (sym (ap h same ∙ e)) (contains_head y (filter_map h xs))

@@ -16,8 +16,9 @@ use Rattle.proto_faults.specs.declared.fault.SchemaFault.{SchemaFault}
 use Rattle.proto_faults.specs.declared.fault.SchemaFault.TheVariants.{Schema, NoMemory}
 use Rattle.proto_meaning.specs.Faults.{Fault, fault, IsBefore, IsLeast, ImportFault, NameFault, ReferenceFault}
 use Rattle.proto_meaning.specs.Grown.{at}
-use Rattle.proto_imports.specs.LinkErrors.{IsLinkError, IsAtToken}
+use Rattle.proto_imports.specs.LinkErrors.{IsLinkError}
 use Rattle.proto_files.specs.FilesRead.{ReadOf, read_at, AreRead}
+use Rattle.proto_files.specs.FileTokens.{IsAtToken}
 use Rattle.proto_imports.specs.Links.{text_of, all_wanted, link_skeleton, StandsAt, LinkFaults, of_import, of_name, of_reference}
 use Rattle.proto_imports.proofs.FaultPlaces.{IsFoundIn, import_found, name_found, reference_found}
 use Rattle.proto_files.proofs.ReadOnce.{read_once}
@@ -170,7 +171,8 @@ module _ (files : List FileOf) (are_files : AreWorkspaceFiles files) where
     -- ---- what is answered
 
     -- a fault at a token that is the least one where it stands
-    pub link_error : (file token : ℕ) (kind : FaultKind) (e : SchemaFault) → IsAtToken files file token kind e
+    pub link_error : (file token : ℕ) (kind : FaultKind) (e : SchemaFault) → file < length files → IsAtToken files file token kind e
         → ((x : FaultAt) → Stands (fault (at file token) (number_of kind)) x → IsLeastFault (LinkFaults files) x) → IsLinkError files e
-    link_error file token kind (Schema f) h least = least (fault_at f) (h reads are_read)
-    link_error file token kind NoMemory h least = tt
+    link_error file token kind (Schema f) l h least =
+        least (fault_at f) (record { path = h.path; offset = h.offset (read_at reads file).tokens (are_read.tokens file l); number = ap number_of h.kind_is })
+    link_error file token kind NoMemory l h least = tt

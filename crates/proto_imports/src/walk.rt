@@ -54,8 +54,8 @@ fn mark(file: u32, seen: &mut Vec<bool>, todo: &mut Vec<u32>) -> Result<(), NoMe
     Ok(())
 }
 
-/// As many marks, none of them set.
-fn unmarked(alloc: Global, count: usize) -> Result<Vec<bool>, AllocError>
+/// As many marks, none of them set. Only want of memory is refused.
+pub fn unmarked(alloc: Global, count: usize) -> Result<Vec<bool>, AllocError>
     ensures { IfOk result (λ marks. marks.items ≡ replicate count false) }
 {
     vec![in alloc; false; count]

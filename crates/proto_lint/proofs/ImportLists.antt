@@ -1,6 +1,6 @@
 -- The import statements of trees.
-use Rattle.std.proofs.Common.{◌≡◌, ℕ, ◌+◌, ◌<◌, List, [], ◌∷◌, ◌++◌, Bor, length, get_or, map, take, refl, sym, ◌∙◌, ap, subst, append_assoc}
-use Rattle.std.specs.Prelude.{Err, Ok, OnOk, Result, is_some}
+use Rattle.std.proofs.Common.{◌≡◌, ℕ, ◌+◌, ◌<◌, List, [], ◌∷◌, ◌++◌, Bor, length, get_or, map, take, refl, sym, ◌∙◌, ap, subst}
+use Rattle.std.specs.Prelude.{is_some}
 use Rattle.std.specs.List.{Contains, flat_map}
 use Rattle.std.proofs.lemmas.Grind.{flat_map-append}
 use Rattle.std.proofs.lemmas.List.{append-nil, map-append}
@@ -43,10 +43,6 @@ same_imports (Block h i within j rest) = same_imports rest
 pub paths_are_strings : (text : List ℕ) (tokens : List Token) (tree : Tree) → Reads text tokens tree → (i : Import) → Contains (imports_in tree) i → IsString (words text tokens i.path)
 paths_are_strings text tokens tree reads i c = imports_are_strings text tokens tree reads (wanted_as i) (subst (λ (ws : List Wanted). Contains ws (wanted_as i)) (sym (same_imports tree)) (contains_map wanted_as (imports_in tree) i c))
 
--- one list after another is added
-pub then_more : {A : Type 0} (a b c x y : List A) → b ≡ a ++ x → c ≡ b ++ y → c ≡ a ++ (x ++ y)
-then_more a b c x y e h = h ∙ ap (λ zs. zs ++ y) e ∙ append_assoc a x y
-
 -- what is found of one import more
 pub finds_more : {A : Type 0} (finds : Import → List A) (xs : List (Bor Import)) (i : ℕ) (d : Bor Import) → i < length xs
     → flat_map finds (map (λ x. x.now) (take (i + 1) xs)) ≡ flat_map finds (map (λ x. x.now) (take i xs)) ++ finds (get_or xs i d).now
@@ -55,8 +51,3 @@ finds_more finds xs i d l =
     ∙ ap (flat_map finds) (map-append (λ x. x.now) (take i xs) (get_or xs i d ∷ []))
     ∙ flat_map-append finds (map (λ x. x.now) (take i xs)) ((get_or xs i d).now ∷ [])
     ∙ ap (λ zs. flat_map finds (map (λ x. x.now) (take i xs)) ++ zs) (append-nil (finds (get_or xs i d).now))
-
--- what follows of a call that is well
-pub on_ok_of : {T E P Q : Type 0} (r : Result T E) → (P → Q) → OnOk r P → OnOk r Q
-on_ok_of (Ok x) f h = f h
-on_ok_of (Err e) f h = tt

@@ -19,21 +19,11 @@ use Rattle.proto_listing.specs.Listing.{wanted_of}
 use Rattle.proto_listing.specs.declared.wanted.Wanted.{Wanted as WantedAt}
 use Rattle.proto_files.specs.FilesRead.{ReadOf, AreRead, read_at}
 use Rattle.proto_imports.specs.Links.{all_wanted, asked_as, link_imports, text_of}
+use Rattle.proto_imports.proofs.ImportGraph.{contains_filtered}
 use Rattle.proto_imports.proofs.Turned.{contains_within, take_more}
 use Rattle.proto_lint.specs.ImportTables.{ArePublic, public_target, public_targets}
 
 -- ---- what a list keeps
-
-of_filtered : {X Y : Type 0} (h : X → Option Y) (xs : List X) (x : X) (y : Y) → Contains xs x → h x ≡ Some y → Contains (filter_map h xs) y
-of_filtered h [] x y c e = absurd (omega (arith, c.1))
-of_filtered {Y = Y} h (z ∷ xs) x y c e = elim (contains_cases z x xs c) [
-  | inl same ↦ subst (λ o. Contains (cons_option o (filter_map h xs)) y) (sym (ap h same ∙ e)) (contains_head y (filter_map h xs))
-  | inr d ↦ go (h z) (filter_map h xs) (of_filtered h xs x y d e)
-]
-  where
-    go : (o : Option Y) (ys : List Y) → Contains ys y → Contains (cons_option o ys) y
-    go None ys k = k
-    go (Some v) ys k = contains_later v y ys k
 
 from_filtered : {X Y : Type 0} (h : X → Option Y) (xs : List X) (y : Y) → Contains (filter_map h xs) y → (x : X) × Contains xs x × (h x ≡ Some y)
 from_filtered h [] y c = absurd (omega (arith, c.1))
@@ -134,7 +124,7 @@ module _ (files : List FileOf) (reads : List ReadOf) (are : AreRead files reads)
       let asked : Contains (all_wanted texts 0 reads) a = subst (λ m. Contains (all_wanted texts 0 reads) (asked_as texts m x.0)) {x = 0 + from} {y = from} (omega arith) (asked_in texts 0 from reads x.0 (omega (arith, l, are.same)) x.1) in
       let i : Import = record { from = from; to = to; is_public = x.0.is_public } in
       let named : import_at paths a ≡ Some i = ap (option_map (λ (k : ℕ). let j : Import = record { from = from; to = k; is_public = x.0.is_public } in j)) t.1 in
-      (i, of_filtered (import_at paths) (all_wanted texts 0 reads) a i asked named, refl, refl, t.0)
+      (i, contains_filtered (import_at paths) (all_wanted texts 0 reads) a i asked named, refl, refl, t.0)
 
   imported_listed : (from to : ℕ) → (i : Import) × Contains (link_imports files reads) i × (i.from ≡ from) × (i.to ≡ to) × (i.is_public ≡ true) → Contains (get_or next from []) to
   imported_listed from to (i, c, f, t, p) =
@@ -149,7 +139,7 @@ module _ (files : List FileOf) (reads : List ReadOf) (are : AreRead files reads)
       let target : public_target paths (here from) one ≡ Some to = ap (λ (b : Bool). if b then file_of paths (path_at (here from) one) else None) is_public ∙ file in
       let l : from < length files = let q = x.1 in omega (arith, q, k, are.same) in
       let wanted : Contains (imports_in (read_at reads from).tree) one = subst (λ j. Contains (imports_in (read_at reads j).tree) one) k x.2.1 in
-      subst (λ z. Contains z to) (sym (each from l)) (of_filtered (public_target paths (here from)) (imports_in (read_at reads from).tree) one to wanted target)
+      subst (λ z. Contains z to) (sym (each from l)) (contains_filtered (public_target paths (here from)) (imports_in (read_at reads from).tree) one to wanted target)
 
   pub are_public : ArePublic next (link_imports files reads)
   are_public from to = (listed_imported from to, imported_listed from to)

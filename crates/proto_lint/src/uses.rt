@@ -1,6 +1,6 @@
 //! Which files are used by references.
 
-ghost use Rattle.std.specs.Prelude.{◌≡◌, ◌↔◌, ◌&&◌, ℕ, ◌<◌, [], length, get_or, true, false, IfOk, replicate};
+ghost use Rattle.std.specs.Prelude.{◌≡◌, ◌↔◌, ◌&&◌, ℕ, ◌<◌, [], length, get_or, true, false, IfOk};
 ghost use Rattle.proto_imports.specs.Walks.{IsMarked};
 ghost use Rattle.proto_names.specs.LinkOfFiles.{IsLinkOf};
 ghost use Rattle.proto_names.specs.Linking.{file_at};
@@ -8,15 +8,9 @@ ghost use Rattle.proto_lint.specs.ImportTables.{MarksMeant, MarksUsed, with_mark
 
 use proto_faults::NoMemory;
 use proto_files::Files;
+use proto_imports::walk::unmarked;
 use proto_names::{Link, Meant};
-use std::alloc::{AllocError, Global};
-
-/// As many marks, none of them set.
-fn unmarked(alloc: Global, count: usize) -> Result<Vec<bool>, AllocError>
-    ensures { IfOk result (λ marks. marks.items ≡ replicate count false) }
-{
-    vec![in alloc; false; count]
-}
+use std::alloc::Global;
 
 /// Marks the file that declares what a reference means, if one alone does.
 fn mark_meant(marks: &mut Vec<bool>, link: &Link, meant: Meant)

@@ -11,6 +11,10 @@ joined [] = []
 joined (w ∷ []) = w
 joined (w ∷ v ∷ rest) = w ++ ascii.dot ∷ joined (v ∷ rest)
 
+-- a word right below a scope, as text: behind it and a dot
+abbrev pub below : Text → Text → Text
+below scope word = scope ++ 46 ∷ word
+
 -- a word that is not empty and has no dot
 abbrev pub IsPlain : Word → Type 0
 IsPlain word = (list_any (λ b. b == ascii.dot) word ≡ false) × (word ≢ [])

@@ -3,9 +3,11 @@
 #![tactic(auto)]
 
 pub mod edits;
+mod full_names;
 mod kind;
 pub mod marks;
 pub mod spelling;
 pub mod visibility;
 
+pub use full_names::below;
 pub use kind::Kind;

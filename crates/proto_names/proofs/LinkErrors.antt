@@ -9,9 +9,10 @@ use Rattle.proto_meaning.specs.Faults.{Fault, fault, Asked, IsLeast, ImportFault
 use Rattle.proto_names.specs.FileReferences.{AreLinked, flaw_number}
 use Rattle.proto_meaning.specs.Grown.{at}
 use Rattle.proto_imports.specs.Importing.{fault_of, number_of}
-use Rattle.proto_imports.specs.LinkErrors.{IsAtToken, IsLinkError}
+use Rattle.proto_imports.specs.LinkErrors.{IsLinkError}
 use Rattle.proto_names.specs.LinkOfFiles.{AreNamesOf, HasNoImportFault, HasNoNameFault}
 use Rattle.proto_files.specs.FilesRead.{ReadOf, AreRead}
+use Rattle.proto_files.specs.FileTokens.{IsAtToken}
 use Rattle.proto_imports.specs.Links.{StandsAt, all_wanted, link_skeleton, names_of_files, text_of}
 use Rattle.proto_meaning.specs.Marks.{MarksSeen}
 use Rattle.proto_imports.specs.declared.import.BadImport.{BadImport}
@@ -41,7 +42,7 @@ module _ (files : List FileOf) (reads : List ReadOf) (are_read : AreRead files r
   pub import_error : AreWorkspaceFiles files → (b : BadImport) (kind : FaultKind) (e : SchemaFault) → IsLeast Imports (fault_of b)
       → number_of_kind kind ≡ number_of b.flaw → IsAtToken files b.file b.token kind e → IsLinkError files e
   import_error are_files b kind e least n h =
-      link_error files are_files reads are_read b.file b.token kind e h
+      link_error files are_files reads are_read b.file b.token kind e (import_file b least) h
       (λ x s. least_import files are_files reads are_read (fault_of b) x least (subst (λ (k : ℕ). StandsAt files reads (fault (at b.file b.token) k) x) n s))
 
   abbrev flawed_at : BadReference → Fault
@@ -53,7 +54,7 @@ module _ (files : List FileOf) (reads : List ReadOf) (are_read : AreRead files r
   pub reference_error : AreWorkspaceFiles files → HasNoImportFault files → HasNoNameFault files → (b : BadReference) (kind : FaultKind) (e : SchemaFault)
       → IsLeast References (flawed_at b) → number_of_kind kind ≡ flaw_number b.flaw → IsAtToken files b.file b.token kind e → IsLinkError files e
   reference_error are_files no_import no_name b kind e least n h =
-      link_error files are_files reads are_read b.file b.token kind e h
+      link_error files are_files reads are_read b.file b.token kind e (reference_file b least) h
       (λ x s. least_reference files are_files reads are_read (no_import reads are_read) (no_name reads are_read) (flawed_at b) x least
       (subst (λ (k : ℕ). StandsAt files reads (fault (at b.file b.token) k) x) n s))
 

@@ -4,9 +4,10 @@ use Rattle.proto_faults.specs.declared.fault.FaultKind.TheVariants as kinds
 use Rattle.proto_files.specs.GivenFiles.{FileOf, AreWorkspaceFiles}
 use Rattle.proto_meaning.specs.Faults.{Fault, fault, IsLeast, NameFault}
 use Rattle.proto_meaning.specs.Grown.{at}
-use Rattle.proto_imports.specs.LinkErrors.{IsLinkError, IsAtToken}
+use Rattle.proto_imports.specs.LinkErrors.{IsLinkError}
 use Rattle.proto_names.specs.LinkOfFiles.{HasNoImportFault}
 use Rattle.proto_files.specs.FilesRead.{AreRead, ReadOf}
+use Rattle.proto_files.specs.FileTokens.{IsAtToken}
 use Rattle.proto_imports.specs.Links.{link_skeleton, names_in, text_of}
 use Rattle.proto_table.specs.Naming.{tree_named}
 use Rattle.proto_table.specs.Spelled.{ClashFault, Named}
@@ -39,4 +40,4 @@ module _ (files : List FileOf) (reads : List ReadOf) (are : AreRead files reads)
   pub clash_error : AreWorkspaceFiles files → HasNoImportFault files → (file token : ℕ) (e : SchemaFault) → IsLeast (ClashFault ds) (fault (at file token) 13) → IsAtToken files file token kinds.DuplicateName e → IsLinkError files e
   clash_error are_files no_import file token e least there =
       let f = fault (at file token) 13 in
-      link_error files are_files reads are file token kinds.DuplicateName e there (λ x. least_name files are_files reads are (no_import reads are) f x (least_fault f least))
+      link_error files are_files reads are file token kinds.DuplicateName e (clash_within file token least) there (λ x. least_name files are_files reads are (no_import reads are) f x (least_fault f least))

@@ -5,7 +5,6 @@ mod all_references;
 mod backlinks;
 pub mod laws;
 mod link;
-mod link_fault;
 mod read_files;
 mod references;
 mod resolve;

@@ -1,4 +1,5 @@
 mod Digits
+pub mod ItemBlocks
 pub mod JoinedTrees
 mod Means
 mod Statements

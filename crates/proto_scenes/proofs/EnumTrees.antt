@@ -1,73 +1,23 @@
--- The enums of trees that stand one behind another, and of what stands in a file.
-use Rattle.std.proofs.Common.{◌≡◌, ℕ, ◌+◌, ◌<◌, List, [], ◌∷◌, ◌++◌, length, get_or, drop, refl, ap, ◌∙◌}
-use Rattle.std.specs.List.{filter}
-use Rattle.std.proofs.lemmas.List.{append-nil}
-use Rattle.std.proofs.lemmas.List.Elements.{filter-append}
-use Rattle.proto_faults.proofs.Turns.{listed_turn}
+-- The enums of what stands in a file.
+use Rattle.std.proofs.Common.{◌≡◌, List, [], ◌∷◌, refl, ap}
 use Rattle.proto_tree.specs.declared.tree.Block.{Block as Braced}
 use Rattle.proto_tree.specs.declared.tree.EnumItem.{EnumItem}
-use Rattle.proto_tree.specs.declared.tree.EnumItem.TheVariants as enum_item
 use Rattle.proto_tree.specs.declared.tree.Field.{Field}
 use Rattle.proto_tree.specs.declared.tree.Member.{Member}
-use Rattle.proto_tree.specs.declared.tree.MethodEnd.{MethodEnd}
-use Rattle.proto_tree.specs.declared.tree.MethodEnd.TheVariants as method_end
-use Rattle.proto_tree.specs.declared.tree.MethodItem.{MethodItem}
-use Rattle.proto_tree.specs.declared.tree.MethodItem.TheVariants as method_item
 use Rattle.proto_tree.specs.declared.tree.ServiceItem.{ServiceItem}
-use Rattle.proto_tree.specs.declared.tree.ServiceItem.TheVariants as service_item
-use Rattle.proto_tree.specs.declared.tree.Signature.{Signature}
-use Rattle.proto_tree.specs.File.{enum_item_tree, enum_tree, field_tree, member_tree, message_tree, method_by, method_item_tree, oneof_tree, service_item_tree, service_tree, trees}
-use Rattle.proto_tree.specs.Tree.{Tree, joined}
-use Rattle.proto_parts.specs.Parts.{BlockOf, blocks_in}
-use Rattle.proto_parts.proofs.JoinedTrees.{blocks_joined}
+use Rattle.proto_tree.specs.File.{enum_item_tree, enum_tree, field_tree, member_tree, message_tree, oneof_tree, service_tree, trees}
+use Rattle.proto_parts.specs.Parts.{BlockOf}
+use Rattle.proto_parts.proofs.ItemBlocks.{no_block_in_enum, no_method_within, none_within, wanted_within}
 use Rattle.proto_scenes.specs.Enums.{enum_block, enums_in, is_enum}
 
-enums_joined : (t u : Tree) → enums_in (joined t u) ≡ enums_in t ++ enums_in u
-enums_joined t u = ap (filter (λ b. is_enum b.header)) (blocks_joined t u) ∙ filter-append (λ b. is_enum b.header) (blocks_in t) (blocks_in u)
-
--- the enums of one element more
-pub enums_turn : {X : Type 0} (tree : X → Tree) (xs : List X) (i : ℕ) (x : X) (found next whole : List BlockOf) → i < length xs → x ≡ get_or xs i x
-    → next ≡ found ++ enums_in (tree x) → found ++ enums_in (trees tree (drop i xs)) ≡ whole
-    → next ++ enums_in (trees tree (drop (i + 1) xs)) ≡ whole
-enums_turn tree xs i x found next whole lt is new before =
-    listed_turn (λ ys. enums_in (trees tree ys)) (λ y. enums_in (tree y)) (λ y ys. enums_joined (tree y) (trees tree ys)) xs i x x found next whole lt is new before
-
--- trees without enums
-none_in : {A : Type 0} (view : A → Tree) → ((a : A) → enums_in (view a) ≡ []) → (items : List A) → enums_in (trees view items) ≡ []
-none_in view none [] = refl
-none_in view none (a ∷ items) = enums_joined (view a) (trees view items) ∙ ap (λ bs. bs ++ enums_in (trees view items)) (none a) ∙ none_in view none items
-
--- what stands between braces, with nothing behind them
-alone : (t : Tree) → filter (λ b. is_enum b.header) (blocks_in t ++ []) ≡ enums_in t
-alone t = ap (filter (λ b. is_enum b.header)) (append-nil (blocks_in t))
-
-enum_item_none : (i : EnumItem) → enums_in (enum_item_tree i) ≡ []
-enum_item_none (enum_item.Value v) = refl
-enum_item_none (enum_item.Option o) = refl
-enum_item_none (enum_item.Reserved r) = refl
-enum_item_none (enum_item.Empty i) = refl
-
-method_item_none : (i : MethodItem) → enums_in (method_item_tree i) ≡ []
-method_item_none (method_item.Option o) = refl
-method_item_none (method_item.Empty i) = refl
-
-method_none : (s : Signature) (e : MethodEnd) → enums_in (method_by s e) ≡ []
-method_none s (method_end.Semicolon i) = refl
-method_none s (method_end.Block i items j) = alone (trees method_item_tree items.items) ∙ none_in method_item_tree method_item_none items.items
-
-service_item_none : (i : ServiceItem) → enums_in (service_item_tree i) ≡ []
-service_item_none (service_item.Method m) = method_none m.signature m.end
-service_item_none (service_item.Option o) = refl
-service_item_none (service_item.Empty i) = refl
-
 pub enum_alone : (e : Braced EnumItem) → enums_in (enum_tree e) ≡ enum_block e ∷ []
-enum_alone e = ap (λ bs. enum_block e ∷ bs) (alone (trees enum_item_tree e.members.items) ∙ none_in enum_item_tree enum_item_none e.members.items)
+enum_alone e = ap (λ (bs : List BlockOf). enum_block e ∷ bs) (none_within is_enum enum_item_tree no_block_in_enum e.members.items)
 
 pub message_enums : (m : Braced Member) → enums_in (message_tree m) ≡ enums_in (trees member_tree m.members.items)
-message_enums m = alone (trees member_tree m.members.items)
+message_enums m = wanted_within is_enum (trees member_tree m.members.items)
 
 pub oneof_enums : (o : Braced Field) → enums_in (oneof_tree o) ≡ []
-oneof_enums o = alone (trees field_tree o.members.items) ∙ none_in field_tree (λ f. refl) o.members.items
+oneof_enums o = none_within is_enum field_tree (λ f. refl) o.members.items
 
 pub service_enums : (s : Braced ServiceItem) → enums_in (service_tree s) ≡ []
-service_enums s = alone (trees service_item_tree s.members.items) ∙ none_in service_item_tree service_item_none s.members.items
+service_enums s = no_method_within is_enum (λ m. refl) s.members.items

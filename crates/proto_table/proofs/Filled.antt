@@ -1,6 +1,5 @@
 -- One declaration of a file more in the table.
-use Rattle.std.proofs.Common.{◌≡◌, ℕ, ◌+◌, ◌<◌, ◌≤◌, List, [], ◌∷◌, ◌++◌, length, get_or, take, drop, refl, sym, ◌∙◌, ap, subst, inl, inr, arith, string_bytes, length-append, append_assoc, Result, Ok, Err, IfOk}
-use Rattle.std.specs.Prelude.{IsErrAnd}
+use Rattle.std.proofs.Common.{◌≡◌, ℕ, ◌+◌, ◌<◌, ◌≤◌, List, [], ◌∷◌, ◌++◌, length, get_or, take, drop, refl, sym, ◌∙◌, ap, subst, inl, inr, arith, string_bytes, length-append, append_assoc}
 use Rattle.std.proofs.lemmas.Bool.{cases_eq}
 use Rattle.std.proofs.lemmas.List.{append-nil, take_more, drop_all, drop-append-le, length-take, length-take-le}
 use Rattle.proto_meaning.specs.Grown.{at}
@@ -19,11 +18,6 @@ use Rattle.proto_meaning.proofs.Forest.{get_front, get_last}
 use Rattle.proto_table.proofs.Held.{held_more, held_clash, row_kept}
 use Rattle.proto_table.proofs.Naming.{named_kind, named_length, named_place, named_plain, named_text}
 use Rattle.proto_table.proofs.Search.{pick}
-
--- an error exit says nothing of what would have been answered
-pub not_ok : {T E : Type 0} (P : T → Type 0) (Q : E → Type 0) (r : Result T E) → IsErrAnd r Q → IfOk r P
-not_ok P Q (Ok x) h = absurd h
-not_ok P Q (Err e) h = tt
 
 pub no_rows : (t : Table) (ds : List Named) (rows : List ℕ) → rows ≡ [] → AreRowsOf t ds rows
 no_rows t ds rows e = record { count = omega (arith, ap length e); each = λ k row d l. absurd (omega (arith, l, ap length e)) }

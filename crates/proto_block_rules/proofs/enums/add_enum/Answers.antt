@@ -4,7 +4,8 @@ use Rattle.proto_tree.specs.declared.tree.EnumItem.{EnumItem}
 use Rattle.proto_tree.specs.File.{enum_item_tree, trees}
 use Rattle.proto_case.specs.Cases.{is_pascal}
 use Rattle.proto_rules.specs.declared.rule.Rule.TheVariants as rule
-use Rattle.proto_findings.specs.Placed.{Found, below, found_by, unless}
+use Rattle.proto_meaning.specs.Forest.{under}
+use Rattle.proto_findings.specs.Placed.{Found, found_by, unless}
 use Rattle.proto_findings.specs.Readings.{reading_of, text}
 use Rattle.proto_findings.specs.Views.{found_of}
 use Rattle.proto_block_rules.specs.NameRules.{enum_first_value_zero, enum_no_allow_alias, enum_value_prefix, enum_value_upper_snake_case, enum_zero_value_suffix}
@@ -22,7 +23,7 @@ returns c =
     let same = c.as_slice-items.ensures.value in
     let first : List EnumItem → List Found = λ is. found_by chosen r rule.EnumFirstValueZero (enum_first_value_zero r scope (trees enum_item_tree is)) in
     let aliases = found_by chosen r rule.EnumNoAllowAlias (enum_no_allow_alias r scope name (trees enum_item_tree members)) in
-    let named : Bool → List Found = λ passes. found_by chosen r rule.EnumPascalCase (unless passes name (below scope (text r name))) in
+    let named : Bool → List Found = λ passes. found_by chosen r rule.EnumPascalCase (unless passes name (under scope (text r name))) in
     let prefixes = found_by chosen r rule.EnumValuePrefix (enum_value_prefix r scope name (trees enum_item_tree members)) in
     let values : List EnumItem → List Found = λ is. found_by chosen r rule.EnumValueUpperSnakeCase (enum_value_upper_snake_case r scope (trees enum_item_tree is)) in
     let suffixes : List EnumItem → List Found = λ is. found_by chosen r rule.EnumZeroValueSuffix (enum_zero_value_suffix r scope (trees enum_item_tree is)) in

@@ -5,7 +5,8 @@ use Rattle.proto_parts.specs.Parts.{FieldOf}
 use Rattle.proto_parts.specs.Views.{field_of}
 use Rattle.proto_case.specs.Cases.{is_lower_snake}
 use Rattle.proto_rules.specs.declared.rule.Rule.TheVariants as rule
-use Rattle.proto_findings.specs.Placed.{Found, Named, below, found_at, unless, unless_word}
+use Rattle.proto_meaning.specs.Forest.{under}
+use Rattle.proto_findings.specs.Placed.{Found, Named, found_at, unless, unless_word}
 use Rattle.proto_findings.specs.Readings.{reading_of, text}
 use Rattle.proto_findings.specs.Views.{found_of}
 use Rattle.proto_faults.proofs.Turns.{all_listed, listed_turn}
@@ -21,7 +22,7 @@ loop-field-preserved c =
     let part : FieldOf → List Named = λ f. unless_word r is_lower_snake c.args.message.now f.name in
     let fields = c.args.fields.now in
     let name = c.field-item.result.name in
-    let tells : Bool → List Found = λ passes. map place (unless passes name (below c.args.message.now (text r name))) in
+    let tells : Bool → List Found = λ passes. map place (unless passes name (under c.args.message.now (text r name))) in
     let added = c.in_ok-add_below_unless.ensures.added ∙ ap (λ (passes : Bool). map found_of c.loop-field.found.items ++ tells passes) (c.is_lower_snake-passes.ensures ∙ ap is_lower_snake c.text.ensures) in
     listed_turn (told place part) (λ f. map place (part (field_of f))) (λ f fs. map-append place (part (field_of f)) (flat_map part (map field_of fs))) fields c.loop-field.field-index c.field-item.result _
     (map found_of c.loop-field.found.items) (map found_of c.add_below_unless.new.found.items) (map found_of c.args.found.now.items ++ told place part fields)

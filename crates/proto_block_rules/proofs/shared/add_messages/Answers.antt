@@ -1,4 +1,4 @@
-use Rattle.std.proofs.Common.{Bor, ℕ, List, [], ◌∷◌, ◌++◌, map, refl, ap, ◌∙◌}
+use Rattle.std.proofs.Common.{ℕ, List, [], ◌∷◌, ◌++◌, map, refl, ap, ◌∙◌}
 use Rattle.proto_tree.specs.declared.tree.ServiceItem.{ServiceItem}
 use Rattle.proto_tree.specs.declared.tree.Signature.{Signature}
 use Rattle.proto_tree.specs.File.{service_item_tree, trees}
@@ -8,24 +8,18 @@ use Rattle.proto_faults.proofs.Turns.{all_listed, listed_turn}
 use Rattle.proto_block_rules.proofs.JoinedTrees.{of_signatures}
 use Rattle.proto_block_rules.proofs.shared.add_messages.Goals as goal
 
-abbrev seen : List (Bor (List ℕ)) → List (List ℕ)
-seen names = map (λ s. s.now) names
-
 abbrev told : Reading → List ServiceItem → List (List ℕ)
 told r items = messages_of r (signatures_in (trees service_item_tree items))
 
 pub loop-item-preserved : goal.loop-item-preserved
 loop-item-preserved c =
     let r = reading_of c.args.reading.now in
-    let items = c.deref-item-items.result.now in
     let part : Signature → List (List ℕ) = λ s. type_meant r s.input ∷ type_meant r s.output ∷ [] in
-    listed_turn (told r) (λ x. messages_of r (signatures_in (service_item_tree x))) (of_signatures service_item_tree part) items c.loop-item.item-index c.item-item.result _
-    (seen c.loop-item.all.items) (seen c.add_of_item.new.all.items) (seen c.args.all.now.items ++ told r items) c.loop-item-test.true c.item-item.is c.in_ok-add_of_item.ensures c.loop-item.invariant
+    listed_turn (told r) (λ x. messages_of r (signatures_in (service_item_tree x))) (of_signatures service_item_tree part) c.deref-item-items.result.now c.loop-item.item-index c.item-item.result _
+    _ _ _ c.loop-item-test.true c.item-item.is c.in_ok-add_of_item.ensures c.loop-item.invariant
 
 pub returns : goal.returns
 returns c =
     let r = reading_of c.args.reading.now in
-    let items = c.deref-item-items.result.now in
-    let old = seen c.args.all.now.items in
-    all_listed (told r) refl items c.loop-item.item-index (seen c.loop-item.all.items) (old ++ told r items) c.loop-item-test.false c.loop-item.invariant
-    ∙ ap (λ (is : List ServiceItem). old ++ told r is) c.deref-item-items.ensures.value
+    all_listed (told r) refl c.deref-item-items.result.now c.loop-item.item-index _ _ c.loop-item-test.false c.loop-item.invariant
+    ∙ ap (λ (items : List ServiceItem). map (λ s. s.now) c.args.all.now.items ++ told r items) c.deref-item-items.ensures.value

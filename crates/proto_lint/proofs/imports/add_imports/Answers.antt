@@ -1,6 +1,7 @@
 use Rattle.std.proofs.Common.{◌≡◌, ◌++◌, List, map, get_or, sym, ◌∙◌, ap, subst}
 use Rattle.std.specs.List.{Contains, flat_map}
 use Rattle.std.proofs.lemmas.List.Elements.{Contains-get_or}
+use Rattle.std.proofs.lemmas.Result.{on_ok_weaker}
 use Rattle.proto_text.specs.Strings.{IsString}
 use Rattle.proto_faults.proofs.Lists.{contains_map}
 use Rattle.proto_tree.specs.File.{tree_of_file}
@@ -11,7 +12,7 @@ use Rattle.proto_imports.specs.Links.{names_of_files}
 use Rattle.proto_files.proofs.OneReading.{same_tree}
 use Rattle.proto_findings.specs.Readings.{Reading, reading_of, text}
 use Rattle.proto_findings.specs.Views.{found_of}
-use Rattle.proto_lint.proofs.ImportLists.{on_ok_of, paths_are_strings}
+use Rattle.proto_lint.proofs.ImportLists.{paths_are_strings}
 use Rattle.proto_lint.specs.Imports.{import_finds, imports_in}
 use Rattle.proto_lint.proofs.imports.add_imports.Goals as goal
 
@@ -34,7 +35,7 @@ returns c =
     let files = c.args.files.now in
     let file = c.args.reading.now.file in
     let finds = λ (reads : List ReadOf). import_finds c.args.rules.now.chosen (names_of_files files reads) (paths_of files) (reading_of c.args.reading.now) file in
-    on_ok_of c.add_statements.result
+    on_ok_weaker c.add_statements.result
     (λ h (reads : List ReadOf) are. h reads are ∙ ap (λ (is : List Import). map found_of c.args.found.now.items ++ flat_map (finds reads) is)
     (ap (map (λ i. i.now)) c.deref-2.ensures.value ∙ c.in_ok-statements.ensures ∙ ap imports_in (sym (same_tree files reads file (tree_of_file c.tree.result.now) are c.requires.file c.tree.ensures))))
     c.add_statements.ensures

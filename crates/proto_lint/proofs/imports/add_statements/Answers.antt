@@ -7,7 +7,8 @@ use Rattle.proto_imports.specs.Links.{names_of_files}
 use Rattle.proto_findings.specs.Placed.{Found}
 use Rattle.proto_findings.specs.Readings.{reading_of}
 use Rattle.proto_findings.specs.Views.{found_of}
-use Rattle.proto_lint.proofs.ImportLists.{finds_more, then_more}
+use Rattle.proto_faults.proofs.Turns.{then_added}
+use Rattle.proto_lint.proofs.ImportLists.{finds_more}
 use Rattle.proto_lint.specs.Imports.{import_finds}
 use Rattle.proto_lint.proofs.imports.add_statements.Goals as goal
 
@@ -18,7 +19,7 @@ no_import = record { ref_ptr = (0, 0); now = record { keyword = 0; public = None
 pub loop-import-preserved : goal.loop-import-preserved
 loop-import-preserved c = λ (reads : List ReadOf) are.
     (let finds = import_finds c.args.rules.now.chosen (names_of_files c.args.files.now reads) (paths_of c.args.files.now) (reading_of c.args.reading.now) c.args.reading.now.file in
-    then_more _ _ _ _ _ (c.loop-import.invariant reads are) (c.in_ok-add_import.ensures reads are)
+    then_added _ _ _ _ _ (c.loop-import.invariant reads are) (c.in_ok-add_import.ensures reads are)
     ∙ ap (λ (fs : List Found). map found_of c.args.found.now.items ++ fs) (sym (finds_more finds c.args.statements.now c.loop-import.import-index no_import c.loop-import-test.true)))
 
 pub add_import-requires-clause-string : goal.add_import-requires-clause-string

@@ -2,7 +2,7 @@ use Rattle.std.proofs.Common.{◌≡◌, ◌++◌, List, map, subst}
 use Rattle.proto_findings.specs.Placed.{Found}
 use Rattle.proto_findings.specs.Views.{found_of}
 use Rattle.proto_rules.specs.declared.rule.Rule.TheVariants as rule
-use Rattle.proto_lint.proofs.ImportLists.{then_more}
+use Rattle.proto_faults.proofs.Turns.{then_added}
 use Rattle.proto_lint.specs.Packages.{Head, file_name, found_unless, has_directory_like_package, has_directory_of_package, has_lower_snake_file, has_lower_snake_package, has_package, has_package_of_directory, has_version, head_finds, package_unless}
 use Rattle.proto_lint.proofs.packages.add_head.Goals as goal
 
@@ -28,11 +28,11 @@ returns c = λ (d : Head).
     let x6 = package_unless rules rule.PackageSameDirectory (has_directory_of_package heads h) h in
     let x7 = package_unless rules rule.PackageVersionSuffix (has_version h) h in
     let x8 = found_unless rules rule.SyntaxSpecified h.has_syntax 0 h.path in
-    let y7 : f8 ≡ f6 ++ (x7 ++ x8) = then_more f6 f7 f8 x7 x8 c.in_ok-add_package_version_suffix.ensures c.in_ok-add_syntax_specified.ensures in
-    let y6 : f8 ≡ f5 ++ (x6 ++ (x7 ++ x8)) = then_more f5 f6 f8 x6 (x7 ++ x8) c.in_ok-add_package_same_directory.ensures y7 in
-    let y5 : f8 ≡ f4 ++ (x5 ++ (x6 ++ (x7 ++ x8))) = then_more f4 f5 f8 x5 (x6 ++ (x7 ++ x8)) c.in_ok-add_package_lower_snake_case.ensures y6 in
-    let y4 : f8 ≡ f3 ++ (x4 ++ (x5 ++ (x6 ++ (x7 ++ x8)))) = then_more f3 f4 f8 x4 (x5 ++ (x6 ++ (x7 ++ x8))) c.in_ok-add_package_directory_match.ensures y5 in
-    let y3 : f8 ≡ f2 ++ (x3 ++ (x4 ++ (x5 ++ (x6 ++ (x7 ++ x8))))) = then_more f2 f3 f8 x3 (x4 ++ (x5 ++ (x6 ++ (x7 ++ x8)))) c.in_ok-add_package_defined.ensures y4 in
-    let y2 : f8 ≡ f1 ++ (x2 ++ (x3 ++ (x4 ++ (x5 ++ (x6 ++ (x7 ++ x8)))))) = then_more f1 f2 f8 x2 (x3 ++ (x4 ++ (x5 ++ (x6 ++ (x7 ++ x8))))) c.in_ok-add_file_lower_snake_case.ensures y3 in
-    let y1 : f8 ≡ f0 ++ (x1 ++ (x2 ++ (x3 ++ (x4 ++ (x5 ++ (x6 ++ (x7 ++ x8))))))) = then_more f0 f1 f8 x1 (x2 ++ (x3 ++ (x4 ++ (x5 ++ (x6 ++ (x7 ++ x8)))))) c.in_ok-add_directory_same_package.ensures y2 in
+    let y7 : f8 ≡ f6 ++ (x7 ++ x8) = then_added x7 x8 f6 f7 f8 c.in_ok-add_package_version_suffix.ensures c.in_ok-add_syntax_specified.ensures in
+    let y6 : f8 ≡ f5 ++ (x6 ++ (x7 ++ x8)) = then_added x6 (x7 ++ x8) f5 f6 f8 c.in_ok-add_package_same_directory.ensures y7 in
+    let y5 : f8 ≡ f4 ++ (x5 ++ (x6 ++ (x7 ++ x8))) = then_added x5 (x6 ++ (x7 ++ x8)) f4 f5 f8 c.in_ok-add_package_lower_snake_case.ensures y6 in
+    let y4 : f8 ≡ f3 ++ (x4 ++ (x5 ++ (x6 ++ (x7 ++ x8)))) = then_added x4 (x5 ++ (x6 ++ (x7 ++ x8))) f3 f4 f8 c.in_ok-add_package_directory_match.ensures y5 in
+    let y3 : f8 ≡ f2 ++ (x3 ++ (x4 ++ (x5 ++ (x6 ++ (x7 ++ x8))))) = then_added x3 (x4 ++ (x5 ++ (x6 ++ (x7 ++ x8)))) f2 f3 f8 c.in_ok-add_package_defined.ensures y4 in
+    let y2 : f8 ≡ f1 ++ (x2 ++ (x3 ++ (x4 ++ (x5 ++ (x6 ++ (x7 ++ x8)))))) = then_added x2 (x3 ++ (x4 ++ (x5 ++ (x6 ++ (x7 ++ x8))))) f1 f2 f8 c.in_ok-add_file_lower_snake_case.ensures y3 in
+    let y1 : f8 ≡ f0 ++ (x1 ++ (x2 ++ (x3 ++ (x4 ++ (x5 ++ (x6 ++ (x7 ++ x8))))))) = then_added x1 (x2 ++ (x3 ++ (x4 ++ (x5 ++ (x6 ++ (x7 ++ x8)))))) f0 f1 f8 c.in_ok-add_directory_same_package.ensures y2 in
     subst (λ (x : Head). f8 ≡ f0 ++ head_finds rules heads x) (c.get-head.ensures d) y1)

@@ -4,14 +4,15 @@ use Rattle.proto_tree.specs.declared.tree.Member.{Member}
 use Rattle.proto_tree.specs.File.{member_tree, trees}
 use Rattle.proto_tree.proofs.Nodes.{member_tree-Enum, member_tree-Oneof}
 use Rattle.proto_parts.specs.Parts.{BlockOf}
-use Rattle.proto_scenes.specs.Enums.{enum_block, enums_in}
-use Rattle.proto_scenes.proofs.EnumTrees.{enum_alone, enums_turn, oneof_enums}
+use Rattle.proto_parts.proofs.ItemBlocks.{wanted_turn}
+use Rattle.proto_scenes.specs.Enums.{enum_block, enums_in, is_enum}
+use Rattle.proto_scenes.proofs.EnumTrees.{enum_alone, oneof_enums}
 use Rattle.proto_faults.proofs.Turns.{all_listed}
 use Rattle.proto_scenes.proofs.enum_blocks.+enums.Goals as goal
 
 pub push_members-loop-member-preserved : goal.push_members-loop-member-preserved
 push_members-loop-member-preserved t c =
-    enums_turn member_tree c.args.members.now c.loop-member.member-index c.member-item.result _ _ _ c.loop-member-test.true c.member-item.is c.in_ok-push_member.ensures c.loop-member.invariant
+    wanted_turn is_enum member_tree c.args.members.now c.loop-member.member-index c.member-item.result _ _ _ c.loop-member-test.true c.member-item.is c.in_ok-push_member.ensures c.loop-member.invariant
 
 pub push_members-returns : goal.push_members-returns
 push_members-returns t c = all_listed (λ members. enums_in (trees member_tree members)) refl c.args.members.now c.loop-member.member-index _ _ (omega arith) c.loop-member.invariant

@@ -3,7 +3,6 @@ use Rattle.std.proofs.lemmas.List.{append-nil, length-map, map-set, set-set, tak
 use Rattle.std.proofs.lemmas.Result.{err_from_is_err_and}
 use Rattle.proto_table.specs.Spelled.{all_named, named_in, AreSpelled}
 use Rattle.proto_table.specs.Filling.{AreInFront, AreRowsOf, Holds, StopsIn, others_in, packages_in}
-use Rattle.proto_table.proofs.Filled.{not_ok}
 use Rattle.proto_table.proofs.Passes.{item_at, others_next, rows_file, rows_first, rows_last, spelled_at, stops_least, within_map}
 use Rattle.proto_table.proofs.filling.declare_others.Goals as goal
 
@@ -37,24 +36,6 @@ fill-requires-clause-rows c =
     subst (AreRowsOf c.loop-file.names (named_in c.loop-file.file c.deref.result.now)) (sym own)
     (subst (λ z. AreRowsOf c.loop-file.names (named_in c.loop-file.file z) (get_or (map (λ v. v.items) c.loop-file.rows.items) c.loop-file.file [])) (sym e) (c.loop-file.invariant.rows.each c.loop-file.file l))
 
-pub returns-in_err-filled-clause-fault : goal.returns-in_err-filled-clause-fault
-returns-in_err-filled-clause-fault c =
-    let q = err_from_is_err_and c.from_residual.result c.from_residual.ensures.1 in
-    let at = item_at (λ v. v.items) c.args.files.now c.loop-file.file c.index-files-file.result c.loop-file-test.true c.index-files-file.is in
-    let e = c.deref.ensures.value ∙ at in
-    let m = length-map c.loop-file.rows.items (λ v. v.items) in
-    let p = c.loop-file.invariant.rows.paired in
-    let l = within_map (λ v. v.items) c.args.files.now c.loop-file.file c.loop-file-test.true in
-    let lr : c.loop-file.file < length c.loop-file.rows.items = omega (arith, l, m, p) in
-    let own = ap (λ v. v.items) c.replace-own.ensures.value ∙ item_at (λ v. v.items) c.loop-file.rows.items c.loop-file.file c.index_mut-slot.result.now lr c.index_mut-slot.ensures.value in
-    let len : c.len.result ≡ length (get_or (map (λ v. v.items) c.args.files.now) c.loop-file.file []) = c.len.ensures ∙ c.index-files-file.result.ok.0 ∙ ap length at in
-    let front = subst (λ z. AreInFront (length z) (get_or (map (λ v. v.items) c.args.files.now) c.loop-file.file [])) (sym own) (c.loop-file.invariant.rows.fronts c.loop-file.file (omega arith) l) in
-    let ds = packages_in (all_named 0 (map (λ v. v.items) c.args.files.now)) ++ others_in (all_named 0 (take c.loop-file.file (map (λ v. v.items) c.args.files.now))) in
-    rw (q.1, q.2)
-    (stops_least (map (λ v. v.items) c.args.files.now) c.loop-file.file (length c.replace-own.result.items) c.len.result c.in_err-filled.field-0.0 (spelled_at (λ v. v.items) c.args.files.now c.requires.spelled) l front len
-    (subst (λ z. StopsIn (packages_in (all_named 0 (map (λ v. v.items) c.args.files.now)) ++ others_in (all_named 0 (take c.loop-file.file (map (λ v. v.items) c.args.files.now)))) (named_in c.loop-file.file z) (length c.replace-own.result.items) c.len.result c.in_err-filled.field-0.0) e
-    (c.in_err-filled.ensures.fault ds c.loop-file.invariant.held)))
-
 pub loop-file-preserved : goal.loop-file-preserved
 loop-file-preserved c =
     let at = item_at (λ v. v.items) c.args.files.now c.loop-file.file c.index-files-file.result c.loop-file-test.true c.index-files-file.is in
@@ -84,15 +65,6 @@ pub returns-clause-rows : goal.returns-clause-rows
 returns-clause-rows c =
     let n = length-map c.args.files.now (λ v. v.items) in
     rows_last c.loop-file.names (map (λ v. v.items) c.args.files.now) (map (λ v. v.items) c.loop-file.rows.items) c.loop-file.file (let t = c.loop-file-test.false in omega (arith, t, n)) c.loop-file.invariant.rows
-
-pub returns-in_err-filled-clause-table : goal.returns-in_err-filled-clause-table
-returns-in_err-filled-clause-table c = not_ok _ _ c.from_residual.result c.from_residual.ensures.1
-
-pub returns-in_err-filled-clause-held : goal.returns-in_err-filled-clause-held
-returns-in_err-filled-clause-held c = not_ok _ _ c.from_residual.result c.from_residual.ensures.1
-
-pub returns-in_err-filled-clause-rows : goal.returns-in_err-filled-clause-rows
-returns-in_err-filled-clause-rows c = not_ok _ _ c.from_residual.result c.from_residual.ensures.1
 
 pub fill-requires-clause-table : goal.fill-requires-clause-table
 fill-requires-clause-table c = c.loop-file.invariant.table
@@ -132,3 +104,26 @@ index_mut-requires c =
     let p = c.loop-file.invariant.rows.paired in
     let l = within_map (λ v. v.items) c.args.files.now c.loop-file.file c.loop-file-test.true in
     omega (arith, l, m, p, c.loop-file.rows.ok.0)
+
+pub returns-in_err-filled : goal.returns-in_err-filled
+returns-in_err-filled c =
+    let q = err_from_is_err_and c.from_residual.result c.from_residual.ensures.1 in
+    let at = item_at (λ v. v.items) c.args.files.now c.loop-file.file c.index-files-file.result c.loop-file-test.true c.index-files-file.is in
+    let e = c.deref.ensures.value ∙ at in
+    let m = length-map c.loop-file.rows.items (λ v. v.items) in
+    let p = c.loop-file.invariant.rows.paired in
+    let l = within_map (λ v. v.items) c.args.files.now c.loop-file.file c.loop-file-test.true in
+    let lr : c.loop-file.file < length c.loop-file.rows.items = omega (arith, l, m, p) in
+    let own = ap (λ v. v.items) c.replace-own.ensures.value ∙ item_at (λ v. v.items) c.loop-file.rows.items c.loop-file.file c.index_mut-slot.result.now lr c.index_mut-slot.ensures.value in
+    let len : c.len.result ≡ length (get_or (map (λ v. v.items) c.args.files.now) c.loop-file.file []) = c.len.ensures ∙ c.index-files-file.result.ok.0 ∙ ap length at in
+    let front = subst (λ z. AreInFront (length z) (get_or (map (λ v. v.items) c.args.files.now) c.loop-file.file [])) (sym own) (c.loop-file.invariant.rows.fronts c.loop-file.file (omega arith) l) in
+    let ds = packages_in (all_named 0 (map (λ v. v.items) c.args.files.now)) ++ others_in (all_named 0 (take c.loop-file.file (map (λ v. v.items) c.args.files.now))) in
+    rw (q.1, q.2) (record {
+      table = tt;
+      held = tt;
+      rows = tt;
+      fault =
+          stops_least (map (λ v. v.items) c.args.files.now) c.loop-file.file (length c.replace-own.result.items) c.len.result c.in_err-filled.field-0.0 (spelled_at (λ v. v.items) c.args.files.now c.requires.spelled) l front len
+          (subst (λ z. StopsIn (packages_in (all_named 0 (map (λ v. v.items) c.args.files.now)) ++ others_in (all_named 0 (take c.loop-file.file (map (λ v. v.items) c.args.files.now)))) (named_in c.loop-file.file z) (length c.replace-own.result.items) c.len.result c.in_err-filled.field-0.0) e
+          (c.in_err-filled.ensures.fault ds c.loop-file.invariant.held));
+    })

@@ -3,7 +3,7 @@ use Rattle.std.proofs.lemmas.List.{length-map, map-append, take_all}
 use Rattle.std.proofs.lemmas.Result.{err_from_is_err_and}
 use Rattle.proto_table.specs.Spelled.{all_named, named_in, AreSpelled}
 use Rattle.proto_table.specs.Filling.{AreInFront, ArePackageRows, AreRowsOf, Holds, packages_in}
-use Rattle.proto_table.proofs.Filled.{no_rows, not_ok}
+use Rattle.proto_table.proofs.Filled.{no_rows}
 use Rattle.proto_table.proofs.Passes.{item_at, no_package_rows, package_rows_more, packages_next, packages_pass, spelled_at, within_map}
 use Rattle.proto_table.proofs.filling.declare_packages.Goals as goal
 
@@ -18,18 +18,6 @@ fill-requires-clause-spelled c =
     let e = c.deref.ensures.value ∙ item_at (λ v. v.items) c.args.files.now c.loop-file.file c.index-files-file.result c.loop-file-test.true c.index-files-file.is in
     let l = within_map (λ v. v.items) c.args.files.now c.loop-file.file c.loop-file-test.true in
     subst AreSpelled (sym e) (spelled_at (λ v. v.items) c.args.files.now c.requires.spelled c.loop-file.file l)
-
-pub returns-in_err-filled-clause-fault : goal.returns-in_err-filled-clause-fault
-returns-in_err-filled-clause-fault c =
-    let p = err_from_is_err_and c.from_residual.result c.from_residual.ensures.1 in
-    let e = c.deref.ensures.value ∙ item_at (λ v. v.items) c.args.files.now c.loop-file.file c.index-files-file.result c.loop-file-test.true c.index-files-file.is in
-    let d = c.deref-in-loop-file.ensures.value ∙ sym c.deref.ensures.value in
-    let l = within_map (λ v. v.items) c.args.files.now c.loop-file.file c.loop-file-test.true in
-    let ok = subst AreSpelled (sym e) (spelled_at (λ v. v.items) c.args.files.now c.requires.spelled c.loop-file.file l) in
-    let front = subst (AreInFront c.package_count.result) d c.package_count.ensures in
-    rw (p.1, p.2)
-    (packages_pass (all_named 0 (take c.loop-file.file (map (λ v. v.items) c.args.files.now))) c.loop-file.file c.package_count.result (length c.new-own.result.items) c.deref.result.now c.in_err-filled.field-0.0 ok front
-    (c.in_err-filled.ensures.fault (packages_in (all_named 0 (take c.loop-file.file (map (λ v. v.items) c.args.files.now)))) c.loop-file.invariant.held))
 
 pub loop-file-preserved : goal.loop-file-preserved
 loop-file-preserved c =
@@ -50,24 +38,6 @@ loop-file-preserved c =
           (subst (λ z. AreRowsOf c.in_ok-filled.filled.0 (named_in c.loop-file.file z) c.in_ok-filled.filled.1.items) e c.in_ok-filled.ensures.rows));
     }
 
-pub returns-in_err-filled-clause-table : goal.returns-in_err-filled-clause-table
-returns-in_err-filled-clause-table c = not_ok _ _ c.from_residual.result c.from_residual.ensures.1
-
-pub returns-in_err-filled-clause-held : goal.returns-in_err-filled-clause-held
-returns-in_err-filled-clause-held c = not_ok _ _ c.from_residual.result c.from_residual.ensures.1
-
-pub returns-in_err-filled-clause-rows : goal.returns-in_err-filled-clause-rows
-returns-in_err-filled-clause-rows c = not_ok _ _ c.from_residual.result c.from_residual.ensures.1
-
-pub returns-in_err-push-clause-table : goal.returns-in_err-push-clause-table
-returns-in_err-push-clause-table c = not_ok _ _ c.from_residual-in_err-push.result c.from_residual-in_err-push.ensures.1
-
-pub returns-in_err-push-clause-held : goal.returns-in_err-push-clause-held
-returns-in_err-push-clause-held c = not_ok _ _ c.from_residual-in_err-push.result c.from_residual-in_err-push.ensures.1
-
-pub returns-in_err-push-clause-rows : goal.returns-in_err-push-clause-rows
-returns-in_err-push-clause-rows c = not_ok _ _ c.from_residual-in_err-push.result c.from_residual-in_err-push.ensures.1
-
 pub fill-requires-clause-table : goal.fill-requires-clause-table
 fill-requires-clause-table c = c.loop-file.invariant.table
 
@@ -79,11 +49,6 @@ fill-requires-clause-start c = omega (arith, ap length c.new-own.ensures.items)
 
 pub fill-requires-clause-rows : goal.fill-requires-clause-rows
 fill-requires-clause-rows c = no_rows c.loop-file.names (named_in c.loop-file.file c.deref.result.now) c.new-own.result.items c.new-own.ensures.items
-
-pub returns-in_err-push-clause-fault : goal.returns-in_err-push-clause-fault
-returns-in_err-push-clause-fault c =
-    let p = err_from_is_err_and c.from_residual-in_err-push.result c.from_residual-in_err-push.ensures.1 in
-    rw (p.1, p.2) refl
 
 pub loop-file-init : goal.loop-file-init
 loop-file-init c = record {
@@ -103,3 +68,25 @@ returns-clause-rows c =
     let n = length-map c.args.files.now (λ v. v.items) in
     let t = c.loop-file-test.false in
     subst (λ fs. ArePackageRows c.loop-file.names fs (map (λ v. v.items) c.loop-file.rows.items)) (take_all c.loop-file.file (map (λ v. v.items) c.args.files.now) (omega (arith, t, n))) c.loop-file.invariant.rows
+
+pub returns-in_err-filled : goal.returns-in_err-filled
+returns-in_err-filled c =
+    let p = err_from_is_err_and c.from_residual.result c.from_residual.ensures.1 in
+    let e = c.deref.ensures.value ∙ item_at (λ v. v.items) c.args.files.now c.loop-file.file c.index-files-file.result c.loop-file-test.true c.index-files-file.is in
+    let d = c.deref-in-loop-file.ensures.value ∙ sym c.deref.ensures.value in
+    let l = within_map (λ v. v.items) c.args.files.now c.loop-file.file c.loop-file-test.true in
+    let ok = subst AreSpelled (sym e) (spelled_at (λ v. v.items) c.args.files.now c.requires.spelled c.loop-file.file l) in
+    let front = subst (AreInFront c.package_count.result) d c.package_count.ensures in
+    rw (p.1, p.2) (record {
+      table = tt;
+      held = tt;
+      rows = tt;
+      fault =
+          packages_pass (all_named 0 (take c.loop-file.file (map (λ v. v.items) c.args.files.now))) c.loop-file.file c.package_count.result (length c.new-own.result.items) c.deref.result.now c.in_err-filled.field-0.0 ok front
+          (c.in_err-filled.ensures.fault (packages_in (all_named 0 (take c.loop-file.file (map (λ v. v.items) c.args.files.now)))) c.loop-file.invariant.held);
+    })
+
+pub returns-in_err-push : goal.returns-in_err-push
+returns-in_err-push c =
+    let p = err_from_is_err_and c.from_residual-in_err-push.result c.from_residual-in_err-push.ensures.1 in
+    rw (p.1, p.2) (record { table = tt; held = tt; rows = tt; fault = refl })

@@ -2,11 +2,11 @@ use Rattle.std.proofs.Common.{◌≡◌, ◌<◌, ◌≤◌, IfErr, length-appen
 use Rattle.proto_listing.specs.Listing.{needs}
 use Rattle.proto_meaning.specs.Joined.{IsPlain}
 use Rattle.proto_table.specs.Spelled.{Named, named_in}
-use Rattle.std.proofs.lemmas.Result.{err_from_is_err_and}
+use Rattle.std.proofs.lemmas.Result.{IfOk-from_err, err_from_is_err_and}
 use Rattle.proto_meaning.specs.Forest.{under, front}
 use Rattle.proto_table.specs.Tables.{names_of}
 use Rattle.proto_table.specs.Filling.{AreRowsOf, declaration_of, Holds, IsClashAt, number_above, StopsIn}
-use Rattle.proto_table.proofs.Filled.{not_ok, rows_within, rows_next, held_next, stops_here, kept_itself, kept_both, segment_none}
+use Rattle.proto_table.proofs.Filled.{rows_within, rows_next, held_next, stops_here, kept_itself, kept_both, segment_none}
 use Rattle.proto_table.proofs.filling.fill.Goals as goal
 
 pub declare_one-requires-clause-within : goal.declare_one-requires-clause-within
@@ -14,19 +14,6 @@ declare_one-requires-clause-within c = λ k row l. (
     let e = c.deref.ensures.value in
     subst (λ z. get_or z k row < length c.loop-k.names.rows.items) (sym c.deref.ensures.value)
     (rows_within c.loop-k.names (named_in c.args.file c.args.spelled.now) c.loop-k.all.items c.loop-k.invariant.rows k row (omega (arith, l, ap length e))))
-
-pub returns-in_err-row-clause-fault : goal.returns-in_err-row-clause-fault
-returns-in_err-row-clause-fault c =
-    let p = err_from_is_err_and c.from_residual.result c.from_residual.ensures.1 in
-    let len : c.len-start.result ≡ length c.args.rows.items = c.len-start.ensures ∙ c.args.rows.ok.0 in
-    let start : length c.args.rows.items ≤ c.loop-k.k = let a = c.loop-k.auto.k in omega (arith, a, len) in
-    let n = c.requires.end in
-    let l : c.loop-k.k < length c.args.spelled.now = let m = c.loop-k-test.true in omega (arith, m, n) in
-    let known = subst (AreRowsOf c.loop-k.names (named_in c.args.file c.args.spelled.now)) (sym c.deref.ensures.value) c.loop-k.invariant.rows in
-    let size = ap length c.deref.ensures.value ∙ c.loop-k.invariant.count in
-    subst (λ r. IfErr r (λ e. (ds : List Named) → Holds c.args.table ds → StopsIn ds (named_in c.args.file c.args.spelled.now) (length c.args.rows.items) c.args.end e)) (sym p.1) (λ ds held.
-    stops_here c.loop-k.names c.loop-k.names c.args.file c.args.spelled.now c.deref.result.now c.loop-k.k c.index-spelled-k.result c.index-spelled-k.is c.requires.spelled l size known
-    ds (length c.args.rows.items) c.args.end p.0 start c.loop-k-test.true (c.loop-k.invariant.held ds held) (subst (IsClashAt c.loop-k.names (under (front (names_of c.loop-k.names) (number_above c.deref.result.now c.index-spelled-k.result.above)) (string_bytes c.index-spelled-k.result.word)) (declaration_of c.args.file c.index-spelled-k.result)) (sym p.2) c.in_err-row.ensures.clash))
 
 pub loop-k-preserved : goal.loop-k-preserved
 loop-k-preserved c =
@@ -59,36 +46,6 @@ returns-clause-held c = λ ds held. (
     let e : c.loop-k.k ≡ c.args.end = let b = c.loop-k-test.false in omega (arith, a, b) in
     subst (λ z. Holds c.loop-k.names (ds ++ drop (length c.args.rows.items) (take z (named_in c.args.file c.args.spelled.now)))) e (c.loop-k.invariant.held ds held))
 
-pub returns-in_err-row-clause-table : goal.returns-in_err-row-clause-table
-returns-in_err-row-clause-table c = not_ok _ _ c.from_residual.result c.from_residual.ensures.1
-
-pub returns-in_err-row-clause-kept : goal.returns-in_err-row-clause-kept
-returns-in_err-row-clause-kept c = not_ok _ _ c.from_residual.result c.from_residual.ensures.1
-
-pub returns-in_err-row-clause-count : goal.returns-in_err-row-clause-count
-returns-in_err-row-clause-count c = not_ok _ _ c.from_residual.result c.from_residual.ensures.1
-
-pub returns-in_err-row-clause-rows : goal.returns-in_err-row-clause-rows
-returns-in_err-row-clause-rows c = not_ok _ _ c.from_residual.result c.from_residual.ensures.1
-
-pub returns-in_err-row-clause-held : goal.returns-in_err-row-clause-held
-returns-in_err-row-clause-held c = not_ok _ _ c.from_residual.result c.from_residual.ensures.1
-
-pub returns-in_err-push-clause-table : goal.returns-in_err-push-clause-table
-returns-in_err-push-clause-table c = not_ok _ _ c.from_residual-in_err-push.result c.from_residual-in_err-push.ensures.1
-
-pub returns-in_err-push-clause-kept : goal.returns-in_err-push-clause-kept
-returns-in_err-push-clause-kept c = not_ok _ _ c.from_residual-in_err-push.result c.from_residual-in_err-push.ensures.1
-
-pub returns-in_err-push-clause-count : goal.returns-in_err-push-clause-count
-returns-in_err-push-clause-count c = not_ok _ _ c.from_residual-in_err-push.result c.from_residual-in_err-push.ensures.1
-
-pub returns-in_err-push-clause-rows : goal.returns-in_err-push-clause-rows
-returns-in_err-push-clause-rows c = not_ok _ _ c.from_residual-in_err-push.result c.from_residual-in_err-push.ensures.1
-
-pub returns-in_err-push-clause-held : goal.returns-in_err-push-clause-held
-returns-in_err-push-clause-held c = not_ok _ _ c.from_residual-in_err-push.result c.from_residual-in_err-push.ensures.1
-
 pub declare_one-requires-clause-table : goal.declare_one-requires-clause-table
 declare_one-requires-clause-table c = c.loop-k.invariant.table
 
@@ -100,11 +57,6 @@ returns-clause-kept c = c.loop-k.invariant.kept
 
 pub returns-clause-rows : goal.returns-clause-rows
 returns-clause-rows c = c.loop-k.invariant.rows
-
-pub returns-in_err-push-clause-fault : goal.returns-in_err-push-clause-fault
-returns-in_err-push-clause-fault c =
-    let p = err_from_is_err_and c.from_residual-in_err-push.result c.from_residual-in_err-push.ensures.1 in
-    rw (p.1, p.2) (λ ds held. tt)
 
 pub loop-k-init : goal.loop-k-init
 loop-k-init c =
@@ -142,3 +94,28 @@ returns-clause-count c =
     let b = c.loop-k-test.false in
     let n = c.loop-k.invariant.count in
     omega (arith, a, b, n)
+
+pub returns-in_err-row : goal.returns-in_err-row
+returns-in_err-row c =
+    let p = err_from_is_err_and c.from_residual.result c.from_residual.ensures.1 in
+    let len : c.len-start.result ≡ length c.args.rows.items = c.len-start.ensures ∙ c.args.rows.ok.0 in
+    let start : length c.args.rows.items ≤ c.loop-k.k = let a = c.loop-k.auto.k in omega (arith, a, len) in
+    let n = c.requires.end in
+    let l : c.loop-k.k < length c.args.spelled.now = let m = c.loop-k-test.true in omega (arith, m, n) in
+    let known = subst (AreRowsOf c.loop-k.names (named_in c.args.file c.args.spelled.now)) (sym c.deref.ensures.value) c.loop-k.invariant.rows in
+    let size = ap length c.deref.ensures.value ∙ c.loop-k.invariant.count in
+    record {
+      table = IfOk-from_err c.from_residual.result _ c.from_residual.ensures.0;
+      kept = IfOk-from_err c.from_residual.result _ c.from_residual.ensures.0;
+      count = IfOk-from_err c.from_residual.result _ c.from_residual.ensures.0;
+      rows = IfOk-from_err c.from_residual.result _ c.from_residual.ensures.0;
+      held = IfOk-from_err c.from_residual.result _ c.from_residual.ensures.0;
+      fault = subst (λ r. IfErr r (λ e. (ds : List Named) → Holds c.args.table ds → StopsIn ds (named_in c.args.file c.args.spelled.now) (length c.args.rows.items) c.args.end e)) (sym p.1) (λ ds held.
+          stops_here c.loop-k.names c.loop-k.names c.args.file c.args.spelled.now c.deref.result.now c.loop-k.k c.index-spelled-k.result c.index-spelled-k.is c.requires.spelled l size known
+          ds (length c.args.rows.items) c.args.end p.0 start c.loop-k-test.true (c.loop-k.invariant.held ds held) (subst (IsClashAt c.loop-k.names (under (front (names_of c.loop-k.names) (number_above c.deref.result.now c.index-spelled-k.result.above)) (string_bytes c.index-spelled-k.result.word)) (declaration_of c.args.file c.index-spelled-k.result)) (sym p.2) c.in_err-row.ensures.clash));
+    }
+
+pub returns-in_err-push : goal.returns-in_err-push
+returns-in_err-push c =
+    let p = err_from_is_err_and c.from_residual-in_err-push.result c.from_residual-in_err-push.ensures.1 in
+    rw (p.1, p.2) (record { table = tt; kept = tt; count = tt; rows = tt; held = tt; fault = λ ds held. tt })

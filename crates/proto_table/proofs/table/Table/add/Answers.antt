@@ -1,9 +1,9 @@
 use Rattle.std.proofs.Common.{◌≡◌, ◌+◌, ◌<◌, [], ◌∷◌, ◌++◌, length, map, refl, sym, ◌∙◌, ap, arith, Some, slice_get, if◌then◌else◌, is_ok}
 use Rattle.std.specs.Str.{bytes_eq}
+use Rattle.std.proofs.lemmas.Result.{IfOk-from_err}
 use Rattle.proto_table.specs.declared.table.Row.{Row}
 use Rattle.proto_meaning.specs.Forest.{under}
 use Rattle.proto_table.specs.Tables.{found, look, row_of, entries_of}
-use Rattle.proto_table.proofs.Filled.{not_ok}
 use Rattle.proto_table.proofs.Tables.{at_refusal, table_added}
 use Rattle.proto_table.proofs.table.Table.add.Goals as goal
 
@@ -38,54 +38,39 @@ returns-clause-rows c =
       ),
     )
 
-pub returns-in_err-reserve-clause-kept : goal.returns-in_err-reserve-clause-kept
-returns-in_err-reserve-clause-kept c = at_refusal c.from_residual-in_err-reserve.result _ (record { rows = ap (map row_of) c.in_err-reserve.ensures.items; below = refl })
-
-pub returns-in_err-reserve-2-clause-kept : goal.returns-in_err-reserve-2-clause-kept
-returns-in_err-reserve-2-clause-kept c = at_refusal c.from_residual-in_err-reserve-2.result _ (record { rows = ap (map row_of) c.in_ok-reserve.ensures.items; below = ap (map entries_of) c.in_err-reserve-2.ensures.items })
-
-pub returns-in_err-put_below-clause-kept : goal.returns-in_err-put_below-clause-kept
-returns-in_err-put_below-clause-kept c = at_refusal c.from_residual-in_err-put_below.result _ (record { rows = ap (map row_of) c.in_ok-reserve.ensures.items; below = c.in_err-put_below.ensures.kept ∙ ap (map entries_of) c.in_ok-reserve-2.ensures.items })
-
-pub returns-in_err-name-clause-table : goal.returns-in_err-name-clause-table
-returns-in_err-name-clause-table c = not_ok _ _ c.from_residual.result c.from_residual.ensures.1
-
-pub returns-in_err-name-clause-rows : goal.returns-in_err-name-clause-rows
-returns-in_err-name-clause-rows c = not_ok _ _ c.from_residual.result c.from_residual.ensures.1
-
-pub returns-in_err-name-clause-kept : goal.returns-in_err-name-clause-kept
-returns-in_err-name-clause-kept c = at_refusal c.from_residual.result _ (record { rows = refl; below = refl })
-
-pub returns-in_err-key-clause-table : goal.returns-in_err-key-clause-table
-returns-in_err-key-clause-table c = not_ok _ _ c.from_residual-in_err-key.result c.from_residual-in_err-key.ensures.1
-
-pub returns-in_err-key-clause-rows : goal.returns-in_err-key-clause-rows
-returns-in_err-key-clause-rows c = not_ok _ _ c.from_residual-in_err-key.result c.from_residual-in_err-key.ensures.1
-
-pub returns-in_err-key-clause-kept : goal.returns-in_err-key-clause-kept
-returns-in_err-key-clause-kept c = at_refusal c.from_residual-in_err-key.result _ (record { rows = refl; below = refl })
-
-pub returns-in_err-reserve-clause-table : goal.returns-in_err-reserve-clause-table
-returns-in_err-reserve-clause-table c = not_ok _ _ c.from_residual-in_err-reserve.result c.from_residual-in_err-reserve.ensures.1
-
-pub returns-in_err-reserve-clause-rows : goal.returns-in_err-reserve-clause-rows
-returns-in_err-reserve-clause-rows c = not_ok _ _ c.from_residual-in_err-reserve.result c.from_residual-in_err-reserve.ensures.1
-
-pub returns-in_err-reserve-2-clause-table : goal.returns-in_err-reserve-2-clause-table
-returns-in_err-reserve-2-clause-table c = not_ok _ _ c.from_residual-in_err-reserve-2.result c.from_residual-in_err-reserve-2.ensures.1
-
-pub returns-in_err-reserve-2-clause-rows : goal.returns-in_err-reserve-2-clause-rows
-returns-in_err-reserve-2-clause-rows c = not_ok _ _ c.from_residual-in_err-reserve-2.result c.from_residual-in_err-reserve-2.ensures.1
-
-pub returns-in_err-put_below-clause-table : goal.returns-in_err-put_below-clause-table
-returns-in_err-put_below-clause-table c = not_ok _ _ c.from_residual-in_err-put_below.result c.from_residual-in_err-put_below.ensures.1
-
-pub returns-in_err-put_below-clause-rows : goal.returns-in_err-put_below-clause-rows
-returns-in_err-put_below-clause-rows c = not_ok _ _ c.from_residual-in_err-put_below.result c.from_residual-in_err-put_below.ensures.1
-
 pub put_below-requires : goal.put_below-requires
 put_below-requires c =
     let size = c.requires.table.sized in
     let within = c.requires.within in
     let same = ap length c.in_ok-reserve-2.ensures.items in
     omega (arith, size, within, same)
+
+pub returns-in_err-name : goal.returns-in_err-name
+returns-in_err-name c =
+    let r = c.from_residual.result in
+    let err = c.from_residual.ensures.0 in
+    record { table = IfOk-from_err r _ err; rows = IfOk-from_err r _ err; kept = at_refusal r _ (record { rows = refl; below = refl }) }
+
+pub returns-in_err-key : goal.returns-in_err-key
+returns-in_err-key c =
+    let r = c.from_residual-in_err-key.result in
+    let err = c.from_residual-in_err-key.ensures.0 in
+    record { table = IfOk-from_err r _ err; rows = IfOk-from_err r _ err; kept = at_refusal r _ (record { rows = refl; below = refl }) }
+
+pub returns-in_err-reserve : goal.returns-in_err-reserve
+returns-in_err-reserve c =
+    let r = c.from_residual-in_err-reserve.result in
+    let err = c.from_residual-in_err-reserve.ensures.0 in
+    record { table = IfOk-from_err r _ err; rows = IfOk-from_err r _ err; kept = at_refusal r _ (record { rows = ap (map row_of) c.in_err-reserve.ensures.items; below = refl }) }
+
+pub returns-in_err-reserve-2 : goal.returns-in_err-reserve-2
+returns-in_err-reserve-2 c =
+    let r = c.from_residual-in_err-reserve-2.result in
+    let err = c.from_residual-in_err-reserve-2.ensures.0 in
+    record { table = IfOk-from_err r _ err; rows = IfOk-from_err r _ err; kept = at_refusal r _ (record { rows = ap (map row_of) c.in_ok-reserve.ensures.items; below = ap (map entries_of) c.in_err-reserve-2.ensures.items }) }
+
+pub returns-in_err-put_below : goal.returns-in_err-put_below
+returns-in_err-put_below c =
+    let r = c.from_residual-in_err-put_below.result in
+    let err = c.from_residual-in_err-put_below.ensures.0 in
+    record { table = IfOk-from_err r _ err; rows = IfOk-from_err r _ err; kept = at_refusal r _ (record { rows = ap (map row_of) c.in_ok-reserve.ensures.items; below = c.in_err-put_below.ensures.kept ∙ ap (map entries_of) c.in_ok-reserve-2.ensures.items }) }

@@ -1,11 +1,11 @@
 use Rattle.std.proofs.Common.{◌≡◌, ◌<◌, Bool, true, false, ◌&&◌, length, get_or, refl, sym, ◌∙◌, ap, subst, arith, string_bytes}
 use Rattle.std.proofs.lemmas.List.{length-map, get_or_default}
+use Rattle.std.proofs.lemmas.Result.{IfOk-from_err}
 use Rattle.proto_meaning.specs.Linked.{is_package}
 use Rattle.proto_table.specs.Filling.{IsRowOf}
 use Rattle.proto_meaning.specs.Forest.{under, front}
 use Rattle.proto_table.specs.Tables.{names_of}
 use Rattle.proto_meaning.proofs.Sound.{package_from}
-use Rattle.proto_table.proofs.Filled.{not_ok}
 use Rattle.proto_table.proofs.Indexed.{declared_new, file_table, declared_again}
 use Rattle.proto_table.proofs.Kept.{row_added, row_again}
 use Rattle.proto_table.proofs.Tables.{at_refusal}
@@ -91,41 +91,31 @@ returns-else-is_package-clause-clash c =
 pub returns-else-is_package-clause-clash_kept : goal.returns-else-is_package-clause-clash_kept
 returns-else-is_package-clause-clash_kept c = record { rows = refl; below = refl }
 
-pub returns-in_err-add_file-in-Some-clause-kept : goal.returns-in_err-add_file-in-Some-clause-kept
-returns-in_err-add_file-in-Some-clause-kept c = at_refusal c.from_residual-in_err-add_file-in-Some.result _ (record { rows = c.in_err-add_file-in-Some.ensures.kept; below = refl })
-
-pub returns-in_err-row-in-None-clause-table : goal.returns-in_err-row-in-None-clause-table
-returns-in_err-row-in-None-clause-table c = not_ok _ _ c.from_residual.result c.from_residual.ensures.1
-
-pub returns-in_err-row-in-None-clause-index : goal.returns-in_err-row-in-None-clause-index
-returns-in_err-row-in-None-clause-index c = not_ok _ _ c.from_residual.result c.from_residual.ensures.1
-
-pub returns-in_err-row-in-None-clause-row : goal.returns-in_err-row-in-None-clause-row
-returns-in_err-row-in-None-clause-row c = not_ok _ _ c.from_residual.result c.from_residual.ensures.1
-
-pub returns-in_err-row-in-None-clause-clash : goal.returns-in_err-row-in-None-clause-clash
-returns-in_err-row-in-None-clause-clash c = not_ok _ _ c.from_residual.result c.from_residual.ensures.1
-
-pub returns-in_err-row-in-None-clause-clash_kept : goal.returns-in_err-row-in-None-clause-clash_kept
-returns-in_err-row-in-None-clause-clash_kept c = not_ok _ _ c.from_residual.result c.from_residual.ensures.1
-
-pub returns-in_err-row-in-None-clause-kept : goal.returns-in_err-row-in-None-clause-kept
-returns-in_err-row-in-None-clause-kept c = at_refusal c.from_residual.result _ c.in_err-row-in-None.ensures.kept
-
-pub returns-in_err-add_file-in-Some-clause-table : goal.returns-in_err-add_file-in-Some-clause-table
-returns-in_err-add_file-in-Some-clause-table c = not_ok _ _ c.from_residual-in_err-add_file-in-Some.result c.from_residual-in_err-add_file-in-Some.ensures.1
-
-pub returns-in_err-add_file-in-Some-clause-index : goal.returns-in_err-add_file-in-Some-clause-index
-returns-in_err-add_file-in-Some-clause-index c = not_ok _ _ c.from_residual-in_err-add_file-in-Some.result c.from_residual-in_err-add_file-in-Some.ensures.1
-
-pub returns-in_err-add_file-in-Some-clause-row : goal.returns-in_err-add_file-in-Some-clause-row
-returns-in_err-add_file-in-Some-clause-row c = not_ok _ _ c.from_residual-in_err-add_file-in-Some.result c.from_residual-in_err-add_file-in-Some.ensures.1
-
-pub returns-in_err-add_file-in-Some-clause-clash : goal.returns-in_err-add_file-in-Some-clause-clash
-returns-in_err-add_file-in-Some-clause-clash c = not_ok _ _ c.from_residual-in_err-add_file-in-Some.result c.from_residual-in_err-add_file-in-Some.ensures.1
-
-pub returns-in_err-add_file-in-Some-clause-clash_kept : goal.returns-in_err-add_file-in-Some-clause-clash_kept
-returns-in_err-add_file-in-Some-clause-clash_kept c = not_ok _ _ c.from_residual-in_err-add_file-in-Some.result c.from_residual-in_err-add_file-in-Some.ensures.1
-
 pub add-requires : goal.add-requires
 add-requires c = record { table = c.requires.table; within = c.requires.within; plain = c.requires.plain; new = sym c.in-None.ensures }
+
+pub returns-in_err-row-in-None : goal.returns-in_err-row-in-None
+returns-in_err-row-in-None c =
+    let r = c.from_residual.result in
+    let err = c.from_residual.ensures.0 in
+    record {
+      table = IfOk-from_err r _ err;
+      index = IfOk-from_err r _ err;
+      row = IfOk-from_err r _ err;
+      clash = IfOk-from_err r _ err;
+      clash_kept = IfOk-from_err r _ err;
+      kept = at_refusal r _ c.in_err-row-in-None.ensures.kept;
+    }
+
+pub returns-in_err-add_file-in-Some : goal.returns-in_err-add_file-in-Some
+returns-in_err-add_file-in-Some c =
+    let r = c.from_residual-in_err-add_file-in-Some.result in
+    let err = c.from_residual-in_err-add_file-in-Some.ensures.0 in
+    record {
+      table = IfOk-from_err r _ err;
+      index = IfOk-from_err r _ err;
+      row = IfOk-from_err r _ err;
+      clash = IfOk-from_err r _ err;
+      clash_kept = IfOk-from_err r _ err;
+      kept = at_refusal c.from_residual-in_err-add_file-in-Some.result _ (record { rows = c.in_err-add_file-in-Some.ensures.kept; below = refl });
+    }

@@ -1,0 +1,17 @@
+//! Full names as texts.
+
+ghost use Rattle.std.specs.Prelude.{◌≡◌, IfOk, string_bytes};
+ghost use Rattle.proto_meaning.specs.Joined.{below};
+
+use proto_faults::NoMemory;
+use std::alloc::Global;
+
+/// The name of a word right below a scope: behind it and a dot. Only want of memory is refused.
+pub fn below(alloc: Global, scope: &str, word: &str) -> Result<String, NoMemory>
+    ensures { IfOk result (λ name. string_bytes name ≡ below scope.now word.now) }
+{
+    let mut name = String::from_str(alloc, scope)?;
+    name.push('.')?;
+    name.push_str(word)?;
+    Ok(name)
+}
