@@ -1,3 +1,4 @@
+pub mod FileLists
 pub mod Nesting
 pub mod Objects
 pub mod Quoting

@@ -1,14 +1,15 @@
 //! The text of a set of files, and of one file.
 
-ghost use Rattle.std.specs.Prelude.{◌≡◌, IfOk, map, string_bytes, option_map};
+ghost use Rattle.std.specs.Prelude.{◌≡◌, ◌++◌, IfOk, OnOk, map, flat_map, string_bytes, option_map};
 ghost use Rattle.proto_json.specs.DescriptorText.{optimize_mode_name, syntax_name, file_text, file_options_slots, text_of_files};
 ghost use Rattle.proto_json.specs.JsonText.{quoted, object_if_any};
+ghost use Rattle.proto_json.specs.FileLists.{listed_at, behind_comma};
 ghost use Rattle.proto_descriptors.specs.Views.{file_desc, file_options_desc};
 
 use crate::json_value::Json;
 use crate::members::Members;
 use crate::message::messages_json;
-use crate::values::{ToJson, array_if_any};
+use crate::values::ToJson;
 use proto_descriptors::{FileDescriptor, FileOptions, OptimizeMode, Syntax};
 use proto_faults::NoMemory;
 use std::alloc::Global;
@@ -23,11 +24,55 @@ pub fn text_of_files(
 ) -> Result<String, NoMemory>
     ensures { IfOk result (λ s. string_bytes s ≡ text_of_files key.now (map file_desc files.now)) }
 {
-    let list = array_if_any(alloc, files);
-    let mut members = Members::new(alloc);
-    members.put(key, list);
-    let json = members.into_object()?;
-    json.print(alloc)
+    let mut text = String::new(alloc);
+    text.push_str("{")?;
+    if let Some((first, others)) = files.split_first() {
+        push_list(alloc, &mut text, key, first, others)?;
+    }
+    text.push_str("}")?;
+    Ok(text)
+}
+
+/// Puts the list of these files at this key behind the text.
+fn push_list(
+    alloc: Global,
+    text: &mut String,
+    key: &'static str,
+    first: &FileDescriptor,
+    others: &[FileDescriptor],
+) -> Result<(), NoMemory>
+    ensures { OnOk result (string_bytes text.new ≡ string_bytes text.old
+        ++ listed_at key.now (file_desc first.now) (map file_desc others.now)) }
+{
+    let quoted = Json::text(alloc, key)?.print(alloc)?;
+    text.push_str(quoted.as_str())?;
+    text.push_str(":[")?;
+    push_file(alloc, text, first)?;
+    push_others(alloc, text, others)?;
+    text.push_str("]")?;
+    Ok(())
+}
+
+/// Puts each of these files behind the text, a comma before it. One file's values live at a time.
+fn push_others(alloc: Global, text: &mut String, files: &[FileDescriptor]) -> Result<(), NoMemory>
+    ensures { OnOk result (string_bytes text.new ≡ string_bytes text.old
+        ++ flat_map behind_comma (map file_desc files.now)) }
+{
+    for file in files {
+        text.push_str(",")?;
+        push_file(alloc, text, file)?;
+    }
+    Ok(())
+}
+
+/// Puts the file behind the text.
+fn push_file(alloc: Global, text: &mut String, file: &FileDescriptor) -> Result<(), NoMemory>
+    ensures { OnOk result (string_bytes text.new ≡ string_bytes text.old
+        ++ file_text (file_desc file.now)) }
+{
+    let one = file.to_json(alloc)?.print(alloc)?;
+    text.push_str(one.as_str())?;
+    Ok(())
 }
 
 /// The name of a version that is written: a file without one is proto2.

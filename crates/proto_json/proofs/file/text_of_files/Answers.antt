@@ -1,18 +1,17 @@
-use Rattle.std.proofs.Common.{◌≡◌, [], ◌∷◌, List, ℕ, IfOk, ap, refl, subst, string_bytes, map}
-use Rattle.proto_json.specs.DescriptorText.{file_text}
-use Rattle.proto_json.specs.JsonText.{array_if_any}
-use Rattle.proto_json.specs.Members.{Keeps}
-use Rattle.proto_descriptors.specs.Views.{file_desc}
-use Rattle.proto_descriptors.proofs.Mapped.{map_both}
-use Rattle.proto_json.proofs.Slots.{rising-kept, slots-put}
+use Rattle.std.proofs.Common.{◌≡◌, ◌∷◌, ◌++◌, [], ap, ◌∙◌, string_bytes}
+use Rattle.std.proofs.lemmas.List.{nil_from_length}
+use Rattle.proto_json.proofs.FileLists.{some_files, no_files}
 use Rattle.proto_json.proofs.file.text_of_files.Goals as goal
-
-pub into_object-requires : goal.into_object-requires
-into_object-requires c = rising-kept _ _ (c.put.ensures _ c.array_if_any-list.ensures _ c.new-members.ensures) refl
+use Rattle.proto_json.proofs.file.text_of_files.Goals.{in-Some+in_ok-push_list, in_default}
 
 pub returns : goal.returns
 returns c =
-    let files = c.args.files.now in
-    let same : Keeps c.put.new.self ((c.args.key.now, array_if_any (map file_text (map file_desc files))) ∷ []) =
-    slots-put _ _ _ _ c.new-members.ensures (c.put.ensures _ c.array_if_any-list.ensures) (ap array_if_any (map_both file_text file_desc files)) in
-    subst (λ (text : List ℕ). IfOk c.print.result (λ s. string_bytes s ≡ text)) (c.in_ok-json.ensures _ same) c.print.ensures
+    let begins : string_bytes c.push_str.new.self ≡ 123 ∷ [] = c.in_ok-push_str.ensures.bytes ∙ ap (λ t. t ++ 123 ∷ []) c.new-text.ensures.bytes in
+    c.in_ok-push_str-2.ensures.bytes ∙ elim c.match-split_first.branch [
+      | in-Some+in_ok-push_list w ↦
+          ap (λ t. string_bytes t ++ 125 ∷ []) w.text-is
+          ∙ some_files c.args.key.now c.args.files.now (string_bytes w.push_list.new.text) (string_bytes c.push_str.new.self) w.in-Some.ensures.cases.0 begins w.in_ok-push_list.ensures
+      | in_default w ↦
+          ap (λ t. string_bytes t ++ 125 ∷ []) w.text-is
+          ∙ no_files c.args.key.now c.args.files.now (string_bytes c.push_str.new.self) (nil_from_length c.args.files.now w.in_default.ensures.cases) begins
+    ]
