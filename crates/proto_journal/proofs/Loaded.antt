@@ -13,14 +13,10 @@ use Rattle.proto_files.specs.WorkspacePaths.{IsBefore, IsWorkspacePath}
 use Rattle.proto_desc.specs.Whole.{IsSortedOf, WorkspaceFaults}
 use Rattle.proto_edit.specs.Compiled.{AreCompiled}
 use Rattle.proto_edit.proofs.GivenAgain.{sorted_again}
-use Rattle.proto_store.specs.Stores.{AreInPathOrder, Held, HoldsFiles, ListsPaths}
+use Rattle.proto_store.specs.Stores.{AreInPathOrder, Held, HoldsFiles}
 use Rattle.proto_journal.specs.declared.loading.LoadFault.TheVariants as load
 use Rattle.proto_records.specs.Known.{Over}
 use Rattle.proto_journal.specs.Loads.{LoadOutcome}
-
-pub in_order : (h : Option Held) (paths : List (List ℕ)) → ListsPaths h paths → Over h (λ there. AreInPathOrder there.files)
-in_order None paths l = tt
-in_order (Some there) paths l = l.0
 
 below : (f : FileOf) (fs : List FileOf) → AllByRecursion (λ q. slice_cmp nat_cmp f.path q ≡ Less) (paths_of fs) → (j : ℕ) (d : FileOf) → j < length fs → IsBefore f.path (get_or fs j d).path
 below f [] a j d l = absurd (omega arith)

@@ -9,6 +9,8 @@ use Rattle.proto_edit.specs.Compiled.{AreCompiled}
 use Rattle.proto_records.specs.declared.fault.JournalFault.{JournalFault}
 use Rattle.proto_records.specs.declared.fault.JournalFault.TheVariants as journal
 use Rattle.proto_store.specs.Stores.{Held, HoldsFiles}
+use Rattle.proto_store.specs.declared.files.ReadingFault.{ReadingFault}
+use Rattle.proto_store.specs.declared.files.ReadingFault.TheVariants as reading
 use Rattle.proto_journal.specs.declared.loading.LoadFault.{LoadFault}
 use Rattle.proto_journal.specs.declared.loading.LoadFault.TheVariants as load
 use Rattle.proto_records.specs.ReadJournals.{HasOpenEntry, IsReady, IsUnreadable}
@@ -22,11 +24,10 @@ LoadOutcome held (Err (load.Schema f)) =
 LoadOutcome held (Err load.Store) = Unit {0}
 LoadOutcome held (Err load.NoMemory) = Unit {0}
 
--- it is no fault of the files
-abbrev pub IsNoSchemaFault : LoadFault → Type 0
-IsNoSchemaFault (load.Schema f) = ⊥
-IsNoSchemaFault load.Store = Unit {0}
-IsNoSchemaFault load.NoMemory = Unit {0}
+-- what is told where not all files are read
+abbrev pub load_fault : ReadingFault → LoadFault
+load_fault reading.Store = load.Store
+load_fault reading.NoMemory = load.NoMemory
 
 -- why edits and undo may not begin: the journal is none, or its last entry is open
 abbrev pub IsUnready : Option Held → JournalFault → Type 0

@@ -10,11 +10,11 @@ mod undoing;
 mod writing;
 
 pub use committing::commit;
-pub use loading::{LoadFault, all_files, load};
+pub use loading::{LoadFault, load};
 pub use proto_edit::{Change, Edit, Entry, NoMemory, Refusal, Workspace, to_json};
 pub use proto_records::{
     JournalFault, Record, State, entry_text, read_entry, read_records, recover,
 };
-pub use proto_store::{FolderStore, MemoryStore, Store, StoreFault};
+pub use proto_store::{FolderStore, MemoryStore, ReadingFault, Store, StoreFault, all_files};
 pub use reading::ready;
 pub use undoing::undo_last;

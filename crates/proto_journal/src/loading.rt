@@ -1,15 +1,12 @@
 //! Files and workspaces, as a store has them.
 
-ghost use Rattle.std.specs.Prelude.{◌≡◌, ◌-◌, ◌^◌, ◌<◌, IfOk, IfErr};
-ghost use Rattle.proto_files.specs.GivenFiles.{files_of};
-ghost use Rattle.proto_records.specs.Known.{Over};
-ghost use Rattle.proto_journal.specs.Loads.{CountsLoad, IsNoSchemaFault, LoadOutcome, fault_name, fault_number};
-ghost use Rattle.proto_store.specs.Stores.{AreInPathOrder, HoldsFiles};
+ghost use Rattle.std.specs.Prelude.{◌≡◌, ◌-◌, ◌^◌, ◌<◌};
+ghost use Rattle.proto_journal.specs.Loads.{CountsLoad, LoadOutcome, fault_name, fault_number};
 
 use proto_edit::Workspace;
 use proto_faults::{Fault, SchemaFault};
-use proto_store::{Store, StoreFault};
-use std::alloc::{AllocFailed, Global};
+use proto_store::{ReadingFault, Store, StoreFault, all_files};
+use std::alloc::Global;
 use thiserror::Error;
 
 /// Why no workspace is loaded.
@@ -60,39 +57,17 @@ impl From<StoreFault> for LoadFault {
     }
 }
 
-impl<T: Drop> From<AllocFailed<T>> for LoadFault {
-    ghost use Rattle.proto_journal.specs.declared.loading.LoadFault.TheVariants as fault;
+impl From<ReadingFault> for LoadFault {
+    ghost use Rattle.proto_journal.specs.Loads.{load_fault};
 
-    ghost from_gives = { λ _ e. e ≡ fault.NoMemory };
+    ghost from_gives = { λ fault e. e ≡ load_fault fault };
 
-    fn from(_error: AllocFailed<T>) -> LoadFault {
-        LoadFault::NoMemory
+    fn from(fault: ReadingFault) -> LoadFault {
+        match fault {
+            ReadingFault::Store => LoadFault::Store,
+            ReadingFault::NoMemory => LoadFault::NoMemory,
+        }
     }
-}
-
-/// All files of the store, in the order of their paths. It ends with
-/// `Store` at the first call of the store that fails, and with `NoMemory`
-/// where memory runs out; `Schema` never comes. The store is as before.
-pub fn all_files<S: Store>(
-    alloc: Global,
-    store: &mut S,
-) -> Result<Vec<(String, Vec<u8>)>, LoadFault>
-    requires { S.failure_count store.old < 2 ^ 64 - 1 }
-    ensures files { IfOk result (λ files. HoldsFiles (S.holds store.old) (files_of files.items)) }
-    ensures order { IfOk result (λ _. Over (S.holds store.old)
-        (λ held. AreInPathOrder held.files)) }
-    ensures plain { IfErr result IsNoSchemaFault }
-    ensures same { S.holds store.new ≡ S.holds store.old }
-    ensures count { CountsLoad (S.failure_count store.old) (S.failure_count store.new) result }
-{
-    let mut paths = store.list()?;
-    paths.sort_unstable();
-    let mut files = Vec::new(alloc);
-    for path in paths {
-        let bytes = store.read(path.as_str())?;
-        files.push((path, bytes))?;
-    }
-    Ok(files)
 }
 
 /// The workspace of the store's files, where they compile; else `Schema` with their least fault. It

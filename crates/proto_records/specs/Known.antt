@@ -3,11 +3,7 @@ use Rattle.std.specs.Prelude.{◌≡◌, ℕ, ◌+◌, Option, Some, None, Resul
 use Rattle.proto_records.specs.declared.fault.JournalFault.{JournalFault}
 use Rattle.proto_records.specs.declared.fault.JournalFault.TheVariants as fault
 use Rattle.proto_store.specs.Stores.{Held}
-
--- it holds of what the store holds
-abbrev pub Over : Option Held → (Held → Type 0) → Type 0
-Over None P = Unit {0}
-Over (Some held) P = P held
+pub use Rattle.proto_store.specs.Stores.{Over}
 
 -- it holds of what the store held and of what it holds now
 abbrev pub OverBoth : Option Held → Option Held → (Held → Held → Type 0) → Type 0

@@ -6,7 +6,7 @@ use Rattle.std.specs.String.{string_bytes, string_cmp}
 use Rattle.std.specs.List.Sorted.{IsSorted, IsPermutation}
 use Rattle.std.proofs.lemmas.List.{map-append}
 use Rattle.proto_faults.specs.GivenFiles.{FileOf, file_of, files_of, paths_of}
-use Rattle.proto_store.specs.Stores.{AreInPathOrder, Held, HoldsBytes, HoldsFiles, IsListed, ListsPaths, bytes_at}
+use Rattle.proto_store.specs.Stores.{AreInPathOrder, Held, HoldsBytes, HoldsFiles, IsListed, ListsPaths, Over, bytes_at}
 use Rattle.proto_store.proofs.PathOrder.{bytes_at_place, sorted_paths}
 
 -- the files so far and those of the paths that are left are those of the store, in path order
@@ -19,6 +19,11 @@ pub loads_none : (held : Option Held) (listed sorted : List (String Global)) →
     → IsPermutation listed sorted → IsSorted string_cmp sorted → Loads held [] sorted
 loads_none None listed sorted l p s = tt
 loads_none (Some held) listed sorted l p s = (held.files, l.0, refl, sorted_paths listed sorted held.files l.0 l.1 p s)
+
+-- a store that lists its paths has its files in their order
+pub in_order : (held : Option Held) (paths : List (List ℕ)) → ListsPaths held paths → Over held (λ there. AreInPathOrder there.files)
+in_order None paths l = tt
+in_order (Some there) paths l = l.0
 
 head_of : {A : Type 0} (x y : A) (xs ys : List A) → x ∷ xs ≡ y ∷ ys → x ≡ y
 head_of x y xs ys e = cc

@@ -16,6 +16,11 @@ pub record Held : Type 0 where
 abbrev pub unknown : Option Held
 unknown = None
 
+-- it holds of what the store holds; of a store that does not tell what it holds nothing is said
+abbrev pub Over : Option Held → (Held → Type 0) → Type 0
+Over None P = Unit {0}
+Over (Some held) P = P held
+
 -- the path of each file comes before that of the next, so that none comes twice
 abbrev pub AreInPathOrder : List FileOf → Type 0
 AreInPathOrder files = IsStrictlySortedBy (slice_cmp nat_cmp) (paths_of files)

@@ -1,11 +1,13 @@
 //! Where files and a journal are kept: the trait, a store in memory and a store in a folder.
 #![tactic(auto)]
 
+mod files;
 mod folder;
 mod memory;
 mod replacing;
 mod store;
 
+pub use files::{ReadingFault, all_files};
 pub use folder::FolderStore;
 pub use memory::MemoryStore;
 pub use store::{Store, StoreFault};

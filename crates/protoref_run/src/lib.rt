@@ -12,7 +12,9 @@ mod running;
 mod telling;
 
 pub use command::Command;
-pub use proto_journal::{Edit, FolderStore, MemoryStore, Store, StoreFault, all_files};
+pub use proto_journal::{
+    Edit, FolderStore, MemoryStore, ReadingFault, Store, StoreFault, all_files,
+};
 pub use proto_lint::{Rule, RuleSet};
 pub use proto_output::{RunFault, Status, fault_line, write_text};
 pub use running::run;

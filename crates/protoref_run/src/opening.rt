@@ -8,9 +8,8 @@ ghost use Rattle.protoref_run.specs.Printed.{Opens};
 
 use proto_desc::Schema;
 use proto_faults::SchemaFault;
-use proto_journal::{LoadFault, all_files};
 use proto_output::{Answer, RunFault, reported};
-use proto_store::Store;
+use proto_store::{ReadingFault, Store, all_files};
 use std::alloc::Global;
 
 // The schemas of a store, or the answer that tells of their least fault.
@@ -48,8 +47,7 @@ fn given_files<S: Store>(alloc: Global, store: &mut S) -> Result<Vec<(String, Ve
 {
     match all_files(alloc, store) {
         Ok(files) => Ok(files),
-        Err(LoadFault::Store) => Err(RunFault::Store),
-        Err(LoadFault::NoMemory) => Err(RunFault::NoMemory),
-        Err(LoadFault::Schema(_)) => unreachable!(),
+        Err(ReadingFault::Store) => Err(RunFault::Store),
+        Err(ReadingFault::NoMemory) => Err(RunFault::NoMemory),
     }
 }

@@ -1,7 +1,7 @@
 use Rattle.std.proofs.Common.{◌≡◌}
 use Rattle.std.specs.Vec.Iter.{into_iter_items}
 use Rattle.proto_store.proofs.Loading.{Loads}
-use Rattle.proto_journal.proofs.loading.all_files.Given as goal
+use Rattle.proto_store.proofs.files.all_files.Given as goal
 
 abbrev pub invariant-loop-path : goal.invariant-loop-path
 invariant-loop-path g l = record {
