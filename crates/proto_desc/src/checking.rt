@@ -17,8 +17,8 @@ use crate::described::file_descriptor;
 use indexmap::IndexMap;
 use proto_checks::{Flaw, file_flaws, least};
 use proto_descriptors::{Descriptors, FileDescriptor};
-use proto_faults::{Fault, NoMemory, SchemaFault};
-use proto_files::{Files, are_read, offset_of};
+use proto_faults::{NoMemory, SchemaFault};
+use proto_files::{Files, are_read, fault_at_token};
 use proto_parts::Scene;
 use proto_scenes::Link;
 use proto_scenes::enum_table::{EnumRow, enum_table};
@@ -31,14 +31,9 @@ fn fault(alloc: Global, files: &Files, file: usize, flaw: Flaw) -> SchemaFault
     requires { file < length files.now }
     ensures { IsFaultOf files.now file flaw result }
 {
-    match String::from_str(alloc, files.path(file)) {
-        Ok(path) => SchemaFault::Schema(Fault {
-            path,
-            offset: offset_of(files.tokens(file), flaw.token),
-            kind: flaw.kind,
-        }),
-        Err(_) => SchemaFault::NoMemory,
-    }
+    // There are at most 4,096 files.
+    let _count = files.len();
+    fault_at_token(alloc, files, file as u32, flaw.token, flaw.kind)
 }
 
 fn least_flaw(alloc: Global, scene: &Scene, tree: &File) -> Result<Option<Flaw>, NoMemory>

@@ -63,6 +63,7 @@ fn push_item_enum(
 }
 
 /// The enums right in a file.
+// As `enum_descriptors` of proto_described, over items in place of members.
 pub(crate) fn enum_descriptors(
     alloc: Global,
     scene: &Scene,

@@ -1,13 +1,16 @@
-use Rattle.std.proofs.Common.{ℕ, List, ◌∙◌, ap}
-use Rattle.proto_text.specs.declared.lexer.Token.{Token}
-use Rattle.proto_text.specs.Texts.{offset_at}
-use Rattle.proto_files.specs.Faults.{FaultAt}
-use Rattle.proto_files.specs.GivenFiles.{file_at}
-use Rattle.proto_files.proofs.ReadOnce.{tokens_at}
+use Rattle.std.proofs.Common.{ℕ, ◌<◌, List, length}
+use Rattle.proto_faults.specs.declared.fault.SchemaFault.{SchemaFault}
+use Rattle.proto_faults.specs.declared.fault.SchemaFault.TheVariants.{Schema, NoMemory}
+use Rattle.proto_files.specs.FileTokens.{IsAtToken}
+use Rattle.proto_files.specs.FilesRead.{read_at}
+use Rattle.proto_files.specs.GivenFiles.{FileOf}
+use Rattle.proto_numbers.specs.declared.flaw.Flaw.{Flaw}
+use Rattle.proto_desc.specs.CheckSteps.{IsFaultOf}
 use Rattle.proto_desc.proofs.checking.fault.Goals as goal
 
-pub returns-in-Ok : goal.returns-in-Ok
-returns-in-Ok c = λ reads r.
-    (let offset = c.offset_of.ensures ∙ ap (λ (ts : List Token). offset_at ts c.args.flaw.token) (tokens_at c.args.files.now reads r c.args.file c.tokens.result.now c.requires c.tokens.ensures.tokens) in
-    ap (λ (p : List ℕ). let x : FaultAt = record { path = p; offset = c.offset_of.result; kind = c.args.flaw.kind } in x) (c.in-Ok.ensures.ok ∙ c.path.ensures)
-    ∙ ap (λ (o : ℕ). let x : FaultAt = record { path = (file_at c.args.files.now c.args.file).path; offset = o; kind = c.args.flaw.kind } in x) offset)
+at_token : (files : List FileOf) (file : ℕ) (f : Flaw) (e : SchemaFault) → file < length files → IsAtToken files file f.token f.kind e → IsFaultOf files file f e
+at_token files file f (Schema fault) l h = λ reads r. λ i. record { path = h.path i; offset = h.offset (read_at reads file).tokens (r.tokens file l) i; kind = h.kind_is i }
+at_token files file f NoMemory l h = tt
+
+pub returns : goal.returns
+returns c = at_token c.args.files.now c.args.file c.args.flaw c.fault_at_token.result c.requires c.fault_at_token.ensures
