@@ -1,6 +1,8 @@
 -- The imports of files as they are written and as they are resolved.
 use Rattle.std.specs.Prelude.{ℕ, suc, ◌<◌, List, [], ◌∷◌, ◌++◌, map, string_bytes}
 use Rattle.std.specs.List.{AllPairs}
+use Rattle.proto_faults.specs.declared.or_no_memory.OrNoMemory.{OrNoMemory}
+use Rattle.proto_faults.specs.declared.or_no_memory.OrNoMemory.TheVariants as or
 use Rattle.proto_meaning.specs.Names.{Import}
 use Rattle.proto_meaning.specs.Faults.{Fault, fault, IsLeast, Asked}
 use Rattle.proto_meaning.specs.Grown.{at}
@@ -9,8 +11,6 @@ use Rattle.proto_imports.specs.declared.import.FileImport.{FileImport}
 use Rattle.proto_imports.specs.declared.import.BadImport.{BadImport}
 use Rattle.proto_imports.specs.declared.import.ImportFlaw.{ImportFlaw}
 use Rattle.proto_imports.specs.declared.import.ImportFlaw.TheVariants.{Unknown, Double, Cycle}
-use Rattle.proto_imports.specs.declared.import.ImportError.{ImportError}
-use Rattle.proto_imports.specs.declared.import.ImportError.TheVariants.{Bad, NoMemory}
 
 -- an import as it is written in a file
 abbrev pub asked_by : ℕ → WrittenImport → Asked
@@ -49,6 +49,6 @@ abbrev pub fault_of : BadImport → Fault
 fault_of b = fault (at b.file b.token) (number_of b.flaw)
 
 -- the error is the least fault, or want of memory
-abbrev pub IsImportError : (Fault → Type 0) → ImportError → Type 0
-IsImportError Says (Bad b) = IsLeast Says (fault_of b)
-IsImportError Says NoMemory = Unit {0}
+abbrev pub IsImportError : (Fault → Type 0) → OrNoMemory BadImport → Type 0
+IsImportError Says (or.Fault b) = IsLeast Says (fault_of b)
+IsImportError Says or.NoMemory = Unit {0}

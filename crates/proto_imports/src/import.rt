@@ -10,8 +10,8 @@ use crate::first_places::first_places;
 use crate::import_cycles::first_on_cycle;
 use crate::import_paths::{first_path_fault, resolved};
 use indexmap::IndexMap;
-use proto_faults::NoMemory;
-use std::alloc::{AllocError, Global};
+use proto_faults::{NoMemory, OrNoMemory};
+use std::alloc::Global;
 
 /// An import as a file has it: the token of its path, its path, and whether it is public.
 #[derive(Drop)]
@@ -83,34 +83,8 @@ impl BadImport {
     }
 }
 
-/// Why imports are not resolved: the least fault, or want of memory.
-#[derive(Drop)]
-pub enum ImportError {
-    /// Imports are faulty: the least fault.
-    Bad(BadImport),
-    /// A growth was refused; nothing is said of the imports.
-    NoMemory,
-}
-
-impl From<AllocError> for ImportError {
-    ghost use Rattle.proto_imports.specs.declared.import.ImportError.TheVariants.{NoMemory};
-
-    ghost from_gives = { λ _ e. e ≡ NoMemory };
-
-    fn from(_e: AllocError) -> ImportError {
-        ImportError::NoMemory
-    }
-}
-
-impl From<NoMemory> for ImportError {
-    ghost use Rattle.proto_imports.specs.declared.import.ImportError.TheVariants.{NoMemory as OutOfMemory};
-
-    ghost from_gives = { λ _ e. e ≡ OutOfMemory };
-
-    fn from(_e: NoMemory) -> ImportError {
-        ImportError::NoMemory
-    }
-}
+/// Why imports are not resolved: the least fault, or want of memory, of which nothing is said.
+pub type ImportError = OrNoMemory<BadImport>;
 
 /// The imports of each file, by the numbers of the files that they name, in the order in which they
 /// are written. The files are numbered by their paths, from 0. Where an import is faulty, the least
@@ -163,7 +137,7 @@ fn imports_by_index(
     let cycle_fault = first_on_cycle(alloc, index, files, &imports)?;
     match first(path_fault, cycle_fault) {
         None => Ok(imports),
-        Some(bad) => Err(ImportError::Bad(bad)),
+        Some(bad) => Err(ImportError::Fault(bad)),
     }
 }
 

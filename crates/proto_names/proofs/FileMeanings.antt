@@ -28,8 +28,8 @@ use Rattle.proto_listing.specs.declared.listing.Listing.{Listing}
 use Rattle.proto_listing.specs.declared.listing.Use.{Use}
 use Rattle.proto_names.specs.declared.references.BadReference.{BadReference}
 use Rattle.proto_names.specs.declared.references.Meant.{Meant}
-use Rattle.proto_names.specs.declared.references.ReferenceError.{ReferenceError}
-use Rattle.proto_names.specs.declared.references.ReferenceError.TheVariants.{Bad, NoMemory}
+use Rattle.proto_faults.specs.declared.or_no_memory.OrNoMemory.{OrNoMemory}
+use Rattle.proto_faults.specs.declared.or_no_memory.OrNoMemory.TheVariants as or
 use Rattle.proto_table.specs.declared.table.Table.{Table}
 use Rattle.proto_faults.proofs.Lists.{contains_map}
 use Rattle.proto_meaning.proofs.Edited.{map_agree, map_map}
@@ -105,9 +105,9 @@ module _ (files : List FileOf) (reads : List ReadOf) (file : ℕ) (l : Listing) 
     faultless = All-map (λ u. IsFaultless w (named u)) (used_by ds) b.before (λ k d m. subst (IsFaultless w) (same (get_or b.before k d)) (b.faultless k d m));
   }
 
-  pub file_error : (e : ReferenceError) → IsReferenceError w by file l.used.items e → IsFileError files reads file e
-  file_error (Bad bad) h = first_flawed bad h
-  file_error NoMemory h = tt
+  pub file_error : (e : OrNoMemory BadReference) → IsReferenceError w by file l.used.items e → IsFileError files reads file e
+  file_error (or.Fault bad) h = first_flawed bad h
+  file_error or.NoMemory h = tt
 
 -- the words of a listing's references are plain
 pub words_plain : (bytes : List ℕ) (r : ReadOf) (l : Listing) → Reads bytes r.tokens r.tree → IsListing r l → All (λ u. ArePlain (map (words bytes r.tokens) (dotted u.reference.now.words))) l.used.items
@@ -135,7 +135,7 @@ module _ (files : List FileOf) (reads : List ReadOf) (are : AreRead files reads)
       (subst (λ z. AreMeant t (names_of_files files reads) (map (reference z) l.used.items) (map first_token l.used.items) ms) same_words
       (subst (λ z. AreMeant t (names_of_files files reads) (map (reference ls) z) (map first_token z) ms) e a))
 
-  pub listed_error : (us : List Use) (e : ReferenceError) → us ≡ l.used.items → IsReferenceError (names_of_files files reads) (reference ls) file us e → IsFileError files reads file e
+  pub listed_error : (us : List Use) (e : OrNoMemory BadReference) → us ≡ l.used.items → IsReferenceError (names_of_files files reads) (reference ls) file us e → IsFileError files reads file e
   listed_error us error e a =
       file_error files reads file l same_listing error
       (subst (λ z. IsReferenceError (names_of_files files reads) (reference z) file l.used.items error) same_words

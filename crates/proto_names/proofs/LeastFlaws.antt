@@ -22,8 +22,8 @@ use Rattle.proto_table.specs.Resolved.{IsIndexOf}
 use Rattle.proto_meaning.specs.Skeleton.{Skeleton, Used}
 use Rattle.proto_table.specs.Tables.{IsTable}
 use Rattle.proto_names.specs.declared.references.BadReference.{BadReference}
-use Rattle.proto_names.specs.declared.references.ReferenceError.{ReferenceError}
-use Rattle.proto_names.specs.declared.references.ReferenceError.TheVariants.{Bad, NoMemory}
+use Rattle.proto_faults.specs.declared.or_no_memory.OrNoMemory.{OrNoMemory}
+use Rattle.proto_faults.specs.declared.or_no_memory.OrNoMemory.TheVariants as or
 use Rattle.proto_names.specs.declared.references.ReferenceFlaw.{ReferenceFlaw}
 use Rattle.proto_names.specs.declared.references.ReferenceFlaw.TheVariants.{Unresolved, WrongKind, MapEntry}
 use Rattle.proto_table.specs.declared.table.Table.{Table}
@@ -188,6 +188,6 @@ module _ (files : List FileOf) (reads : List ReadOf) (are : AreRead files reads)
           ]);
     }
 
-  pub least_error : (t : Table) → IsTable t → IsIndexOf t w.symbols → (file : ℕ) → file < length files → (e : ReferenceError) → IsFileError files reads file e → ((k : ℕ) → k < file → IsClean k) → IsLeastBad files reads e
-  least_error t ok index file l (Bad bad) b clean = first_least t ok index file l bad b clean
-  least_error t ok index file l NoMemory b clean = tt
+  pub least_error : (t : Table) → IsTable t → IsIndexOf t w.symbols → (file : ℕ) → file < length files → (e : OrNoMemory BadReference) → IsFileError files reads file e → ((k : ℕ) → k < file → IsClean k) → IsLeastBad files reads e
+  least_error t ok index file l (or.Fault bad) b clean = first_least t ok index file l bad b clean
+  least_error t ok index file l or.NoMemory b clean = tt

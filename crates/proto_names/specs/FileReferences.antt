@@ -18,8 +18,8 @@ use Rattle.proto_names.specs.Referring.{IsFaultless, IsFlawed, IsReadBy, AreMean
 use Rattle.proto_meaning.specs.Skeleton.{Used, name_of}
 use Rattle.proto_names.specs.declared.references.BadReference.{BadReference}
 use Rattle.proto_names.specs.declared.references.Meant.{Meant}
-use Rattle.proto_names.specs.declared.references.ReferenceError.{ReferenceError}
-use Rattle.proto_names.specs.declared.references.ReferenceError.TheVariants.{Bad, NoMemory}
+use Rattle.proto_faults.specs.declared.or_no_memory.OrNoMemory.{OrNoMemory}
+use Rattle.proto_faults.specs.declared.or_no_memory.OrNoMemory.TheVariants as or
 use Rattle.proto_names.specs.declared.references.ReferenceFlaw.{ReferenceFlaw}
 use Rattle.proto_names.specs.declared.references.ReferenceFlaw.TheVariants.{Unresolved, WrongKind, MapEntry}
 use Rattle.proto_table.specs.declared.table.Table.{Table}
@@ -68,15 +68,15 @@ pub record IsFirstFlawed (w : Workspace) (text : At → Text) (file : ℕ) (uses
   pub faultless : All (λ u. IsFaultless w (used_named text file u)) before
 
 -- the error is want of memory, or the first faulty reference of the file
-abbrev pub IsFileError : List FileOf → List ReadOf → ℕ → ReferenceError → Type 0
-IsFileError files reads file (Bad bad) =
+abbrev pub IsFileError : List FileOf → List ReadOf → ℕ → OrNoMemory BadReference → Type 0
+IsFileError files reads file (or.Fault bad) =
     IsFirstFlawed (names_of_files files reads) (text_of files reads) file (uses_of reads file) bad
-IsFileError files reads file NoMemory = Unit {0}
+IsFileError files reads file or.NoMemory = Unit {0}
 
 -- the error is want of memory, or the least faulty reference of all files, by file, token and
 -- number of its fault
-abbrev pub IsLeastBad : List FileOf → List ReadOf → ReferenceError → Type 0
-IsLeastBad files reads (Bad bad) =
+abbrev pub IsLeastBad : List FileOf → List ReadOf → OrNoMemory BadReference → Type 0
+IsLeastBad files reads (or.Fault bad) =
     IsLeast (ReferenceFault (text_of files reads) (link_skeleton files reads))
     (fault (at bad.file bad.token) (flaw_number bad.flaw))
-IsLeastBad files reads NoMemory = Unit {0}
+IsLeastBad files reads or.NoMemory = Unit {0}

@@ -18,8 +18,8 @@ use Rattle.proto_names.specs.declared.references.BadReference.{BadReference}
 use Rattle.proto_names.specs.declared.references.Meant.{Meant}
 use Rattle.proto_names.specs.declared.references.ReferenceFlaw.{ReferenceFlaw}
 use Rattle.proto_names.specs.declared.references.ReferenceFlaw.TheVariants.{Unresolved, WrongKind, MapEntry}
-use Rattle.proto_names.specs.declared.references.ReferenceError.{ReferenceError}
-use Rattle.proto_names.specs.declared.references.ReferenceError.TheVariants.{Bad, NoMemory}
+use Rattle.proto_faults.specs.declared.or_no_memory.OrNoMemory.{OrNoMemory}
+use Rattle.proto_faults.specs.declared.or_no_memory.OrNoMemory.TheVariants as or
 
 -- a reference of a file by the words of its tokens, in its scope among these names
 abbrev pub reference_by : ℕ → List (List Text) → (ℕ → Text) → Use → Reference
@@ -80,9 +80,10 @@ pub record IsFirstBad (w : Workspace) (reference : Use → Reference) (file : �
   pub faultless : All (λ u. IsFaultless w (reference u)) before
 
 -- the error is want of memory, or the first faulty reference
-abbrev pub IsReferenceError : Workspace → (Use → Reference) → ℕ → List Use → ReferenceError → Type 0
-IsReferenceError w reference file uses (Bad bad) = IsFirstBad w reference file uses bad
-IsReferenceError w reference file uses NoMemory = Unit {0}
+abbrev pub IsReferenceError : Workspace
+    → (Use → Reference) → ℕ → List Use → OrNoMemory BadReference → Type 0
+IsReferenceError w reference file uses (or.Fault bad) = IsFirstBad w reference file uses bad
+IsReferenceError w reference file uses or.NoMemory = Unit {0}
 
 -- what is wrong with a reference that means a name of this kind
 abbrev pub kind_flaw : Kind → Bool → Option ReferenceFlaw

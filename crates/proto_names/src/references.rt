@@ -10,13 +10,13 @@ ghost use Rattle.proto_names.specs.Referring.{first_token, reference_by, kind_fl
 ghost use Rattle.proto_table.specs.Resolved.{IsAsked};
 ghost use Rattle.proto_table.specs.Tables.{names_of, IsTable};
 
-use proto_faults::NoMemory;
+use proto_faults::{NoMemory, OrNoMemory};
 use proto_files::Words;
 use proto_listing::listing::Use;
 use proto_meaning::Kind;
 use proto_table::table::Table;
 use proto_tree::{Dotted, Reference};
-use std::alloc::{AllocError, Global};
+use std::alloc::Global;
 
 /// What is wrong with a reference.
 #[derive(Clone, Copy)]
@@ -38,33 +38,7 @@ pub(crate) struct BadReference {
 }
 
 /// Why the references of a file have no meanings: the first that is faulty, or want of memory.
-#[derive(Drop)]
-pub(crate) enum ReferenceError {
-    /// This reference is faulty.
-    Bad(BadReference),
-    /// Memory ran out.
-    NoMemory,
-}
-
-impl From<AllocError> for ReferenceError {
-    ghost use Rattle.proto_names.specs.declared.references.ReferenceError.TheVariants.{NoMemory};
-
-    ghost from_gives = { λ _ e. e ≡ NoMemory };
-
-    fn from(_e: AllocError) -> ReferenceError {
-        ReferenceError::NoMemory
-    }
-}
-
-impl From<NoMemory> for ReferenceError {
-    ghost use Rattle.proto_names.specs.declared.references.ReferenceError.TheVariants.{NoMemory as OutOfMemory};
-
-    ghost from_gives = { λ _ e. e ≡ OutOfMemory };
-
-    fn from(_e: NoMemory) -> ReferenceError {
-        ReferenceError::NoMemory
-    }
-}
+pub(crate) type ReferenceError = OrNoMemory<BadReference>;
 
 /// A reference by its first token, and the row of the name that it means.
 #[derive(Clone, Copy)]
@@ -104,7 +78,7 @@ pub(crate) fn meanings(
         let token = token_of(used.reference);
         match sound_row(table, row, used.is_method) {
             Ok(row) => meant.push(Meant { token, row }).map_err(NoMemory::from)?,
-            Err(flaw) => return Err(ReferenceError::Bad(BadReference { file, token, flaw })),
+            Err(flaw) => return Err(ReferenceError::Fault(BadReference { file, token, flaw })),
         }
     }
     Ok(meant)

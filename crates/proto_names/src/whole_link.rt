@@ -58,7 +58,7 @@ fn linked_imports(alloc: Global, files: &Files) -> Result<Vec<Vec<FileImport>>, 
     let paths = all_paths(alloc, files)?;
     match resolve_imports(alloc, &paths, &written) {
         Ok(imports) => Ok(imports),
-        Err(ImportError::Bad(bad)) => {
+        Err(ImportError::Fault(bad)) => {
             let kind = import_kind(bad.flaw);
             Err(fault_at_token(alloc, files, bad.file, bad.token, kind))
         }
@@ -153,7 +153,7 @@ fn linked_references(
     files.len();
     match all_meanings(alloc, files, table, seen, rows, listings) {
         Ok(meant) => Ok(meant),
-        Err(ReferenceError::Bad(bad)) => {
+        Err(ReferenceError::Fault(bad)) => {
             let kind = reference_kind(bad.flaw);
             Err(fault_at_token(alloc, files, bad.file, bad.token, kind))
         }

@@ -46,7 +46,7 @@ pub(crate) fn linked_imports(alloc: Global, files: &Files) -> Result<Vec<Vec<Fil
     let paths = all_paths(alloc, files)?;
     match resolve_imports(alloc, &paths, &written) {
         Ok(imports) => Ok(imports),
-        Err(ImportError::Bad(_)) => unreachable!(),
+        Err(ImportError::Fault(_)) => unreachable!(),
         Err(ImportError::NoMemory) => Err(NoMemory),
     }
 }

@@ -17,22 +17,22 @@ fault_at_token-requires c =
     let are = c.are_read.ensures.1 in
     let paths = map (λ p. p.now) c.deref.result.now in
     let asked = all_asked 0 (map (λ v. v.items) c.deref-2.result.now) in
-    let bad = c.in-Err-Bad.bad in
+    let bad = c.in-Err-Fault.bad in
     import_file files reads are bad
     (least_as_read files reads are paths asked (fault_of bad) (ap (map (λ p. p.now)) c.deref.ensures.value ∙ c.in_ok-paths.ensures)
-    (ap (λ ws. all_asked 0 (map (λ v. v.items) ws)) c.deref-2.ensures.value ∙ c.in_ok-written.ensures.asked reads are) (subst (IsImportError (ImportFault paths asked)) c.in-Err-Bad.field-0-is c.in-Err-Bad.ensures.fault))
+    (ap (λ ws. all_asked 0 (map (λ v. v.items) ws)) c.deref-2.ensures.value ∙ c.in_ok-written.ensures.asked reads are) (subst (IsImportError (ImportFault paths asked)) c.in-Err-Fault.field-0-is c.in-Err-Fault.ensures.fault))
 
-pub returns-in-Err-Bad-clause-fault : goal.returns-in-Err-Bad-clause-fault
-returns-in-Err-Bad-clause-fault c =
+pub returns-in-Err-Fault-clause-fault : goal.returns-in-Err-Fault-clause-fault
+returns-in-Err-Fault-clause-fault c =
     let files = c.args.files.now in
     let reads = c.are_read.ensures.0 in
     let are = c.are_read.ensures.1 in
     let paths = map (λ p. p.now) c.deref.result.now in
     let asked = all_asked 0 (map (λ v. v.items) c.deref-2.result.now) in
-    let bad = c.in-Err-Bad.bad in
+    let bad = c.in-Err-Fault.bad in
     import_error files reads are c.len.ensures.workspace bad c.import_kind-kind.result c.fault_at_token.result
     (least_as_read files reads are paths asked (fault_of bad) (ap (map (λ p. p.now)) c.deref.ensures.value ∙ c.in_ok-paths.ensures)
-    (ap (λ ws. all_asked 0 (map (λ v. v.items) ws)) c.deref-2.ensures.value ∙ c.in_ok-written.ensures.asked reads are) (subst (IsImportError (ImportFault paths asked)) c.in-Err-Bad.field-0-is c.in-Err-Bad.ensures.fault))
+    (ap (λ ws. all_asked 0 (map (λ v. v.items) ws)) c.deref-2.ensures.value ∙ c.in_ok-written.ensures.asked reads are) (subst (IsImportError (ImportFault paths asked)) c.in-Err-Fault.field-0-is c.in-Err-Fault.ensures.fault))
     c.import_kind-kind.ensures c.fault_at_token.ensures
 
 pub resolve_imports-requires : goal.resolve_imports-requires

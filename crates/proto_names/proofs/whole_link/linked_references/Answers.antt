@@ -10,7 +10,7 @@ fault_at_token-requires c =
     let reads = c.are_read.ensures.0 in
     let are = c.are_read.ensures.1 in
     let linked = are_linked files reads c.args.table.now c.args.seen.now c.args.rows.now (c.requires.marks reads are) (c.requires.names reads are) in
-    reference_file files reads are c.in-Err-Bad.bad (subst (IsLeastBad files reads) c.in-Err-Bad.field-0-is (c.in-Err-Bad.ensures.fault reads are linked))
+    reference_file files reads are c.in-Err-Fault.bad (subst (IsLeastBad files reads) c.in-Err-Fault.field-0-is (c.in-Err-Fault.ensures.fault reads are linked))
 
 pub returns-in-Ok-clause-within : goal.returns-in-Ok-clause-within
 returns-in-Ok-clause-within c =
@@ -25,14 +25,14 @@ pub returns-in-Ok-clause-clean : goal.returns-in-Ok-clause-clean
 returns-in-Ok-clause-clean c = λ (reads : List ReadOf) are.
     c.in-Ok.ensures.clean reads are (are_linked c.args.files.now reads c.args.table.now c.args.seen.now c.args.rows.now (c.requires.marks reads are) (c.requires.names reads are))
 
-pub returns-in-Err-Bad-clause-fault : goal.returns-in-Err-Bad-clause-fault
-returns-in-Err-Bad-clause-fault c =
+pub returns-in-Err-Fault-clause-fault : goal.returns-in-Err-Fault-clause-fault
+returns-in-Err-Fault-clause-fault c =
     let files = c.args.files.now in
     let reads = c.are_read.ensures.0 in
     let are = c.are_read.ensures.1 in
     let linked = are_linked files reads c.args.table.now c.args.seen.now c.args.rows.now (c.requires.marks reads are) (c.requires.names reads are) in
-    reference_error files reads are c.len.ensures.workspace c.requires.no_import_fault c.requires.no_name_fault c.in-Err-Bad.bad c.reference_kind-kind.result c.fault_at_token.result
-    (subst (IsLeastBad files reads) c.in-Err-Bad.field-0-is (c.in-Err-Bad.ensures.fault reads are linked)) c.reference_kind-kind.ensures c.fault_at_token.ensures
+    reference_error files reads are c.len.ensures.workspace c.requires.no_import_fault c.requires.no_name_fault c.in-Err-Fault.bad c.reference_kind-kind.result c.fault_at_token.result
+    (subst (IsLeastBad files reads) c.in-Err-Fault.field-0-is (c.in-Err-Fault.ensures.fault reads are linked)) c.reference_kind-kind.ensures c.fault_at_token.ensures
 
 pub returns-in-Ok-clause-len : goal.returns-in-Ok-clause-len
 returns-in-Ok-clause-len c = c.in-Ok.ensures.len

@@ -11,5 +11,5 @@ unreachable-requires c =
     let are = c.are_read.ensures.1 in
     let paths = map (λ p. p.now) c.deref.result.now in
     let asked = all_asked 0 (map (λ v. v.items) c.deref-2.result.now) in
-    no_least files reads are c.requires paths asked (fault_of c.in-Err-Bad.field-0-0) (ap (map (λ p. p.now)) c.deref.ensures.value ∙ c.in_ok-paths.ensures)
-    (ap (λ ws. all_asked 0 (map (λ v. v.items) ws)) c.deref-2.ensures.value ∙ c.in_ok-written.ensures.asked reads are) (subst (IsImportError (ImportFault paths asked)) c.in-Err-Bad.field-0-is c.in-Err-Bad.ensures.fault)
+    no_least files reads are c.requires paths asked (fault_of c.in-Err-Fault.field-0-0) (ap (map (λ p. p.now)) c.deref.ensures.value ∙ c.in_ok-paths.ensures)
+    (ap (λ ws. all_asked 0 (map (λ v. v.items) ws)) c.deref-2.ensures.value ∙ c.in_ok-written.ensures.asked reads are) (subst (IsImportError (ImportFault paths asked)) c.in-Err-Fault.field-0-is c.in-Err-Fault.ensures.fault)
