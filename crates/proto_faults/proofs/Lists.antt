@@ -1,10 +1,10 @@
 -- General lemmas on lists, for every crate above: tests over lists, members, and words that are the same.
-use Rattle.std.proofs.Common.{◌≡◌, ℕ, zero, suc, ◌<◌, Bool, true, false, ◌||◌, List, [], ◌∷◌, length, get_or, refl, ◌∙◌, ap, subst, inl, inr, ◌⊎◌, arith, map}
-use Rattle.std.specs.List.{list_any, Contains}
+use Rattle.std.proofs.Common.{◌≡◌, ℕ, zero, suc, ◌<◌, Bool, true, false, cond, ◌||◌, List, [], ◌∷◌, length, get_or, refl, sym, ◌∙◌, ap, subst, inl, inr, ◌⊎◌, arith, map}
+use Rattle.std.specs.List.{list_any, Contains, filter}
 use Rattle.std.specs.Str.{bytes_eq}
 use Rattle.std.proofs.lemmas.List.Folds.{Any-from_list_any, list_any_at}
 use Rattle.std.proofs.lemmas.Slice.Eq.{bytes_eq-Decides}
-use Rattle.std.proofs.lemmas.Bool.{false_from_ne_true}
+use Rattle.std.proofs.lemmas.Bool.{cond-true, false_from_ne_true}
 
 pub any_from : {X : Type 0} (p : X → Bool) (xs : List X) (x : X) → Contains xs x → p x ≡ true → list_any p xs ≡ true
 any_from p xs x c h = list_any_at p xs c.0 x c.1 (ap p c.2 ∙ h)
@@ -47,6 +47,30 @@ from_map f (x ∷ xs) y c = elim (contains_cases (f x) y (map f xs) c) [
   | inl e ↦ (x, contains_head x xs, e)
   | inr d ↦ let r = from_map f xs y d in (r.0, contains_later x r.0 xs r.1, r.2)
 ]
+
+-- ---- what passes a test
+
+pub contains_filter : {X : Type 0} (p : X → Bool) (xs : List X) (x : X) → Contains xs x → p x ≡ true → Contains (filter p xs) x
+contains_filter p [] x c h = absurd (omega (arith, c.1))
+contains_filter p (y ∷ xs) x c h = elim (contains_cases y x xs c) [
+  | inl e ↦ subst (λ l. Contains l x) (sym (cond-true (p y) (y ∷ filter p xs) (filter p xs) (ap p e ∙ h))) (subst (λ z. Contains (z ∷ filter p xs) x) (sym e) (contains_head x (filter p xs)))
+  | inr d ↦ go (p y) (contains_filter p xs x d h)
+]
+  where
+    go : (b : Bool) → Contains (filter p xs) x → Contains (cond b (y ∷ filter p xs) (filter p xs)) x
+    go true c = contains_later y x (filter p xs) c
+    go false c = c
+
+pub from_filter : {X : Type 0} (p : X → Bool) (xs : List X) (x : X) → Contains (filter p xs) x → Contains xs x × (p x ≡ true)
+from_filter p [] x c = absurd (omega (arith, c.1))
+from_filter p (y ∷ xs) x c = go (p y) refl (from_filter p xs x) c
+  where
+    go : (b : Bool) → p y ≡ b → (Contains (filter p xs) x → Contains xs x × (p x ≡ true)) → Contains (cond b (y ∷ filter p xs) (filter p xs)) x → Contains (y ∷ xs) x × (p x ≡ true)
+    go true e ih c = elim (contains_cases y x (filter p xs) c) [
+      | inl s ↦ (subst (λ z. Contains (z ∷ xs) x) (sym s) (contains_head x xs), ap p (sym s) ∙ e)
+      | inr d ↦ let r = ih d in (contains_later y x xs r.0, r.1)
+    ]
+    go false e ih c = let r = ih c in (contains_later y x xs r.0, r.1)
 
 pub word_from_same : (x y : List ℕ) → bytes_eq x y ≡ true → x ≡ y
 word_from_same x y h = (bytes_eq-Decides x y).0 h

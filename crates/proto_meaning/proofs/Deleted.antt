@@ -1,42 +1,20 @@
 -- A field less: nothing that is meant, or stands before it, goes.
-use Rattle.std.proofs.Common.{◌≡◌, ◌≢◌, ℕ, zero, suc, ◌<◌, Bool, true, false, ◌&&◌, not, cond, List, [], ◌∷◌, ◌++◌, length, get_or, take, Some, refl, sym, ◌∙◌, ap, subst, inl, inr, ◌⊎◌, arith, append_assoc, length-append}
+use Rattle.std.proofs.Common.{◌≡◌, ◌≢◌, ℕ, zero, suc, ◌<◌, Bool, true, false, ◌&&◌, not, cond, List, [], ◌∷◌, ◌++◌, length, get_or, take, Some, sym, ◌∙◌, ap, subst, inl, inr, ◌⊎◌, arith, append_assoc, length-append}
 use Rattle.std.specs.List.{Contains, AllPairs, filter}
 use Rattle.std.specs.Str.{bytes_eq}
-use Rattle.std.proofs.lemmas.Bool.{cond-true, true≢false, false_from_ne_true, both_ways, and_parts, and_from, not_from_false, not-true}
+use Rattle.std.proofs.lemmas.Bool.{true≢false, false_from_ne_true, both_ways, and_parts, and_from, not_from_false, not-true}
 use Rattle.std.proofs.lemmas.Option.{none-some}
 use Rattle.std.proofs.lemmas.List.{append-nil}
 use Rattle.std.proofs.lemmas.List.Elements.{Contains-get_or}
 use Rattle.proto_meaning.specs.Names.{Kind, Package, Entry, Field, Symbol, Reference, Workspace, same_name, is_type, fits, sees, shows, hits_at, meaning, meaning_at}
 use Rattle.proto_meaning.specs.Edits.{Renaming, moves, is_below, in_domain, deleted}
 use Rattle.proto_meaning.specs.Linked.{is_leaf, AreApart, IsLinked, EntryStands, IsDeletion}
-use Rattle.proto_faults.proofs.Lists.{any_from, contains_head, contains_later, contains_cases}
+use Rattle.proto_faults.proofs.Lists.{any_from, contains_filter, from_filter}
 use Rattle.proto_meaning.proofs.Basics.{same_from_name}
 use Rattle.proto_meaning.proofs.Rename.{hit_relative, typed_is, first_and_rest}
 use Rattle.proto_meaning.proofs.Symbols.{type_not_leaf, one_symbol, shown, front_of, below_split, moved}
 use Rattle.proto_meaning.proofs.Renamed.{has_meaning, meant}
 use Rattle.proto_meaning.proofs.Imports.{kept_means}
-
-contains_filter : {X : Type 0} (p : X → Bool) (xs : List X) (x : X) → Contains xs x → p x ≡ true → Contains (filter p xs) x
-contains_filter p [] x c h = absurd (omega (arith, c.1))
-contains_filter p (y ∷ xs) x c h = elim (contains_cases y x xs c) [
-  | inl e ↦ subst (λ l. Contains l x) (sym (cond-true (p y) (y ∷ filter p xs) (filter p xs) (ap p e ∙ h))) (subst (λ z. Contains (z ∷ filter p xs) x) (sym e) (contains_head x (filter p xs)))
-  | inr d ↦ go (p y) (contains_filter p xs x d h)
-]
-  where
-    go : (b : Bool) → Contains (filter p xs) x → Contains (cond b (y ∷ filter p xs) (filter p xs)) x
-    go true c = contains_later y x (filter p xs) c
-    go false c = c
-
-from_filter : {X : Type 0} (p : X → Bool) (xs : List X) (x : X) → Contains (filter p xs) x → Contains xs x × (p x ≡ true)
-from_filter p [] x c = absurd (omega (arith, c.1))
-from_filter p (y ∷ xs) x c = go (p y) refl (from_filter p xs x) c
-  where
-    go : (b : Bool) → p y ≡ b → (Contains (filter p xs) x → Contains xs x × (p x ≡ true)) → Contains (cond b (y ∷ filter p xs) (filter p xs)) x → Contains (y ∷ xs) x × (p x ≡ true)
-    go true e ih c = elim (contains_cases y x (filter p xs) c) [
-      | inl s ↦ (subst (λ z. Contains (z ∷ xs) x) (sym s) (contains_head x xs), ap p (sym s) ∙ e)
-      | inr d ↦ let r = ih d in (contains_later y x xs r.0, r.1)
-    ]
-    go false e ih c = let r = ih c in (contains_later y x xs r.0, r.1)
 
 abbrev ByPairs : {X : Type 0} → (X → X → Type 0) → List X → Type 0
 ByPairs R [] = Unit {0}

@@ -4,7 +4,7 @@ use Rattle.std.specs.List.{Contains, filter}
 use Rattle.std.proofs.lemmas.Bool.{cond-true}
 use Rattle.std.proofs.lemmas.List.Elements.{Contains-get_or}
 use Rattle.proto_meaning.specs.Faults.{AfterEarlier}
-use Rattle.proto_faults.proofs.Lists.{contains_cases, contains_head, contains_later, contains_map, from_map}
+use Rattle.proto_faults.proofs.Lists.{contains_filter, contains_head, contains_later, contains_map, from_filter, from_map}
 
 -- the second stands behind the first
 abbrev pub Follows : {A : Type 0} → List A → A → A → Type 0
@@ -53,29 +53,10 @@ map_follows g (z ∷ zs) u v (inr h) = let r = map_follows g zs u v h in (r.0, r
 
 -- ---- kept
 
-contains_kept : {A : Type 0} (p : A → Bool) (xs : List A) (y : A) → Contains xs y → p y ≡ true → Contains (filter p xs) y
-contains_kept p [] y c h = c
-contains_kept {A} p (z ∷ zs) y c h = elim (contains_cases z y zs c) [
-  | inl e ↦ subst (λ (ks : List A). Contains ks y) (sym (cond-true (p z) (z ∷ filter p zs) (filter p zs) (ap p e ∙ h))) (subst (Contains (z ∷ filter p zs)) e (contains_head z (filter p zs)))
-  | inr d ↦ go (p z) (contains_kept p zs y d h)
-]
-  where
-    go : (b : Bool) → Contains (filter p zs) y → Contains (cond b (z ∷ filter p zs) (filter p zs)) y
-    go true k = contains_later z y (filter p zs) k
-    go false k = k
-
-kept_contains : {A : Type 0} (p : A → Bool) (xs : List A) (y : A) → Contains (filter p xs) y → Contains xs y
-kept_contains p [] y c = c
-kept_contains {A} p (z ∷ zs) y c = go (kept_contains p zs y) (p z) c
-  where
-    go : (Contains (filter p zs) y → Contains zs y) → (b : Bool) → Contains (cond b (z ∷ filter p zs) (filter p zs)) y → Contains (z ∷ zs) y
-    go back true k = elim (contains_cases z y (filter p zs) k) [ inl e ↦ subst (Contains (z ∷ zs)) e (contains_head z zs) | inr d ↦ contains_later z y zs (back d) ]
-    go back false k = contains_later z y zs (back k)
-
 pub follows_kept : {A : Type 0} (p : A → Bool) (xs : List A) (x y : A) → Follows xs x y → p x ≡ true → p y ≡ true → Follows (filter p xs) x y
 follows_kept p [] x y h px py = absurd h
 follows_kept {A} p (z ∷ zs) x y (inl h) px py =
-    subst (λ (ks : List A). Follows ks x y) (sym (cond-true (p z) (z ∷ filter p zs) (filter p zs) (ap p h.0 ∙ px))) (inl (h.0, contains_kept p zs y h.1 py))
+    subst (λ (ks : List A). Follows ks x y) (sym (cond-true (p z) (z ∷ filter p zs) (filter p zs) (ap p h.0 ∙ px))) (inl (h.0, contains_filter p zs y h.1 py))
 follows_kept p (z ∷ zs) x y (inr h) px py = go (p z) (follows_kept p zs x y h px py)
   where
     go : (b : Bool) → Follows (filter p zs) x y → Follows (cond b (z ∷ filter p zs) (filter p zs)) x y
@@ -87,7 +68,7 @@ kept_follows p [] x y h = h
 kept_follows {A} p (z ∷ zs) x y h = go (kept_follows p zs x y) (p z) h
   where
     go : (Follows (filter p zs) x y → Follows zs x y) → (b : Bool) → Follows (cond b (z ∷ filter p zs) (filter p zs)) x y → Follows (z ∷ zs) x y
-    go back true k = elim k [ inl a ↦ inl (a.0, kept_contains p zs y a.1) | inr r ↦ inr (back r) ]
+    go back true k = elim k [ inl a ↦ inl (a.0, (from_filter p zs y a.1).0) | inr r ↦ inr (back r) ]
     go back false k = inr (back k)
 
 pub filter_agree : {A : Type 0} (p q : A → Bool) (xs : List A) → ((x : A) → p x ≡ q x) → filter p xs ≡ filter q xs
