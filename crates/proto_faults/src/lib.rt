@@ -4,7 +4,9 @@
 mod fault;
 mod limits;
 mod no_memory;
+mod or_no_memory;
 
 pub use fault::{Fault, FaultKind, SchemaFault};
 pub use limits::{MAX_JOURNAL_LEN, MAX_LEN};
 pub use no_memory::NoMemory;
+pub use or_no_memory::OrNoMemory;

@@ -16,8 +16,8 @@ use Rattle.proto_text.specs.Scan.{Found, piece_at}
 use Rattle.proto_text.specs.Tokens.{token_at, tokens_from, AreTokens, IsFaultAt, IsLexed, IsLexError, fault_of}
 use Rattle.proto_text.proofs.Begins.{raw_is, piece_again, found_at, fault_again}
 use Rattle.proto_text.specs.First.{BeginsWith, IsFirstPiece}
-use Rattle.proto_text.specs.declared.scan.Stop.{Stop}
-use Rattle.proto_text.specs.declared.scan.Stop.TheVariants as stops
+use Rattle.proto_faults.specs.declared.or_no_memory.OrNoMemory.{OrNoMemory}
+use Rattle.proto_faults.specs.declared.or_no_memory.OrNoMemory.TheVariants as or
 use Rattle.proto_text.specs.Strings.{IsQuoted, IsAllowed}
 use Rattle.proto_text.specs.declared.kind.PieceKind.TheVariants.{Solid}
 use Rattle.proto_text.specs.declared.kind.TokenKind.TheVariants.{Text}
@@ -194,9 +194,9 @@ pub lexed_fault : (text rest : List ℕ) (at : ℕ) (tokens : List Token) (fault
 lexed_fault text rest at tokens fault so_far e = (so_far.pieces, rest, so_far.front, so_far.place, e)
 
 -- why the loop stops
-pub lexed_stop : (text rest : List ℕ) (at : ℕ) (tokens : List Token) (stop : Stop) → IsLexedUpTo text rest at tokens → IsFirstPiece rest (Err stop) → IsLexError text (fault_of at stop)
-lexed_stop text rest at tokens (stops.Fault fault) so_far f = lexed_fault text rest at tokens fault so_far f
-lexed_stop text rest at tokens stops.NoMemory so_far f = tt
+pub lexed_stop : (text rest : List ℕ) (at : ℕ) (tokens : List Token) (stop : OrNoMemory LexFault) → IsLexedUpTo text rest at tokens → IsFirstPiece rest (Err stop) → IsLexError text (fault_of at stop)
+lexed_stop text rest at tokens (or.Fault fault) so_far f = lexed_fault text rest at tokens fault so_far f
+lexed_stop text rest at tokens or.NoMemory so_far f = tt
 
 -- the answer is the only one
 pub only_tokens : (text : List ℕ) (tokens : List Token) (ps : List Piece) → AreTokens text tokens → IsPieces text ps → tokens ≡ tokens_from 0 ps

@@ -5,8 +5,8 @@ use Rattle.proto_faults.specs.Texts.{Text}
 use Rattle.proto_text.specs.declared.kind.PieceKind.{PieceKind}
 use Rattle.proto_text.specs.declared.kind.PieceKind.TheVariants.{Blank, LineComment, BlockComment, Solid}
 use Rattle.proto_text.specs.declared.fault.LexFault.{LexFault}
-use Rattle.proto_text.specs.declared.scan.Stop.{Stop}
-use Rattle.proto_text.specs.declared.scan.Stop.TheVariants as stops
+use Rattle.proto_faults.specs.declared.or_no_memory.OrNoMemory.{OrNoMemory}
+use Rattle.proto_faults.specs.declared.or_no_memory.OrNoMemory.TheVariants as or
 use Rattle.proto_text.specs.SourceFacts.{text_at}
 use Rattle.proto_text.specs.declared.kind.TokenKind.{TokenKind}
 use Rattle.proto_text.specs.declared.lexer.Token.{Token}
@@ -38,9 +38,9 @@ IsFaultAt text offset fault =
     × IsFault fault rest
 
 -- a fault of the piece at an offset
-abbrev pub fault_of : ℕ → Stop → TextFault
-fault_of offset (stops.Fault fault) = At offset fault
-fault_of offset stops.NoMemory = NoMemory
+abbrev pub fault_of : ℕ → OrNoMemory LexFault → TextFault
+fault_of offset (or.Fault fault) = At offset fault
+fault_of offset or.NoMemory = NoMemory
 
 -- an error of lexing: memory, or the fault
 abbrev pub IsLexError : Text → TextFault → Type 0

@@ -7,7 +7,6 @@ ghost use Rattle.proto_text.specs.Pieces.{is_in_line, is_hex_tail, is_number};
 ghost use Rattle.proto_text.specs.Bytes.{is_octal, is_hex};
 ghost use Rattle.proto_text.specs.declared.kind.PieceKind.TheVariants as PieceKind;
 ghost use Rattle.proto_text.specs.declared.kind.TokenKind.TheVariants as TokenKind;
-ghost use Rattle.proto_text.specs.declared.scan.Stop.TheVariants.{NoMemory};
 ghost use Rattle.proto_text.specs.First.{IsFirstPiece};
 ghost use Rattle.proto_text.specs.Scan.{close_len, comment_at, number_at, string_at, piece_at};
 
@@ -16,6 +15,7 @@ use crate::ending::string_close;
 use crate::escape::is_allowed;
 use crate::fault::LexFault;
 use crate::kind::{PieceKind, TokenKind};
+use proto_faults::OrNoMemory;
 use std::alloc::Global;
 
 fn identifier_len(bytes: &[u8]) -> usize
@@ -160,22 +160,8 @@ fn raw_piece(bytes: &[u8]) -> Result<(PieceKind, usize), LexFault>
     scanned(bytes)
 }
 
-/// Why no piece was read.
-#[derive(Drop)]
-pub enum Stop {
-    /// None that is whole and allowed begins there.
-    Fault(LexFault),
-    /// There was no memory.
-    NoMemory,
-}
-
-impl From<proto_faults::NoMemory> for Stop {
-    ghost from_gives = { λ _ e. e ≡ NoMemory };
-
-    fn from(_e: proto_faults::NoMemory) -> Stop {
-        Stop::NoMemory
-    }
-}
+/// Why no piece was read: none that is whole and allowed begins there, or want of memory.
+pub type Stop = OrNoMemory<LexFault>;
 
 fn is_text(kind: PieceKind) -> bool
     ensures { IsTrue result ↔ (kind ≡ PieceKind.Solid TokenKind.Text) }
