@@ -4,18 +4,15 @@ use Rattle.std.specs.Prelude.{◌==◌, codes}
 use Rattle.std.specs.Char.{to_ascii_uppercase}
 use Rattle.std.specs.List.{list_any}
 use Rattle.std.proofs.lemmas.Bool.{cases_Bool, cond-true, cond-false, or_parts}
+use Rattle.std.proofs.lemmas.List.Folds.{list_any-append}
 use Rattle.proto_case.specs.Camel.{camel_from, entry_name}
 use Rattle.proto_case.proofs.Camel.{no_upper}
 
 abbrev is_line : ℕ → Bool
 is_line b = b == 95
 
-either_false : (a b : Bool) → a ≡ false → b ≡ false → (a || b) ≡ false
+pub either_false : (a b : Bool) → a ≡ false → b ≡ false → (a || b) ≡ false
 either_false a b ha hb = ap (λ z. z || b) ha ∙ hb
-
-any_append : {X : Type 0} (p : X → Bool) (xs ys : List X) → list_any p xs ≡ false → list_any p ys ≡ false → list_any p (xs ++ ys) ≡ false
-any_append p [] ys hx hy = hy
-any_append p (x ∷ xs) ys hx hy = let q = or_parts (p x) (list_any p xs) hx in either_false (p x) (list_any p (xs ++ ys)) q.0 (any_append p xs ys q.1 hy)
 
 -- an entry name has no `_`
 no_line : (up : Bool) (word : List ℕ) → list_any is_line (camel_from up word) ≡ false
@@ -43,7 +40,7 @@ same_length up (b ∷ bs) h =
 pub entry_differs : (word : List ℕ) → entry_name word ≢ word
 entry_differs word h =
     let suffix = codes "Entry" in
-    let none : list_any is_line word ≡ false = ap (list_any is_line) (sym h) ∙ any_append is_line (camel_from true word) suffix (no_line true word) refl in
+    let none : list_any is_line word ≡ false = ap (list_any is_line) (sym h) ∙ list_any-append is_line (camel_from true word) suffix ∙ either_false (list_any is_line (camel_from true word)) (list_any is_line suffix) (no_line true word) refl in
     let l = same_length true word none in
     let a = length-append (camel_from true word) suffix in
     absurd (omega (arith, l, a, ap length h))

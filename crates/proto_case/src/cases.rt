@@ -4,6 +4,7 @@ ghost use Rattle.std.specs.Prelude.{◌≡◌, ◌||◌, ◌==◌, IfOk};
 ghost use Rattle.std.specs.Char.{is_ascii_alphanumeric, is_ascii_digit, is_ascii_lowercase, is_ascii_uppercase};
 ghost use Rattle.std.specs.List.{list_all};
 ghost use Rattle.std.specs.String.{string_bytes};
+ghost use Rattle.proto_faults.specs.Ascii as ascii;
 ghost use Rattle.proto_case.specs.Cases.{are_apart, begins_lower, begins_word, is_lower_snake, is_pascal, is_upper_snake, upper};
 
 use proto_faults::NoMemory;
@@ -25,8 +26,8 @@ fn are_apart(bytes: &[u8]) -> bool
 
 // Lower-case letters, digits and `_` alone.
 fn has_lower_snake_bytes(bytes: &[u8]) -> bool
-    ensures { result
-        ≡ list_all (λ b. is_ascii_lowercase b || is_ascii_digit b || b == 95) bytes.now }
+    ensures { result ≡ list_all
+        (λ b. is_ascii_lowercase b || is_ascii_digit b || b == ascii.underscore) bytes.now }
 {
     bytes
         .iter()
@@ -48,13 +49,15 @@ pub fn is_lower_snake(name: &str) -> bool
 
 // Upper-case letters, digits and `_` alone.
 fn has_upper_snake_bytes(bytes: &[u8]) -> bool
-    ensures { result
-        ≡ list_all (λ b. is_ascii_uppercase b || is_ascii_digit b || b == 95) bytes.now }
+    ensures { result ≡ list_all
+        (λ b. is_ascii_uppercase b || is_ascii_digit b || b == ascii.underscore) bytes.now }
 {
     bytes
         .iter()
         .all(|b| matches!(*b, b'A'..=b'Z' | b'0'..=b'9' | b'_'))
 }
+
+// As `is_lower_snake`: letters of a case are told by a call of std, which is no value to pass.
 
 /// Whether a name has upper-case letters, digits and `_` alone, begins with a letter, does not end
 /// in `_`, and has no two `_` beside each other. Letters are those of ASCII.

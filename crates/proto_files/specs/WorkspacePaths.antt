@@ -33,7 +33,7 @@ pub record IsWorkspacePath (path : Path) : Type 0 where
   pub short : length path ≤ 255
   pub ending : (front : Text) × (path ≡ front ++ codes ".proto")
   pub parted :
-    (parts : List Text) × (path ≡ join_with_byte ascii.slash parts) × AllPass is_path_part parts
+      (parts : List Text) × (path ≡ join_with_byte ascii.slash parts) × AllPass is_path_part parts
 
 -- whether a text is the path of a file of a workspace
 abbrev pub is_workspace_path : Path → Bool
