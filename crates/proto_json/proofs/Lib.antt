@@ -1,5 +1,4 @@
-pub mod FileLists
 pub mod Nesting
-pub mod Objects
 pub mod Quoting
-pub mod Slots
+pub mod Sending
+pub mod Texts

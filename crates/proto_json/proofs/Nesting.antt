@@ -1,7 +1,14 @@
 -- Messages with those nested in them, level by level.
-use Rattle.std.proofs.Common.{◌≡◌, ℕ, List, [], ◌∷◌, ◌++◌, refl, sym, ap, ◌∙◌, map}
+use Rattle.std.proofs.Common.{◌≡◌, ℕ, ◌+◌, ◌<◌, ◌≤◌, List, [], ◌∷◌, ◌++◌, None, refl, sym, ap, ◌∙◌, subst, map, take, get_or, length}
+use Rattle.std.proofs.lemmas.List.{take_all, take_more}
+use Rattle.std.specs.Prelude.{codes}
 use Rattle.proto_json.specs.DescriptorText.{message_texts}
-use Rattle.proto_json.specs.MessageText.{tree_text, level_text}
+use Rattle.proto_json.specs.JsonText.{array_if_any}
+use Rattle.proto_json.specs.MessageText.{tree_text, level_text, before_nested, after_nested}
+use Rattle.proto_json.specs.Written.{PutsValue, PutsMember, PutsMembers, PutsValues}
+use Rattle.proto_json.proofs.Sending.{value_more, any_sent, object_sent, both, more}
+use Rattle.serde.specs.Event.{Log, Logs, seq_begins, seq_ends, map_begins, map_ends, field_key}
+use Rattle.serde.specs.declared.name.Case.TheVariants.{AsIs}
 use Rattle.proto_descriptors.specs.Views.{MessageTree, messages_of, message_step, message_tree, messages_desc}
 use Rattle.proto_descriptors.specs.declared.message.MessageDescriptor.{MessageDescriptor, out-MessageDescriptor}
 use Rattle.proto_descriptors.specs.declared.message.MessageDescriptor.TheFolds.{fold_out-MessageDescriptor}
@@ -25,3 +32,27 @@ message_texts-push ms m =
 -- a message's text is that of its own level, round those nested in it
 pub tree_text-level : (m : MessageDescriptor) → tree_text (message_tree m) ≡ level_text m (message_texts (messages_desc (out-MessageDescriptor m).nested_type.items))
 tree_text-level m = ap tree_text (fold_out-MessageDescriptor MessageTree message_step m)
+
+-- a message, its members before and behind those nested in it
+pub level_sent : (m : MessageDescriptor) {old first mid later last new : Log} → Logs old first (map_begins None) → PutsMembers (before_nested m) first mid
+    → PutsMember (codes "nestedType", array_if_any (message_texts (messages_desc (out-MessageDescriptor m).nested_type.items))) mid later → PutsMembers (after_nested m) later last
+    → Logs last new map_ends → PutsValue (tree_text (message_tree m)) old new
+level_sent m {old} {first} {mid} {later} {last} {new} begins before nested after ends =
+    subst (λ text. PutsValue text old new) (sym (tree_text-level m)) (object_sent _ begins (both before (more nested after)) ends)
+
+-- one message more in a list
+pub message_more : (all : List MessageDescriptor) (i : ℕ) (m : MessageDescriptor) {old mid new : Log} → i < length all → m ≡ get_or all i m
+    → PutsValues (message_texts (messages_desc (take i all))) old mid → PutsValue (tree_text (message_tree m)) mid new → PutsValues (message_texts (messages_desc (take (i + 1) all))) old new
+message_more all i m {old} {mid} {new} lt is before one =
+    let next : take i all ++ m ∷ [] ≡ take (i + 1) all = ap (λ (x : MessageDescriptor). take i all ++ x ∷ []) is ∙ sym (take_more all i m lt) in
+    subst (λ (texts : List (List ℕ)). PutsValues texts old new) (sym (message_texts-push (take i all) m) ∙ ap (λ (ms : List MessageDescriptor). message_texts (messages_desc ms)) next) (value_more before one)
+
+some_is_no_none : {t : List ℕ} {ts : List (List ℕ)} → t ∷ ts ≡ [] → ⊥
+some_is_no_none h = cc
+
+-- the list of all messages
+pub messages_sent : (all : List MessageDescriptor) (i : ℕ) (k : List ℕ) (mid : Log) {old first last new : Log} → (all ≡ [] → ⊥) → length all ≤ i → Logs old mid (field_key k AsIs) → Logs mid first (seq_begins None)
+    → PutsValues (message_texts (messages_desc (take i all))) first last → Logs last new seq_ends → PutsMember (k, array_if_any (message_texts (messages_desc all))) old new
+messages_sent [] i k mid some past named begins values ends = absurd (some refl)
+messages_sent (m ∷ ms) i k mid {first = first} {last = last} some past named begins values ends =
+    any_sent k mid _ (λ none. some_is_no_none none) named begins (subst (λ (xs : List MessageDescriptor). PutsValues (message_texts (messages_desc xs)) first last) (take_all i (m ∷ ms) past) values) ends

@@ -1,6 +1,5 @@
 pub mod DescriptorText
-pub mod FileLists
 pub mod JsonText
 pub mod KeyOrder
-pub mod Members
 pub mod MessageText
+pub mod Written

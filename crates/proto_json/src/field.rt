@@ -1,58 +1,74 @@
 //! The text of fields of messages.
 
-ghost use Rattle.std.specs.Prelude.{◌≡◌, IfOk};
-ghost use Rattle.proto_json.specs.DescriptorText.{label_name, field_type_name, field_text, field_options_slots};
-ghost use Rattle.proto_json.specs.JsonText.{quoted, object_if_any};
+ghost use Rattle.std.specs.Prelude.{OnOk, take, drop};
+ghost use Rattle.proto_json.specs.DescriptorText.{label_name, field_type_name, field_slots, field_text, field_options_slots};
+ghost use Rattle.proto_json.specs.JsonText.{quoted};
+ghost use Rattle.proto_json.specs.Written.{PutsMember, PutsMembers, options_slot};
 ghost use Rattle.proto_descriptors.specs.Views.{field_desc};
 
-use crate::json_value::Json;
-use crate::members::Members;
+use crate::members::{put, put_mark, put_optional};
+use crate::options::{close, put_option};
 use crate::values::ToJson;
 use proto_descriptors::{FieldDescriptor, FieldOptions, FieldType, Label};
-use proto_faults::NoMemory;
-use std::alloc::Global;
+use serde::Serializer;
 
 impl ToJson for Label {
     ghost text = { λ l. quoted (label_name l) };
 
-    fn to_json(&self, alloc: Global) -> Result<Json, NoMemory> {
-        Json::text(alloc, self.name())
+    fn send<S: Serializer>(&self, out: &mut S) -> Result<(), S::Error> {
+        out.str(self.name())
     }
 }
 
 impl ToJson for FieldType {
     ghost text = { λ t. quoted (field_type_name t) };
 
-    fn to_json(&self, alloc: Global) -> Result<Json, NoMemory> {
-        Json::text(alloc, self.name())
+    fn send<S: Serializer>(&self, out: &mut S) -> Result<(), S::Error> {
+        out.str(self.name())
     }
-}
-
-/// The options at a field, left out where none is written.
-fn field_options(alloc: Global, options: &FieldOptions) -> Result<Option<Json>, NoMemory>
-    ensures { IfOk result (λ o. o ≡ object_if_any (field_options_slots options.now)) }
-{
-    let mut members = Members::new(alloc);
-    members.put_optional("deprecated", &options.deprecated);
-    members.put_optional("packed", &options.packed);
-    members.into_object_if_any()
 }
 
 impl ToJson for FieldDescriptor {
     ghost text = { λ f. field_text (field_desc f) };
 
-    fn to_json(&self, alloc: Global) -> Result<Json, NoMemory> {
-        let mut members = Members::new(alloc);
-        members.put_optional("defaultValue", &self.default_value);
-        members.put_optional("jsonName", &self.json_name);
-        members.put_value("label", &self.label);
-        members.put_value("name", &self.name);
-        members.put_value("number", &self.number);
-        members.put_optional("oneofIndex", &self.oneof_index);
-        members.put("options", field_options(alloc, &self.options));
-        members.put("proto3Optional", Ok(Json::mark(self.proto3_optional)));
-        members.put_value("type", &self.field_type);
-        members.put_optional("typeName", &self.type_name);
-        members.into_object()
+    fn send<S: Serializer>(&self, out: &mut S) -> Result<(), S::Error> {
+        out.begin_map(None)?;
+        put_first(out, self)?;
+        put_rest(out, self)?;
+        out.end_map()
     }
+}
+
+/// The members up to `number`.
+fn put_first<S: Serializer>(out: &mut S, field: &FieldDescriptor) -> Result<(), S::Error>
+    ensures { OnOk result (PutsMembers (take 5 (field_slots (field_desc field.now)))
+        (S.written out.old) (S.written out.new)) }
+{
+    put_optional(out, "defaultValue", &field.default_value)?;
+    put_optional(out, "jsonName", &field.json_name)?;
+    put(out, "label", &field.label)?;
+    put(out, "name", &field.name)?;
+    put(out, "number", &field.number)
+}
+
+/// The members from `oneofIndex` on.
+fn put_rest<S: Serializer>(out: &mut S, field: &FieldDescriptor) -> Result<(), S::Error>
+    ensures { OnOk result (PutsMembers (drop 5 (field_slots (field_desc field.now)))
+        (S.written out.old) (S.written out.new)) }
+{
+    put_optional(out, "oneofIndex", &field.oneof_index)?;
+    put_options(out, &field.options)?;
+    put_mark(out, "proto3Optional", field.proto3_optional)?;
+    put(out, "type", &field.field_type)?;
+    put_optional(out, "typeName", &field.type_name)
+}
+
+/// The options at a field, left out where none is written.
+fn put_options<S: Serializer>(out: &mut S, options: &FieldOptions) -> Result<(), S::Error>
+    ensures { OnOk result (PutsMember (options_slot (field_options_slots options.now))
+        (S.written out.old) (S.written out.new)) }
+{
+    let is_open = put_option(out, false, "deprecated", &options.deprecated)?;
+    let is_open = put_option(out, is_open, "packed", &options.packed)?;
+    close(out, is_open)
 }

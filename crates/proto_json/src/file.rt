@@ -1,17 +1,19 @@
 //! The text of a set of files, and of one file.
 
-ghost use Rattle.std.specs.Prelude.{◌≡◌, ◌++◌, IfOk, OnOk, map, flat_map, string_bytes, option_map};
-ghost use Rattle.proto_json.specs.DescriptorText.{optimize_mode_name, syntax_name, file_text, file_options_slots, text_of_files};
-ghost use Rattle.proto_json.specs.JsonText.{quoted, object_if_any};
-ghost use Rattle.proto_json.specs.FileLists.{listed_at, behind_comma};
+ghost use Rattle.std.specs.Prelude.{◌≡◌, IfOk, OnOk, map, take, drop, string_bytes, option_map, codes};
+ghost use Rattle.serde.specs.Event.{Log};
+ghost use Rattle.proto_json.specs.DescriptorText.{optimize_mode_name, syntax_name, file_slots, file_text, file_options_slots, text_of_files};
+ghost use Rattle.proto_json.specs.JsonText.{quoted};
+ghost use Rattle.proto_json.specs.Written.{PutsValue, PutsMember, PutsMembers, EndsOptions, options_slot};
 ghost use Rattle.proto_descriptors.specs.Views.{file_desc, file_options_desc};
 
-use crate::json_value::Json;
-use crate::members::Members;
-use crate::message::messages_json;
+use crate::members::{put, put_list, put_optional, put_slice};
+use crate::message::put_messages;
+use crate::options::{close, put_option};
 use crate::values::ToJson;
 use proto_descriptors::{FileDescriptor, FileOptions, OptimizeMode, Syntax};
 use proto_faults::NoMemory;
+use serde::{Described, Serialize, Serializer};
 use std::alloc::Global;
 
 /// The files at this key of one compact JSON object, in each object the keys in the order of bytes.
@@ -24,109 +26,136 @@ pub fn text_of_files(
 ) -> Result<String, NoMemory>
     ensures { IfOk result (λ s. string_bytes s ≡ text_of_files key.now (map file_desc files.now)) }
 {
-    let mut text = String::new(alloc);
-    text.push_str("{")?;
-    if let Some((first, others)) = files.split_first() {
-        push_list(alloc, &mut text, key, first, others)?;
+    match serde_json::to_string(alloc, &FileList { key, files }) {
+        Ok(text) => Ok(text),
+        Err(_error) => Err(NoMemory),
     }
-    text.push_str("}")?;
-    Ok(text)
 }
 
-/// Puts the list of these files at this key behind the text.
-fn push_list(
-    alloc: Global,
-    text: &mut String,
+/// One object, with the list of these files at this key.
+#[derive(Drop)]
+struct FileList<'a> {
     key: &'static str,
-    first: &FileDescriptor,
-    others: &[FileDescriptor],
-) -> Result<(), NoMemory>
-    ensures { OnOk result (string_bytes text.new ≡ string_bytes text.old
-        ++ listed_at key.now (file_desc first.now) (map file_desc others.now)) }
-{
-    let quoted = Json::text(alloc, key)?.print(alloc)?;
-    text.push_str(quoted.as_str())?;
-    text.push_str(":[")?;
-    push_file(alloc, text, first)?;
-    push_others(alloc, text, others)?;
-    text.push_str("]")?;
-    Ok(())
+    files: &'a [FileDescriptor],
 }
 
-/// Puts each of these files behind the text, a comma before it. One file's values live at a time.
-fn push_others(alloc: Global, text: &mut String, files: &[FileDescriptor]) -> Result<(), NoMemory>
-    ensures { OnOk result (string_bytes text.new ≡ string_bytes text.old
-        ++ flat_map behind_comma (map file_desc files.now)) }
-{
-    for file in files {
-        text.push_str(",")?;
-        push_file(alloc, text, file)?;
-    }
-    Ok(())
+impl Described for FileList<'_> {
+    ghost writes = { λ l. PutsValue (text_of_files l.key.now (map file_desc l.files.now)) };
 }
 
-/// Puts the file behind the text.
-fn push_file(alloc: Global, text: &mut String, file: &FileDescriptor) -> Result<(), NoMemory>
-    ensures { OnOk result (string_bytes text.new ≡ string_bytes text.old
-        ++ file_text (file_desc file.now)) }
-{
-    let one = file.to_json(alloc)?.print(alloc)?;
-    text.push_str(one.as_str())?;
-    Ok(())
-}
-
-/// The name of a version that is written: a file without one is proto2.
-fn version(alloc: Global, syntax: Syntax) -> Result<Option<Json>, NoMemory>
-    ensures { IfOk result (λ o. o ≡ option_map quoted (syntax_name syntax)) }
-{
-    match syntax {
-        Syntax::Proto2 => Ok(None),
-        Syntax::Proto3 => Ok(Some(Json::text(alloc, "proto3")?)),
+impl Serialize for FileList<'_> {
+    fn serialize<S: Serializer>(&self, out: &mut S) -> Result<(), S::Error> {
+        out.begin_map(None)?;
+        put_slice(out, self.key, self.files)?;
+        out.end_map()
     }
 }
 
 impl ToJson for OptimizeMode {
     ghost text = { λ m. quoted (optimize_mode_name m) };
 
-    fn to_json(&self, alloc: Global) -> Result<Json, NoMemory> {
-        Json::text(alloc, self.name())
+    fn send<S: Serializer>(&self, out: &mut S) -> Result<(), S::Error> {
+        out.str(self.name())
     }
 }
 
 impl ToJson for FileDescriptor {
     ghost text = { λ f. file_text (file_desc f) };
 
-    fn to_json(&self, alloc: Global) -> Result<Json, NoMemory> {
-        let messages = messages_json(alloc, &self.message_type)?;
-        let mut members = Members::new(alloc);
-        members.put_list("dependency", &self.dependency);
-        members.put_list("enumType", &self.enum_type);
-        members.put("messageType", Ok(messages.into_array_if_any()));
-        members.put_value("name", &self.name);
-        members.put("options", file_options(alloc, &self.options));
-        members.put_optional("package", &self.package);
-        members.put_list("publicDependency", &self.public_dependency);
-        members.put_list("service", &self.service);
-        members.put("syntax", version(alloc, self.syntax));
-        members.into_object()
+    fn send<S: Serializer>(&self, out: &mut S) -> Result<(), S::Error> {
+        out.begin_map(None)?;
+        put_first(out, self)?;
+        put_rest(out, self)?;
+        out.end_map()
+    }
+}
+
+/// The members up to `name`.
+fn put_first<S: Serializer>(out: &mut S, file: &FileDescriptor) -> Result<(), S::Error>
+    ensures { OnOk result (PutsMembers (take 4 (file_slots (file_desc file.now)))
+        (S.written out.old) (S.written out.new)) }
+{
+    put_list(out, "dependency", &file.dependency)?;
+    put_list(out, "enumType", &file.enum_type)?;
+    put_messages(out, "messageType", &file.message_type)?;
+    put(out, "name", &file.name)
+}
+
+/// The members from `options` on.
+fn put_rest<S: Serializer>(out: &mut S, file: &FileDescriptor) -> Result<(), S::Error>
+    ensures { OnOk result (PutsMembers (drop 4 (file_slots (file_desc file.now)))
+        (S.written out.old) (S.written out.new)) }
+{
+    put_options(out, &file.options)?;
+    put_optional(out, "package", &file.package)?;
+    put_list(out, "publicDependency", &file.public_dependency)?;
+    put_list(out, "service", &file.service)?;
+    put_syntax(out, file.syntax)
+}
+
+/// The name of the version, left out for proto2: a file without one is proto2.
+fn put_syntax<S: Serializer>(out: &mut S, syntax: Syntax) -> Result<(), S::Error>
+    ensures { OnOk result (PutsMember (codes "syntax", option_map quoted (syntax_name syntax))
+        (S.written out.old) (S.written out.new)) }
+{
+    match syntax {
+        Syntax::Proto2 => Ok(()),
+        Syntax::Proto3 => {
+            out.key("syntax")?;
+            out.str("proto3")
+        }
     }
 }
 
 /// The options in a file, left out where none is written.
-fn file_options(alloc: Global, options: &FileOptions) -> Result<Option<Json>, NoMemory>
-    ensures { IfOk result (λ o. o ≡ object_if_any
-        (file_options_slots (file_options_desc options.now))) }
+fn put_options<S: Serializer>(out: &mut S, options: &FileOptions) -> Result<(), S::Error>
+    ensures { OnOk result (PutsMember
+        (options_slot (file_options_slots (file_options_desc options.now)))
+        (S.written out.old) (S.written out.new)) }
 {
-    let mut members = Members::new(alloc);
-    members.put_optional("ccEnableArenas", &options.cc_enable_arenas);
-    members.put_optional("csharpNamespace", &options.csharp_namespace);
-    members.put_optional("deprecated", &options.deprecated);
-    members.put_optional("goPackage", &options.go_package);
-    members.put_optional("javaMultipleFiles", &options.java_multiple_files);
-    members.put_optional("javaOuterClassname", &options.java_outer_classname);
-    members.put_optional("javaPackage", &options.java_package);
-    members.put_optional("objcClassPrefix", &options.objc_class_prefix);
-    members.put_optional("optimizeFor", &options.optimize_for);
-    members.put_optional("phpNamespace", &options.php_namespace);
-    members.into_object_if_any()
+    let is_open = put_first_options(out, options)?;
+    put_later_options(out, is_open, options)
+}
+
+/// The options up to `javaMultipleFiles`. Answers whether their object has begun.
+fn put_first_options<S: Serializer>(out: &mut S, options: &FileOptions) -> Result<bool, S::Error>
+    ensures { IfOk result (λ is_open. (last : Log)
+        → EndsOptions is_open (drop 5 (file_options_slots (file_options_desc options.now)))
+        (S.written out.new) last
+        → PutsMember (options_slot (file_options_slots (file_options_desc options.now)))
+        (S.written out.old) last) }
+{
+    let is_open = put_option(out, false, "ccEnableArenas", &options.cc_enable_arenas)?;
+    let is_open = put_option(out, is_open, "csharpNamespace", &options.csharp_namespace)?;
+    let is_open = put_option(out, is_open, "deprecated", &options.deprecated)?;
+    let is_open = put_option(out, is_open, "goPackage", &options.go_package)?;
+    put_option(
+        out,
+        is_open,
+        "javaMultipleFiles",
+        &options.java_multiple_files,
+    )
+}
+
+/// The options from `javaOuterClassname` on, and the end of their object.
+fn put_later_options<S: Serializer>(
+    out: &mut S,
+    is_open: bool,
+    options: &FileOptions,
+) -> Result<(), S::Error>
+    ensures { OnOk result (EndsOptions
+        is_open (drop 5 (file_options_slots (file_options_desc options.now)))
+        (S.written out.old) (S.written out.new)) }
+{
+    let is_open = put_option(
+        out,
+        is_open,
+        "javaOuterClassname",
+        &options.java_outer_classname,
+    )?;
+    let is_open = put_option(out, is_open, "javaPackage", &options.java_package)?;
+    let is_open = put_option(out, is_open, "objcClassPrefix", &options.objc_class_prefix)?;
+    let is_open = put_option(out, is_open, "optimizeFor", &options.optimize_for)?;
+    let is_open = put_option(out, is_open, "phpNamespace", &options.php_namespace)?;
+    close(out, is_open)
 }

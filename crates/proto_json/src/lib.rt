@@ -4,12 +4,10 @@
 mod enumeration;
 mod field;
 mod file;
-mod items;
-mod json_value;
 mod key_order;
 mod members;
 mod message;
-mod object;
+mod options;
 mod service;
 mod values;
 

@@ -1,129 +1,85 @@
-//! The members of an object, put one behind the other in the order of their keys.
+//! The members of an object, sent one behind the other in the order of their keys.
 
-ghost use Rattle.std.specs.Prelude.{◌≡◌, List, [], Option, Some, None, false, if◌then◌else◌, map, option_map, IfOk};
-ghost use Rattle.proto_faults.specs.Texts.{Text};
-ghost use Rattle.serde_json.specs.View.{members_view};
-ghost use Rattle.serde_json.specs.Written.{members_have_float};
-ghost use Rattle.proto_json.specs.JsonText.{Slot, object_text, array_if_any, object_if_any};
-ghost use Rattle.proto_json.specs.Members.{slots_of, held, there, Keeps, Puts, HasRisingKeys};
+ghost use Rattle.std.specs.Prelude.{◌≡◌, OnOk, Some, map, option_map};
+ghost use Rattle.proto_json.specs.JsonText.{array_if_any, boolean_text, mark};
+ghost use Rattle.proto_json.specs.Written.{PutsMember};
 
-use crate::json_value::Json;
-use crate::object::{Member, map_of};
-use crate::values::{ToJson, array_if_any, optional};
-use proto_faults::NoMemory;
-use serde_json::{Map, Value};
-use std::alloc::Global;
-use std::marker::Model;
+use crate::values::{ToJson, send_each};
+use serde::Serializer;
 
-/// Keys and, where they are there, their values, seen as slots. The first want of memory is kept,
-/// and told at the end: from then on there are no slots to see.
-#[derive(Drop)]
-pub(crate) struct Members {
-    alloc: Global,
-    list: Vec<Member>,
-    is_whole: bool,
+/// A key, and then its value.
+pub(crate) fn put<S: Serializer, T: ToJson>(
+    out: &mut S,
+    key: &'static str,
+    value: &T,
+) -> Result<(), S::Error>
+    ensures { OnOk result (PutsMember (key.now, Some (T.text value.now))
+        (S.written out.old) (S.written out.new)) }
+{
+    out.key(key)?;
+    value.send(out)
 }
 
-impl Model for Members {
-    ghost Value = { Option (List Slot) };
-
-    ghost view = { λ m. if m.is_whole then Some (slots_of m.list.items) else None };
+/// A value that is left out where there is none.
+pub(crate) fn put_optional<S: Serializer, T: ToJson>(
+    out: &mut S,
+    key: &'static str,
+    value: &Option<T>,
+) -> Result<(), S::Error>
+    ensures { OnOk result (PutsMember (key.now, option_map T.text value.now)
+        (S.written out.old) (S.written out.new)) }
+{
+    match value {
+        Some(value) => put(out, key, value),
+        None => Ok(()),
+    }
 }
 
-impl Members {
-    pub(crate) fn new(alloc: Global) -> Members
-        ensures { Keeps result [] }
-    {
-        Members {
-            alloc,
-            list: Vec::new(alloc),
-            is_whole: true,
-        }
-    }
+/// The list of the values, which is left out where there are none.
+pub(crate) fn put_list<S: Serializer, T: ToJson>(
+    out: &mut S,
+    key: &'static str,
+    values: &Vec<T>,
+) -> Result<(), S::Error>
+    ensures { OnOk result (PutsMember (key.now, array_if_any (map T.text values.now.items))
+        (S.written out.old) (S.written out.new)) }
+{
+    put_slice(out, key, values)
+}
 
-    /// Puts a member behind the others, which is left out where it has no value.
-    pub(crate) fn put(&mut self, key: &'static str, value: Result<Option<Json>, NoMemory>)
-        ensures { (text : Option Text) → IfOk value (λ v. v ≡ text)
-            → Puts self.old self.new (key.now, text) }
-    {
-        match value {
-            Ok(value) => {
-                if self.list.push(Member::new(key, value)).is_err() {
-                    self.is_whole = false;
-                }
-            }
-            Err(NoMemory) => self.is_whole = false,
-        }
+/// The same of the values of a slice.
+pub(crate) fn put_slice<S: Serializer, T: ToJson>(
+    out: &mut S,
+    key: &'static str,
+    values: &[T],
+) -> Result<(), S::Error>
+    ensures { OnOk result (PutsMember (key.now, array_if_any (map T.text values.now))
+        (S.written out.old) (S.written out.new)) }
+{
+    if values.is_empty() {
+        return Ok(());
     }
+    out.key(key)?;
+    out.begin_seq(None)?;
+    send_each(out, values)?;
+    out.end_seq()
+}
 
-    pub(crate) fn put_value<T: ToJson>(&mut self, key: &'static str, value: &T)
-        ensures { Puts self.old self.new (key.now, Some (T.text value.now)) }
-    {
-        match value.to_json(self.alloc) {
-            Ok(json) => self.put(key, Ok(Some(json))),
-            Err(NoMemory) => self.is_whole = false,
-        }
-    }
+/// A mark, which is left out where it is false.
+pub(crate) fn put_mark<S: Serializer>(
+    out: &mut S,
+    key: &'static str,
+    is_set: bool,
+) -> Result<(), S::Error>
+    ensures { OnOk result (PutsMember (key.now, mark is_set)
+        (S.written out.old) (S.written out.new)) }
+{
+    put_optional(out, key, &mark_of(is_set))
+}
 
-    /// A value that is left out where there is none.
-    pub(crate) fn put_optional<T: ToJson>(&mut self, key: &'static str, value: &Option<T>)
-        ensures { Puts self.old self.new (key.now, option_map T.text value.now) }
-    {
-        let json = optional(self.alloc, value);
-        self.put(key, json);
-    }
-
-    /// The list of the values, which is left out where there are none.
-    pub(crate) fn put_list<T: ToJson>(&mut self, key: &'static str, values: &Vec<T>)
-        ensures { Puts self.old self.new
-            (key.now, array_if_any (map T.text values.now.items)) }
-    {
-        let json = array_if_any(self.alloc, values);
-        self.put(key, json);
-    }
-
-    /// The object of the members that are there. The keys are in the order of their bytes.
-    pub(crate) fn into_object(self) -> Result<Json, NoMemory>
-        requires { HasRisingKeys self }
-        ensures { (slots : List Slot) → Keeps self slots
-            → IfOk result (λ j. j ≡ object_text slots) }
-    {
-        let map = self.into_map()?;
-        Ok(Json {
-            value: Value::Object(map),
-        })
-    }
-
-    /// The same, which is left out where it has no members.
-    pub(crate) fn into_object_if_any(self) -> Result<Option<Json>, NoMemory>
-        requires { HasRisingKeys self }
-        ensures { (slots : List Slot) → Keeps self slots
-            → IfOk result (λ o. o ≡ object_if_any slots) }
-    {
-        let map = self.into_map()?;
-        if map.is_empty() {
-            return Ok(None);
-        }
-        Ok(Some(Json {
-            value: Value::Object(map),
-        }))
-    }
-
-    /// The members that are there, in a map.
-    fn into_map(self) -> Result<Map<String, Value>, NoMemory>
-        requires { HasRisingKeys self }
-        ensures members { (slots : List Slot) → Keeps self slots
-            → IfOk result (λ map. held (members_view map.entries) ≡ there slots) }
-        ensures whole { IfOk result (λ map. members_have_float (members_view map.entries) ≡ false) }
-    {
-        let Members {
-            alloc,
-            list,
-            is_whole,
-        } = self;
-        if !is_whole {
-            return Err(NoMemory);
-        }
-        map_of(alloc, list)
-    }
+/// The truth value that a mark is written as, none where it is left out.
+pub(crate) fn mark_of(is_set: bool) -> Option<bool>
+    ensures { option_map boolean_text result ≡ mark is_set }
+{
+    if is_set { Some(true) } else { None }
 }

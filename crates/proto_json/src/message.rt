@@ -1,90 +1,105 @@
 //! The text of messages, with those nested in them.
 
-ghost use Rattle.std.specs.Prelude.{◌≡◌, IfOk};
+ghost use Rattle.std.specs.Prelude.{OnOk};
 ghost use Rattle.proto_json.specs.DescriptorText.{message_texts, range_text, oneof_text, message_options_slots};
-ghost use Rattle.proto_json.specs.JsonText.{object_if_any};
+ghost use Rattle.proto_json.specs.JsonText.{array_if_any};
+ghost use Rattle.proto_json.specs.MessageText.{tree_text, before_nested, after_nested};
+ghost use Rattle.proto_json.specs.Written.{PutsValue, PutsMember, PutsMembers, options_slot};
 ghost use Rattle.proto_descriptors.specs.Views.{oneof_desc, message_tree, messages_desc};
-ghost use Rattle.proto_json.specs.MessageText.{tree_text, level_text};
 
-use crate::items::Items;
-use crate::json_value::Json;
-use crate::members::Members;
+use crate::members::{mark_of, put, put_list};
+use crate::options::{close, put_option};
 use crate::values::ToJson;
 use proto_descriptors::{MessageDescriptor, MessageOptions, NumberRange, OneofDescriptor};
-use proto_faults::NoMemory;
-use std::alloc::Global;
+use serde::Serializer;
 
-/// The messages, each with those nested in it, as the items of a list.
+/// The list of the messages at this key, left out where there are none.
 #[cycle(messages)]
-pub(crate) fn messages_json(
-    alloc: Global,
+pub(crate) fn put_messages<S: Serializer>(
+    out: &mut S,
+    key: &'static str,
     messages: &Vec<MessageDescriptor>,
-) -> Result<Items, NoMemory>
-    ensures { IfOk result (λ items. items ≡ message_texts (messages_desc messages.now.items)) }
+) -> Result<(), S::Error>
+    ensures { OnOk result (PutsMember
+        (key.now, array_if_any (message_texts (messages_desc messages.now.items)))
+        (S.written out.old) (S.written out.new)) }
 {
-    let mut items = Items::new(alloc);
-    for message in messages {
-        items.push(message_json(alloc, message)?)?;
+    if messages.is_empty() {
+        return Ok(());
     }
-    Ok(items)
+    out.key(key)?;
+    out.begin_seq(None)?;
+    for message in messages {
+        put_message(out, message)?;
+    }
+    out.end_seq()
 }
 
+/// A message with those nested in it.
 #[cycle(messages)]
-fn message_json(alloc: Global, message: &MessageDescriptor) -> Result<Json, NoMemory>
-    ensures { IfOk result (λ j. j ≡ tree_text (message_tree message.now)) }
+fn put_message<S: Serializer>(out: &mut S, message: &MessageDescriptor) -> Result<(), S::Error>
+    ensures { OnOk result (PutsValue (tree_text (message_tree message.now))
+        (S.written out.old) (S.written out.new)) }
 {
-    let nested = messages_json(alloc, &message.nested_type)?;
-    message_around(alloc, message, nested)
+    out.begin_map(None)?;
+    put_before_nested(out, message)?;
+    put_messages(out, "nestedType", &message.nested_type)?;
+    put_after_nested(out, message)?;
+    out.end_map()
 }
 
-/// The message, with the values of those nested in it.
-fn message_around(
-    alloc: Global,
+/// The members whose keys are below `nestedType`.
+fn put_before_nested<S: Serializer>(
+    out: &mut S,
     message: &MessageDescriptor,
-    nested: Items,
-) -> Result<Json, NoMemory>
-    ensures { IfOk result (λ j. j ≡ level_text message.now nested) }
+) -> Result<(), S::Error>
+    ensures { OnOk result (PutsMembers (before_nested message.now)
+        (S.written out.old) (S.written out.new)) }
 {
-    let mut members = Members::new(alloc);
-    members.put_list("enumType", &message.enum_type);
-    members.put_list("extensionRange", &message.extension_range);
-    members.put_list("field", &message.field);
-    members.put_value("name", &message.name);
-    members.put("nestedType", Ok(nested.into_array_if_any()));
-    members.put_list("oneofDecl", &message.oneof_decl);
-    members.put("options", message_options(alloc, &message.options));
-    members.put_list("reservedName", &message.reserved_name);
-    members.put_list("reservedRange", &message.reserved_range);
-    members.into_object()
+    put_list(out, "enumType", &message.enum_type)?;
+    put_list(out, "extensionRange", &message.extension_range)?;
+    put_list(out, "field", &message.field)?;
+    put(out, "name", &message.name)
+}
+
+/// The members whose keys are above `nestedType`.
+fn put_after_nested<S: Serializer>(out: &mut S, message: &MessageDescriptor) -> Result<(), S::Error>
+    ensures { OnOk result (PutsMembers (after_nested message.now)
+        (S.written out.old) (S.written out.new)) }
+{
+    put_list(out, "oneofDecl", &message.oneof_decl)?;
+    put_options(out, &message.options)?;
+    put_list(out, "reservedName", &message.reserved_name)?;
+    put_list(out, "reservedRange", &message.reserved_range)
 }
 
 impl ToJson for NumberRange {
     ghost text = { λ r. range_text r };
 
-    fn to_json(&self, alloc: Global) -> Result<Json, NoMemory> {
-        let mut members = Members::new(alloc);
-        members.put_value("end", &self.end);
-        members.put_value("start", &self.start);
-        members.into_object()
+    fn send<S: Serializer>(&self, out: &mut S) -> Result<(), S::Error> {
+        out.begin_map(None)?;
+        put(out, "end", &self.end)?;
+        put(out, "start", &self.start)?;
+        out.end_map()
     }
 }
 
 impl ToJson for OneofDescriptor {
     ghost text = { λ o. oneof_text (oneof_desc o) };
 
-    fn to_json(&self, alloc: Global) -> Result<Json, NoMemory> {
-        let mut members = Members::new(alloc);
-        members.put_value("name", &self.name);
-        members.into_object()
+    fn send<S: Serializer>(&self, out: &mut S) -> Result<(), S::Error> {
+        out.begin_map(None)?;
+        put(out, "name", &self.name)?;
+        out.end_map()
     }
 }
 
 /// The options in a message, left out where there is nothing to say.
-fn message_options(alloc: Global, options: &MessageOptions) -> Result<Option<Json>, NoMemory>
-    ensures { IfOk result (λ o. o ≡ object_if_any (message_options_slots options.now)) }
+fn put_options<S: Serializer>(out: &mut S, options: &MessageOptions) -> Result<(), S::Error>
+    ensures { OnOk result (PutsMember (options_slot (message_options_slots options.now))
+        (S.written out.old) (S.written out.new)) }
 {
-    let mut members = Members::new(alloc);
-    members.put_optional("deprecated", &options.deprecated);
-    members.put("mapEntry", Ok(Json::mark(options.map_entry)));
-    members.into_object_if_any()
+    let is_open = put_option(out, false, "deprecated", &options.deprecated)?;
+    let is_open = put_option(out, is_open, "mapEntry", &mark_of(options.map_entry))?;
+    close(out, is_open)
 }

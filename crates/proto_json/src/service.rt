@@ -1,69 +1,76 @@
 //! The text of services and their methods.
 
-ghost use Rattle.std.specs.Prelude.{◌≡◌, IfOk};
-ghost use Rattle.proto_json.specs.DescriptorText.{idempotency_level_name, service_text, method_text, service_options_slots, method_options_slots};
-ghost use Rattle.proto_json.specs.JsonText.{quoted, object_if_any};
+ghost use Rattle.std.specs.Prelude.{OnOk};
+ghost use Rattle.proto_json.specs.DescriptorText.{idempotency_level_name, service_text, method_slots, method_text, service_options_slots, method_options_slots};
+ghost use Rattle.proto_json.specs.JsonText.{quoted};
+ghost use Rattle.proto_json.specs.Written.{PutsMember, PutsMembers, options_slot};
 ghost use Rattle.proto_descriptors.specs.Views.{service_desc, method_desc};
 
-use crate::json_value::Json;
-use crate::members::Members;
+use crate::members::{put, put_list, put_mark};
+use crate::options::{close, put_option};
 use crate::values::ToJson;
 use proto_descriptors::{
     IdempotencyLevel, MethodDescriptor, MethodOptions, ServiceDescriptor, ServiceOptions,
 };
-use proto_faults::NoMemory;
-use std::alloc::Global;
+use serde::Serializer;
 
 impl ToJson for IdempotencyLevel {
     ghost text = { λ l. quoted (idempotency_level_name l) };
 
-    fn to_json(&self, alloc: Global) -> Result<Json, NoMemory> {
-        Json::text(alloc, self.name())
+    fn send<S: Serializer>(&self, out: &mut S) -> Result<(), S::Error> {
+        out.str(self.name())
     }
 }
 
 impl ToJson for ServiceDescriptor {
     ghost text = { λ s. service_text (service_desc s) };
 
-    fn to_json(&self, alloc: Global) -> Result<Json, NoMemory> {
-        let mut members = Members::new(alloc);
-        members.put_list("method", &self.method);
-        members.put_value("name", &self.name);
-        members.put("options", service_options(alloc, &self.options));
-        members.into_object()
+    fn send<S: Serializer>(&self, out: &mut S) -> Result<(), S::Error> {
+        out.begin_map(None)?;
+        put_list(out, "method", &self.method)?;
+        put(out, "name", &self.name)?;
+        put_options(out, &self.options)?;
+        out.end_map()
     }
 }
 
 impl ToJson for MethodDescriptor {
     ghost text = { λ m. method_text (method_desc m) };
 
-    fn to_json(&self, alloc: Global) -> Result<Json, NoMemory> {
-        let mut members = Members::new(alloc);
-        members.put("clientStreaming", Ok(Json::mark(self.client_streaming)));
-        members.put_value("inputType", &self.input_type);
-        members.put_value("name", &self.name);
-        members.put("options", method_options(alloc, &self.options));
-        members.put_value("outputType", &self.output_type);
-        members.put("serverStreaming", Ok(Json::mark(self.server_streaming)));
-        members.into_object()
+    fn send<S: Serializer>(&self, out: &mut S) -> Result<(), S::Error> {
+        out.begin_map(None)?;
+        put_members(out, self)?;
+        out.end_map()
     }
 }
 
-/// The option in a service, left out where it is not written.
-fn service_options(alloc: Global, options: &ServiceOptions) -> Result<Option<Json>, NoMemory>
-    ensures { IfOk result (λ o. o ≡ object_if_any (service_options_slots options.now)) }
+fn put_members<S: Serializer>(out: &mut S, method: &MethodDescriptor) -> Result<(), S::Error>
+    ensures { OnOk result (PutsMembers (method_slots (method_desc method.now))
+        (S.written out.old) (S.written out.new)) }
 {
-    let mut members = Members::new(alloc);
-    members.put_optional("deprecated", &options.deprecated);
-    members.into_object_if_any()
+    put_mark(out, "clientStreaming", method.client_streaming)?;
+    put(out, "inputType", &method.input_type)?;
+    put(out, "name", &method.name)?;
+    put_method_options(out, &method.options)?;
+    put(out, "outputType", &method.output_type)?;
+    put_mark(out, "serverStreaming", method.server_streaming)
+}
+
+/// The option in a service, left out where it is not written.
+fn put_options<S: Serializer>(out: &mut S, options: &ServiceOptions) -> Result<(), S::Error>
+    ensures { OnOk result (PutsMember (options_slot (service_options_slots options.now))
+        (S.written out.old) (S.written out.new)) }
+{
+    let is_open = put_option(out, false, "deprecated", &options.deprecated)?;
+    close(out, is_open)
 }
 
 /// The options in a method, left out where none is written.
-fn method_options(alloc: Global, options: &MethodOptions) -> Result<Option<Json>, NoMemory>
-    ensures { IfOk result (λ o. o ≡ object_if_any (method_options_slots options.now)) }
+fn put_method_options<S: Serializer>(out: &mut S, options: &MethodOptions) -> Result<(), S::Error>
+    ensures { OnOk result (PutsMember (options_slot (method_options_slots options.now))
+        (S.written out.old) (S.written out.new)) }
 {
-    let mut members = Members::new(alloc);
-    members.put_optional("deprecated", &options.deprecated);
-    members.put_optional("idempotencyLevel", &options.idempotency_level);
-    members.into_object_if_any()
+    let is_open = put_option(out, false, "deprecated", &options.deprecated)?;
+    let is_open = put_option(out, is_open, "idempotencyLevel", &options.idempotency_level)?;
+    close(out, is_open)
 }

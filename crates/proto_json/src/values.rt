@@ -1,83 +1,68 @@
-//! What is written as one JSON value, and optional values and lists of it.
+//! What is written as one JSON value, and lists of it.
 
-ghost use Rattle.std.specs.Prelude.{◌≡◌, map, option_map, IfOk, string_bytes, decimal};
+ghost use Rattle.std.specs.Prelude.{OnOk, map, string_bytes, decimal};
 ghost use Rattle.std.specs.Fmt.{signed_decimal};
 ghost use Rattle.proto_faults.specs.Texts.{Text};
-ghost use Rattle.proto_json.specs.JsonText.{quoted, boolean_text, array_if_any};
+ghost use Rattle.proto_json.specs.JsonText.{quoted, boolean_text};
+ghost use Rattle.proto_json.specs.Written.{PutsValue, PutsValues};
 
-use crate::items::Items;
-use crate::json_value::Json;
-use proto_faults::NoMemory;
-use std::alloc::Global;
+use serde::{Serialize, Serializer};
 
 /// What is written as one JSON value, which has this text.
 pub(crate) trait ToJson {
     ghost text: { Self → Text };
 
-    fn to_json(&self, alloc: Global) -> Result<Json, NoMemory>
-        ensures { IfOk result (λ j. j ≡ text self.now) };
+    fn send<S: Serializer>(&self, out: &mut S) -> Result<(), S::Error>
+        ensures { OnOk result (PutsValue (text self.now) (S.written out.old) (S.written out.new)) };
 }
 
 impl ToJson for String {
     ghost text = { λ s. quoted (string_bytes s) };
 
-    fn to_json(&self, alloc: Global) -> Result<Json, NoMemory> {
-        Json::text(alloc, self.as_str())
+    fn send<S: Serializer>(&self, out: &mut S) -> Result<(), S::Error> {
+        self.serialize(out)
     }
 }
 
 impl ToJson for usize {
     ghost text = { λ n. decimal n };
 
-    fn to_json(&self, _alloc: Global) -> Result<Json, NoMemory> {
-        Ok(Json::index(*self))
+    fn send<S: Serializer>(&self, out: &mut S) -> Result<(), S::Error> {
+        self.serialize(out)
     }
 }
 
 impl ToJson for u32 {
     ghost text = { λ n. decimal n };
 
-    fn to_json(&self, _alloc: Global) -> Result<Json, NoMemory> {
-        Ok(Json::number(*self))
+    fn send<S: Serializer>(&self, out: &mut S) -> Result<(), S::Error> {
+        self.serialize(out)
     }
 }
 
 impl ToJson for i32 {
     ghost text = { λ n. signed_decimal n };
 
-    fn to_json(&self, _alloc: Global) -> Result<Json, NoMemory> {
-        Ok(Json::integer(*self))
+    fn send<S: Serializer>(&self, out: &mut S) -> Result<(), S::Error> {
+        self.serialize(out)
     }
 }
 
 impl ToJson for bool {
     ghost text = { λ b. boolean_text b };
 
-    fn to_json(&self, _alloc: Global) -> Result<Json, NoMemory> {
-        Ok(Json::boolean(*self))
+    fn send<S: Serializer>(&self, out: &mut S) -> Result<(), S::Error> {
+        self.serialize(out)
     }
 }
 
-/// The value, where it is there.
-pub(crate) fn optional<T: ToJson>(
-    alloc: Global,
-    value: &Option<T>,
-) -> Result<Option<Json>, NoMemory>
-    ensures { IfOk result (λ o. o ≡ option_map T.text value.now) }
+/// The values, one after the other.
+pub(crate) fn send_each<S: Serializer, T: ToJson>(out: &mut S, values: &[T]) -> Result<(), S::Error>
+    ensures { OnOk result
+        (PutsValues (map T.text values.now) (S.written out.old) (S.written out.new)) }
 {
-    match value {
-        Some(value) => Ok(Some(value.to_json(alloc)?)),
-        None => Ok(None),
-    }
-}
-
-/// The list of the values, which is left out where there are none.
-pub(crate) fn array_if_any<T: ToJson>(alloc: Global, values: &[T]) -> Result<Option<Json>, NoMemory>
-    ensures { IfOk result (λ o. o ≡ array_if_any (map T.text values.now)) }
-{
-    let mut items = Items::new(alloc);
     for value in values {
-        items.push(value.to_json(alloc)?)?;
+        value.send(out)?;
     }
-    Ok(items.into_array_if_any())
+    Ok(())
 }

@@ -1,26 +1,41 @@
-use Rattle.std.proofs.Common.{◌≡◌, ◌∷◌, ◌++◌, [], List, ℕ, IfOk, sym, ap, ◌∙◌, subst, take, ◌+◌, arith}
-use Rattle.std.proofs.lemmas.List.{take_more}
+use Rattle.std.proofs.Common.{◌≡◌, List, [], length, refl, sym, ap, ◌∙◌, true≢false, arith}
+use Rattle.std.proofs.lemmas.Bool.{eqb-true, eq-eqb}
+use Rattle.std.proofs.lemmas.List.{nil_from_length}
+use Rattle.std.proofs.lemmas.Result.{on_ok_weaker}
+use Rattle.proto_json.proofs.Nesting.{level_sent, message_more, messages_sent}
+use Rattle.proto_json.proofs.Sending.{listed, list_absent, no_values}
 use Rattle.proto_json.specs.DescriptorText.{message_texts}
 use Rattle.proto_descriptors.specs.Views.{messages_desc}
 use Rattle.proto_descriptors.specs.declared.message.MessageDescriptor.{MessageDescriptor}
-use Rattle.proto_json.specs.MessageText.{level_text}
-use Rattle.proto_json.proofs.Nesting.{message_texts-push, tree_text-level}
 use Rattle.proto_json.proofs.message.+messages.Goals as goal
 
-pub message_json-returns : goal.message_json-returns
-message_json-returns t c =
-    let whole = ap (level_text c.args.message.now) c.in_ok-nested.ensures ∙ sym (tree_text-level c.args.message.now) in
-    subst (λ (text : List ℕ). IfOk c.message_around.result (λ j. j ≡ text)) whole c.message_around.ensures
+pub put_message-returns : goal.put_message-returns
+put_message-returns g t c =
+    on_ok_weaker c.end_map.result (λ ends.
+    level_sent c.args.message.now c.in_ok-begin_map.ensures c.in_ok-put_before_nested.ensures c.in_ok-put_messages.ensures c.in_ok-put_after_nested.ensures ends)
+    c.end_map.ensures
 
-pub messages_json-loop-message-preserved : goal.messages_json-loop-message-preserved
-messages_json-loop-message-preserved t c =
+pub put_messages-loop-message-init : goal.put_messages-loop-message-init
+put_messages-loop-message-init g t c = no_values
+
+pub put_messages-loop-message-preserved : goal.put_messages-loop-message-preserved
+put_messages-loop-message-preserved g t c =
+    message_more c.deref-message-items.result.now c.loop-message.message-index c.message-item.result (omega (arith, c.loop-message-test.true)) c.message-item.is
+    c.loop-message.invariant c.in_ok-put_message.ensures
+
+pub put_messages-returns : goal.put_messages-returns
+put_messages-returns g t c =
+    let messages = c.args.messages.now in
     let all = c.deref-message-items.result.now in
-    let i = c.loop-message.message-index in
-    let message = c.message-item.result in
-    let more : take (i + 1) all ≡ take i all ++ message ∷ [] =
-    take_more all i message (omega arith) ∙ ap (λ m. take i all ++ m ∷ []) (sym c.message-item.is) in
-    c.in_ok-push.ensures
-    ∙ ap (λ (texts : List (List ℕ)). texts ++ c.in_ok-message_json.field-0 ∷ []) c.loop-message.invariant
-    ∙ ap (λ (text : List ℕ). message_texts (messages_desc (take i all)) ++ text ∷ []) c.in_ok-message_json.ensures
-    ∙ sym (message_texts-push (take i all) message)
-    ∙ ap (λ (ms : List MessageDescriptor). message_texts (messages_desc ms)) (sym more)
+    let same : all ≡ messages.items = c.deref-message-items.ensures.value in
+    let some = λ (none : all ≡ []). true≢false (sym (c.is_empty.ensures ∙ eq-eqb _ 0 (messages.ok.0 ∙ ap length (sym same ∙ none))) ∙ c.if-is_empty.false) in
+    on_ok_weaker c.end_seq.result (λ ends.
+    listed (ap (λ (ms : List MessageDescriptor). message_texts (messages_desc ms)) same)
+    (messages_sent all c.loop-message.message-index c.args.key.now _ some (omega (arith, c.loop-message-test.false)) c.in_ok-key.ensures c.in_ok-begin_seq.ensures c.loop-message.invariant ends))
+    c.end_seq.ensures
+
+pub put_messages-returns-then-is_empty : goal.put_messages-returns-then-is_empty
+put_messages-returns-then-is_empty g t c =
+    let messages = c.args.messages.now in
+    let none : messages.items ≡ [] = nil_from_length messages.items (sym messages.ok.0 ∙ eqb-true _ 0 (sym c.is_empty.ensures ∙ c.if-is_empty.true)) in
+    listed (ap (λ (ms : List MessageDescriptor). message_texts (messages_desc ms)) (sym none)) (list_absent c.args.key.now refl)

@@ -1,0 +1,19 @@
+use Rattle.proto_descriptors.proofs.Mapped.{map_both}
+use Rattle.proto_descriptors.specs.Views.{enum_value_desc}
+use Rattle.proto_json.proofs.Sending.{last, listed, more}
+use Rattle.proto_json.specs.DescriptorText.{enum_value_text}
+use Rattle.proto_json.specs.JsonText.{quoted}
+use Rattle.std.proofs.Common.{string_bytes}
+use Rattle.std.proofs.lemmas.Result.{on_ok_weaker}
+use Rattle.proto_json.proofs.enumeration.put_members.Goals as goal
+
+pub returns : goal.returns
+returns g c =
+    let enumeration = c.args.enumeration.now in
+    on_ok_weaker c.put_list-3.result (λ sent.
+    (more c.in_ok-put.ensures
+    (more c.in_ok-put_options.ensures
+    (more (listed (map_both quoted string_bytes enumeration.reserved_name.items) c.in_ok-put_list.ensures)
+    (more c.in_ok-put_list-2.ensures
+    (last (listed (map_both enum_value_text enum_value_desc enumeration.value.items) sent)))))))
+    c.put_list-3.ensures

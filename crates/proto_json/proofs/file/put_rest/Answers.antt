@@ -1,0 +1,19 @@
+use Rattle.proto_descriptors.proofs.Mapped.{map_both}
+use Rattle.proto_descriptors.specs.Views.{service_desc}
+use Rattle.proto_json.proofs.Sending.{last, listed, more, option_map-option_map, valued}
+use Rattle.proto_json.specs.DescriptorText.{service_text}
+use Rattle.proto_json.specs.JsonText.{quoted}
+use Rattle.std.proofs.Common.{string_bytes}
+use Rattle.std.proofs.lemmas.Result.{on_ok_weaker}
+use Rattle.proto_json.proofs.file.put_rest.Goals as goal
+
+pub returns : goal.returns
+returns g c =
+    let file = c.args.file.now in
+    on_ok_weaker c.put_syntax.result (λ sent.
+    (more c.in_ok-put_options.ensures
+    (more (valued (option_map-option_map quoted string_bytes file.package) c.in_ok-put_optional.ensures)
+    (more c.in_ok-put_list.ensures
+    (more (listed (map_both service_text service_desc file.service.items) c.in_ok-put_list-2.ensures)
+    (last sent))))))
+    c.put_syntax.ensures

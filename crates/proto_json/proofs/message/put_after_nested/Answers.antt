@@ -1,0 +1,19 @@
+use Rattle.proto_descriptors.proofs.Mapped.{map_both}
+use Rattle.proto_descriptors.specs.Views.{oneof_desc}
+use Rattle.proto_descriptors.specs.declared.message.MessageDescriptor.{out-MessageDescriptor}
+use Rattle.proto_json.proofs.Sending.{last, listed, more}
+use Rattle.proto_json.specs.DescriptorText.{oneof_text}
+use Rattle.proto_json.specs.JsonText.{quoted}
+use Rattle.std.proofs.Common.{string_bytes}
+use Rattle.std.proofs.lemmas.Result.{on_ok_weaker}
+use Rattle.proto_json.proofs.message.put_after_nested.Goals as goal
+
+pub returns : goal.returns
+returns g c =
+    let message = out-MessageDescriptor c.args.message.now in
+    on_ok_weaker c.put_list-3.result (λ sent.
+    (more (listed (map_both oneof_text oneof_desc message.oneof_decl.items) c.in_ok-put_list.ensures)
+    (more c.in_ok-put_options.ensures
+    (more (listed (map_both quoted string_bytes message.reserved_name.items) c.in_ok-put_list-2.ensures)
+    (last sent)))))
+    c.put_list-3.ensures
