@@ -16,14 +16,14 @@ use Rattle.proto_meaning.specs.Grown.{At, at, used_in}
 use Rattle.proto_meaning.specs.Names.{Workspace}
 use Rattle.proto_meaning.specs.Skeleton.{Used, reference_of}
 use Rattle.proto_imports.specs.Links.{uses_of}
+use Rattle.proto_captures.specs.CapturedPlaces.{IsCapturedPlace, StandsAtToken}
 use Rattle.proto_captures.specs.Overtaking.{IsFirstOvertaken, Overtakes}
 use Rattle.proto_captures.specs.Cases.{IsFirstPlace, StandsBefore}
 use Rattle.proto_statement_changes.specs.ImportChanges.{splice_of_addition}
 use Rattle.proto_statement_changes.specs.OneFile.{IsTooLong}
 use Rattle.proto_statement_names.specs.Cases.{AdditionCase, IsImported, IsNoFile, IsOvertakenIn, IsPlaceOf, already_imported, captured, cycle, unknown_file, unknown_path, with_added}
 use Rattle.proto_statement_edits.specs.Edits.{IsAdditionCase, IsAdditionRefusal, IsLeastOf, RefusesAddition, by_name, too_large}
-use Rattle.proto_statement_edits.specs.Steps.{IsCapturedAt, StandsAtToken}
-use Rattle.proto_statement_edits.proofs.Needed.{from_use, use_there}
+use Rattle.proto_names.proofs.UsesOfFiles.{from_use, use_there}
 
 -- ---- the cases by their numbers
 
@@ -169,7 +169,7 @@ module _ (files : List FileOf) (reads : List ReadOf) (are : AreRead files reads)
           | inr (inr (inr (inr x))) ↦ (let e = x.0 in omega (arith, l, e))
         ]
 
-    pub refused_7 : (token : ℕ) → IsFirstOvertaken files reads v k (Some token) → (r : Refusal) → IsCapturedAt files k token r → IsAdditionRefusal files file path r
+    pub refused_7 : (token : ℕ) → IsFirstOvertaken files reads v k (Some token) → (r : Refusal) → IsCapturedPlace files k token r → IsAdditionRefusal files file path r
     refused_7 token x (refusal.Captured where_is offset) h = (least_7 token x, (reads, are, (k, to, place, target, first_place token x (string_bytes where_is) offset h)))
     refused_7 token x _ h = absurd h
 

@@ -115,10 +115,6 @@ none_in_method (Block whole i within j rest) fine b c o e = absurd (both_ways fa
 none_in_service : (t : Tree) → IsWellFormed context.Service t → (b : BlockOf) → Contains (blocks_in t) b → (o : Heading) → b.header ≡ header.Oneof o → ⊥
 none_in_service End fine b c o e = absurd (omega (arith, c.1))
 none_in_service (Leaf s rest) fine b c o e = none_in_service rest fine.1 b c o e
-none_in_service (Block (header.Message h) i within j rest) fine b c o e = absurd (both_ways false refl fine.0)
-none_in_service (Block (header.Oneof h) i within j rest) fine b c o e = absurd (both_ways false refl fine.0)
-none_in_service (Block (header.Enum h) i within j rest) fine b c o e = absurd (both_ways false refl fine.0)
-none_in_service (Block (header.Service h) i within j rest) fine b c o e = absurd (both_ways false refl fine.0)
 none_in_service (Block (header.Method s) i within j rest) fine b c o e = elim (contains_cases (record { header = header.Method s; within = within }) b (blocks_in within ++ blocks_in rest) c) [
   | inl same ↦ no_method s o (ap (λ (z : BlockOf). z.header) same ∙ e)
   | inr d ↦ elim (Contains-append_cases (blocks_in within) (blocks_in rest) b d) [
@@ -126,6 +122,7 @@ none_in_service (Block (header.Method s) i within j rest) fine b c o e = elim (c
     | inr x ↦ none_in_service rest fine.2 b x o e
   ]
 ]
+none_in_service (Block whole i within j rest) fine b c o e = absurd (both_ways false refl fine.0)
 
 -- the block itself, one in it, or one behind it
 in_block : (h : Header) (within rest : Tree) (b : BlockOf) → Contains (record { header = h; within = within } ∷ (blocks_in within ++ blocks_in rest)) b → (h ≡ b.header) × (within ≡ b.within) ⊎ (Contains (blocks_in within) b ⊎ Contains (blocks_in rest) b)

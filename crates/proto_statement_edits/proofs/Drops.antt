@@ -10,11 +10,12 @@ use Rattle.proto_entries.specs.declared.refusal.Refusal.TheVariants as refusal
 use Rattle.proto_meaning.specs.Grown.{At}
 use Rattle.proto_meaning.specs.Skeleton.{Used}
 use Rattle.proto_names.specs.declared.link.RefId.{RefId}
+use Rattle.proto_captures.specs.CapturedPlaces.{StandsAtToken}
 use Rattle.proto_captures.specs.Cases.{IsFirstPlace}
 use Rattle.proto_statement_names.specs.Cases.{DropCase, IsImported, IsNeededIn, IsNoFile, IsPlaceOf, needed, no_such_file, not_imported}
 use Rattle.proto_statement_edits.specs.Edits.{IsDropCase, IsDropRefusal}
-use Rattle.proto_statement_edits.specs.Steps.{IsFirstNeeded, IsNeededAtToken, StandsAtToken}
-use Rattle.proto_statement_edits.proofs.Needed.{from_use}
+use Rattle.proto_statement_edits.specs.Steps.{IsFirstNeeded, IsNeededAtToken}
+use Rattle.proto_names.proofs.UsesOfFiles.{from_use}
 
 module _ (files : List FileOf) (reads : List ReadOf) (file path : List ℕ) where
   abbrev IsAbsent : Type 0

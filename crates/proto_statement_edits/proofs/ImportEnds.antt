@@ -27,49 +27,19 @@ or_place (Some i) n = suc i
 syntax_is : (n : ℕ) (e : LastEnds) (t : Tree) → last_from (or_place e.syntax n) (flat_map behind_syntax (statements t)) ≡ or_place (ends_in e t).syntax n
 syntax_is n e End = refl
 syntax_is n e (Leaf (statement.Syntax s) rest) = syntax_is n (with_statement e (statement.Syntax s)) rest
-syntax_is n e (Leaf (statement.Package p) rest) = syntax_is n (with_statement e (statement.Package p)) rest
-syntax_is n e (Leaf (statement.Import x) rest) = syntax_is n (with_statement e (statement.Import x)) rest
-syntax_is n e (Leaf (statement.Option o) rest) = syntax_is n e rest
-syntax_is n e (Leaf (statement.Field f) rest) = syntax_is n e rest
-syntax_is n e (Leaf (statement.MapField f) rest) = syntax_is n e rest
-syntax_is n e (Leaf (statement.Reserved r) rest) = syntax_is n e rest
-syntax_is n e (Leaf (statement.Extensions x) rest) = syntax_is n e rest
-syntax_is n e (Leaf (statement.Value v) rest) = syntax_is n e rest
-syntax_is n e (Leaf (statement.EnumReserved r) rest) = syntax_is n e rest
-syntax_is n e (Leaf (statement.Method s i) rest) = syntax_is n e rest
-syntax_is n e (Leaf (statement.Empty i) rest) = syntax_is n e rest
+syntax_is n e (Leaf whole rest) = syntax_is n (with_statement e whole) rest
 syntax_is n e (Block h i within j rest) = syntax_is n e rest
 
 package_is : (n : ℕ) (e : LastEnds) (t : Tree) → last_from (or_place e.packaged n) (flat_map behind_package (statements t)) ≡ or_place (ends_in e t).packaged n
 package_is n e End = refl
 package_is n e (Leaf (statement.Syntax s) rest) = package_is n (with_statement e (statement.Syntax s)) rest
-package_is n e (Leaf (statement.Package p) rest) = package_is n (with_statement e (statement.Package p)) rest
-package_is n e (Leaf (statement.Import x) rest) = package_is n (with_statement e (statement.Import x)) rest
-package_is n e (Leaf (statement.Option o) rest) = package_is n e rest
-package_is n e (Leaf (statement.Field f) rest) = package_is n e rest
-package_is n e (Leaf (statement.MapField f) rest) = package_is n e rest
-package_is n e (Leaf (statement.Reserved r) rest) = package_is n e rest
-package_is n e (Leaf (statement.Extensions x) rest) = package_is n e rest
-package_is n e (Leaf (statement.Value v) rest) = package_is n e rest
-package_is n e (Leaf (statement.EnumReserved r) rest) = package_is n e rest
-package_is n e (Leaf (statement.Method s i) rest) = package_is n e rest
-package_is n e (Leaf (statement.Empty i) rest) = package_is n e rest
+package_is n e (Leaf whole rest) = package_is n (with_statement e whole) rest
 package_is n e (Block h i within j rest) = package_is n e rest
 
 import_is : (n : ℕ) (e : LastEnds) (t : Tree) → last_from (or_place e.import n) (flat_map behind_import (statements t)) ≡ or_place (ends_in e t).import n
 import_is n e End = refl
 import_is n e (Leaf (statement.Syntax s) rest) = import_is n (with_statement e (statement.Syntax s)) rest
-import_is n e (Leaf (statement.Package p) rest) = import_is n (with_statement e (statement.Package p)) rest
-import_is n e (Leaf (statement.Import x) rest) = import_is n (with_statement e (statement.Import x)) rest
-import_is n e (Leaf (statement.Option o) rest) = import_is n e rest
-import_is n e (Leaf (statement.Field f) rest) = import_is n e rest
-import_is n e (Leaf (statement.MapField f) rest) = import_is n e rest
-import_is n e (Leaf (statement.Reserved r) rest) = import_is n e rest
-import_is n e (Leaf (statement.Extensions x) rest) = import_is n e rest
-import_is n e (Leaf (statement.Value v) rest) = import_is n e rest
-import_is n e (Leaf (statement.EnumReserved r) rest) = import_is n e rest
-import_is n e (Leaf (statement.Method s i) rest) = import_is n e rest
-import_is n e (Leaf (statement.Empty i) rest) = import_is n e rest
+import_is n e (Leaf whole rest) = import_is n (with_statement e whole) rest
 import_is n e (Block h i within j rest) = import_is n e rest
 
 chosen : (import packaged syntax : Option ℕ) → or_place import (or_place packaged (or_place syntax 0)) ≡ place_behind (or_else (or_else import packaged) syntax)

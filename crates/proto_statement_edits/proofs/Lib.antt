@@ -10,7 +10,6 @@ mod FieldThere
 mod FieldTrees
 mod ImportEnds
 mod ImportTrees
-mod ImportsAsked
 mod MoreOrLess
 mod NamedImports
 mod Needed

@@ -6,16 +6,15 @@ use Rattle.std.specs.List.{AllPairs, Contains}
 use Rattle.std.specs.Option.{option_and_then}
 use Rattle.std.proofs.lemmas.Bool.{both_ways, cases_Bool, cond-false, cond-true}
 use Rattle.std.proofs.lemmas.List.{get_or_default}
-use Rattle.std.proofs.lemmas.List.Elements.{Contains-append_cases, Contains-append_left, Contains-append_right}
 use Rattle.std.proofs.lemmas.Option.{none-some, same_Some}
 use Rattle.proto_case.specs.Camel.{entry_name}
 use Rattle.proto_faults.proofs.Lists.{contains_cases, contains_head, contains_later, contains_map, from_map}
 use Rattle.proto_files.specs.Faults.{HasNoFault}
-use Rattle.proto_files.specs.FilesRead.{ReadOf, AreRead, read_at}
+use Rattle.proto_files.specs.FilesRead.{ReadOf, AreRead}
 use Rattle.proto_files.specs.GivenFiles.{FileOf}
-use Rattle.proto_imports.specs.Links.{LinkFaults, link_skeleton, names_in, names_of_files, text_of}
+use Rattle.proto_imports.specs.Links.{LinkFaults, link_skeleton, names_of_files, text_of}
 use Rattle.proto_meaning.specs.Edits.{IsNeeded}
-use Rattle.proto_meaning.specs.Grown.{At, at, all_used, file_used, used_in}
+use Rattle.proto_meaning.specs.Grown.{At, at, used_in}
 use Rattle.proto_meaning.specs.Joined.{ArePlain, joined}
 use Rattle.proto_meaning.specs.Linked.{IsLinked, is_package}
 use Rattle.proto_meaning.specs.Marks.{MarksSeen}
@@ -32,6 +31,7 @@ use Rattle.proto_names.specs.Linking.{LinkOf, NameOf, file_at, name_at, own_file
 use Rattle.proto_names.specs.declared.references.Meant.{Meant}
 use Rattle.proto_captures.specs.Cases.{StandsBefore}
 use Rattle.proto_captures.proofs.NoLinkFault.{files_are_linked}
+use Rattle.proto_names.proofs.UsesOfFiles.{from_use, use_there}
 use Rattle.proto_imports.specs.Links.{used_named}
 use Rattle.proto_statement_names.specs.Cases.{IsNeededIn, with_dropped}
 use Rattle.proto_statement_edits.specs.Steps.{AreSeenIn, IsFirstNeeded, first_hidden, hidden_in, is_hidden}
@@ -83,31 +83,6 @@ named_at l row text h = by (name_at l row) refl
     by : (o : Option NameOf) → name_at l row ≡ o → (n : NameOf) × (name_at l row ≡ Some n) × (n.text ≡ text)
     by None e = absurd (none-some text (sym (ap (option_map (λ (n : NameOf). n.text)) e) ∙ h))
     by (Some n) e = (n, e, same_Some n.text text (sym (ap (option_map (λ (z : NameOf). z.text)) e) ∙ h))
-
--- ---- the file of a use
-
-pub from_use : (n : ℕ) (rs : List ReadOf) (u : Used At) → Contains (all_used n (map names_in rs)) u → (k : ℕ) × (v : Used ℕ) × (k < length rs) × Contains (names_in (read_at rs k)).used v × (used_in (n + k) v ≡ u)
-from_use n [] u c = absurd (omega (arith, c.1))
-from_use n (r ∷ rs) u c = elim (Contains-append_cases (file_used n (names_in r)) (all_used (suc n) (map names_in rs)) u c) [
-  | inl a ↦
-      let v = from_map (used_in n) (names_in r).used u a in
-      let e : n ≡ n + 0 = omega arith in
-      (0, v.0, omega arith, v.1, subst (λ m. used_in m v.0 ≡ u) e v.2)
-  | inr b ↦
-      let o = from_use (suc n) rs u b in
-      let l = o.2 in
-      let e : suc n + o.0 ≡ n + suc o.0 = omega arith in
-      (suc o.0, o.1, omega (arith, l), o.3, subst (λ m. used_in m o.1 ≡ u) e o.4)
-]
-
-pub use_there : (n : ℕ) (rs : List ReadOf) (k : ℕ) (u : Used ℕ) → k < length rs → Contains (names_in (read_at rs k)).used u → Contains (all_used n (map names_in rs)) (used_in (n + k) u)
-use_there n [] k u l c = absurd (omega (arith, l))
-use_there n (x ∷ rs) zero u l c =
-    let zero_is : n ≡ n + 0 = omega arith in
-    subst (λ m. Contains (all_used n (map names_in (x ∷ rs))) (used_in m u)) zero_is (Contains-append_left (file_used n (names_in x)) (all_used (suc n) (map names_in rs)) (used_in n u) (contains_map (used_in n) (names_in x).used u c))
-use_there n (x ∷ rs) (suc k) u l c =
-    let more : suc n + k ≡ n + suc k = omega arith in
-    subst (λ m. Contains (all_used n (map names_in (x ∷ rs))) (used_in m u)) more (Contains-append_right (file_used n (names_in x)) (all_used (suc n) (map names_in rs)) (used_in (suc n + k) u) (use_there (suc n) rs k u (omega (arith, l)) c))
 
 -- ---- one reference
 

@@ -3,13 +3,10 @@ use Rattle.std.specs.Prelude.{◌≡◌, ℕ, ◌<◌, Bool, false, not, List, [
 use Rattle.std.specs.Global.{Vec}
 use Rattle.std.specs.List.{All, find}
 use Rattle.proto_faults.specs.Texts.{Path}
-use Rattle.proto_text.specs.declared.lexer.Token.{Token}
-use Rattle.proto_text.specs.Texts.{offset_at}
-use Rattle.proto_text.specs.Tokens.{AreTokens}
 use Rattle.proto_files.specs.FilesRead.{ReadOf, AreRead}
-use Rattle.proto_files.specs.GivenFiles.{FileOf, file_at}
+use Rattle.proto_files.specs.GivenFiles.{FileOf}
 use Rattle.proto_entries.specs.declared.refusal.Refusal.{Refusal}
-use Rattle.proto_entries.specs.declared.refusal.Refusal.TheVariants.{Captured, Needed}
+use Rattle.proto_entries.specs.declared.refusal.Refusal.TheVariants.{Needed}
 use Rattle.proto_imports.specs.Importing.{all_imports}
 use Rattle.proto_imports.specs.Links.{link_imports}
 use Rattle.proto_imports.specs.declared.import.FileImport.{FileImport}
@@ -19,6 +16,7 @@ use Rattle.proto_meaning.specs.Names.{Workspace}
 use Rattle.proto_meaning.specs.Skeleton.{Used}
 use Rattle.proto_names.specs.Linking.{LinkOf, file_at as file_of_row}
 use Rattle.proto_names.specs.declared.link.RefId.{RefId}
+use Rattle.proto_captures.specs.CapturedPlaces.{StandsAtToken}
 use Rattle.proto_captures.specs.Cases.{StandsBefore}
 use Rattle.proto_statement_names.specs.Cases.{IsNeededIn}
 
@@ -57,18 +55,6 @@ IsFirstNeeded files reads k path (Some id) = (u : Used At)
     × IsNeededIn files reads k path u
     × (u.first ≡ at id.file id.token)
     × ((v : Used At) → IsNeededIn files reads k path v → StandsBefore v.first u.first → ⊥)
-
--- the place of the refusal: the path of the file, and where the token begins
-abbrev pub StandsAtToken : List FileOf → ℕ → ℕ → Path → ℕ → Type 0
-StandsAtToken files file token path offset = (path ≡ (file_at files file).path)
-    × ((tokens : List Token) → AreTokens (file_at files file).bytes tokens
-    → offset ≡ offset_at tokens token)
-
--- the refusal is of a captured reference, and has the place of this token
-abbrev pub IsCapturedAt : List FileOf → ℕ → ℕ → Refusal → Type 0
-IsCapturedAt files file token (Captured path offset) =
-    StandsAtToken files file token (string_bytes path) offset
-IsCapturedAt files file token _ = ⊥
 
 -- the refusal is of a reference that needs the import, and has the place of this token
 abbrev pub IsNeededAtToken : List FileOf → ℕ → ℕ → Refusal → Type 0

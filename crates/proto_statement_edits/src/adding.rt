@@ -1,15 +1,16 @@
 //! An import added to a file.
 
-ghost use Rattle.std.specs.Prelude.{◌≡◌, ◌<◌, ℕ, length, map, is_some, IfOk, IfErr, string_bytes};
+ghost use Rattle.std.specs.Prelude.{◌≡◌, ◌<◌, ℕ, List, map, is_some, IfOk, IfErr, string_bytes};
 ghost use Rattle.proto_entries.specs.Entries.{change_of};
 ghost use Rattle.proto_files.specs.Faults.{HasNoFault};
+ghost use Rattle.proto_files.specs.FilesRead.{AreRead, ReadOf};
 ghost use Rattle.proto_imports.specs.Links.{LinkFaults};
 ghost use Rattle.proto_names.specs.LinkOfFiles.{IsLinkOf};
 ghost use Rattle.proto_statement_edits.specs.Edits.{IsAdded, IsAdditionCase, IsAdditionRefusal};
-ghost use Rattle.proto_statement_edits.specs.Steps.{IsCapturedAt};
 ghost use Rattle.proto_statement_names.specs.Cases.{IsPlaceOf};
 ghost use Rattle.proto_statement_laws.specs.Imports.{added_text};
 ghost use Rattle.proto_statement_edits.specs.ImportPlaces.{place_behind};
+ghost use Rattle.proto_statement_edits.specs.Spliced.{IsChangeOfAddition};
 
 use crate::import_places::end_before_import;
 use crate::imported::import_named;
@@ -18,26 +19,14 @@ use crate::leading::leads;
 use crate::only::only;
 use crate::paths::Paths;
 use crate::splicing::spliced;
-use proto_captures::first_overtaken;
+use proto_captures::{captured, first_overtaken};
 use proto_entries::{Change, Refusal};
 use proto_faults::NoMemory;
-use proto_files::{Files, are_read, file_named, offset_of};
+use proto_files::{Files, are_read, file_named};
 use proto_names::Link;
 use proto_statement_laws::laws::additions_are_read;
 use proto_text::Span;
 use std::alloc::Global;
-
-/// The refusal for an overtaken reference, with its place.
-fn captured(alloc: Global, files: &Files, file: u32, token: u32) -> Result<Refusal, NoMemory>
-    requires { file < length files.now }
-    ensures { IfOk result (IsCapturedAt files.now file token) }
-{
-    let place = file as usize;
-    Ok(Refusal::Captured {
-        path: files.path(place).to_string(alloc)?,
-        offset: offset_of(files.tokens(place), token),
-    })
-}
 
 /// Case 7: no reference of the file is overtaken. (The cases before it do not concern imports.)
 fn check_captured(
@@ -104,17 +93,17 @@ fn text_of(alloc: Global, end: Option<u32>, path: &str) -> Result<String, NoMemo
     Ok(text)
 }
 
-/// What the import changes, and case 16.
-fn changed(alloc: Global, files: &Files, paths: Paths, file: u32) -> Result<Vec<Change>, Refusal>
-    requires file { IsPlaceOf files.now paths.file.now file }
-    requires before { (n : ℕ) → n < 15 → IsAdditionCase files.now paths.file.now paths.path.now n
-        → ⊥ }
-    ensures ok { IfOk result (λ cs. IsAdded files.now paths.entry.file.now paths.entry.path.now
-        (map change_of cs.items)) }
-    ensures err { IfErr result
-        (IsAdditionRefusal files.now paths.entry.file.now paths.entry.path.now) }
+/// The change of the file that imports the path; none where it would be too large.
+fn change_of_file(
+    alloc: Global,
+    files: &Files,
+    paths: Paths,
+    file: u32,
+) -> Result<Option<Change>, NoMemory>
+    requires { IsPlaceOf files.now paths.file.now file }
+    ensures { IfOk result (λ found. (reads : List ReadOf) → AreRead files.now reads
+        → IsChangeOfAddition files.now reads file paths.entry.path.now found) }
 {
-    are_read(files);
     additions_are_read();
     let place = file as usize;
     // A text is UTF-8.
@@ -126,7 +115,21 @@ fn changed(alloc: Global, files: &Files, paths: Paths, file: u32) -> Result<Vec<
     };
     let text = text_of(alloc, end, paths.path)?;
     let span = Span { start: at, end: at };
-    match spliced(alloc, files, file, span, text.as_str())? {
+    spliced(alloc, files, file, span, text.as_str())
+}
+
+/// What the import changes, and case 16.
+fn changed(alloc: Global, files: &Files, paths: Paths, file: u32) -> Result<Vec<Change>, Refusal>
+    requires file { IsPlaceOf files.now paths.file.now file }
+    requires before { (n : ℕ) → n < 15 → IsAdditionCase files.now paths.file.now paths.path.now n
+        → ⊥ }
+    ensures ok { IfOk result (λ cs. IsAdded files.now paths.entry.file.now paths.entry.path.now
+        (map change_of cs.items)) }
+    ensures err { IfErr result
+        (IsAdditionRefusal files.now paths.entry.file.now paths.entry.path.now) }
+{
+    are_read(files);
+    match change_of_file(alloc, files, paths, file)? {
         Some(change) => Ok(only(alloc, change)?),
         None => Err(Refusal::TooLarge),
     }

@@ -14,6 +14,7 @@ ghost use Rattle.proto_text.specs.Texts.{offset_at};
 ghost use Rattle.proto_text.specs.Tokens.{AreTokens};
 ghost use Rattle.proto_text.specs.declared.lexer.Token.{Token};
 ghost use Rattle.proto_statement_laws.specs.Statements.{reservation_text};
+ghost use Rattle.proto_statement_edits.specs.Spliced.{IsChangeOfDeletion};
 
 use crate::alone::is_alone;
 use crate::fields::{FieldPlace, field_at};
@@ -133,6 +134,31 @@ fn span_of(files: &Files, file: u32, place: FieldPlace) -> Span
     }
 }
 
+/// The change of the file that has the field; none where it would be too large.
+fn change_of_file(
+    alloc: Global,
+    files: &Files,
+    name: &str,
+    field: FieldName,
+    place: FieldPlace,
+) -> Result<Option<Change>, NoMemory>
+    requires small { HaveSmallNumbers files.now }
+    requires field { (reads : List ReadOf) → AreRead files.now reads
+        → IsFieldToken files.now reads name.now field }
+    requires place { (reads : List ReadOf) → AreRead files.now reads
+        → IsPlaceOfField files.now reads field place }
+    ensures { IfOk result (λ found. (reads : List ReadOf) → AreRead files.now reads
+        → IsChangeOfDeletion files.now reads name.now found) }
+{
+    are_read(files);
+    let words = Words::new(files, field.file as usize);
+    let number = number_of(words.get(place.number)) as u64;
+    let reservation = reservation(alloc, number, words.get(field.token))?;
+    let text = text_of(alloc, files, field.file, place, reservation.as_str())?;
+    let span = span_of(files, field.file, place);
+    spliced(alloc, files, field.file, span, text.as_str())
+}
+
 /// What the deletion changes, and case 16.
 fn changed(
     alloc: Global,
@@ -153,12 +179,7 @@ fn changed(
 {
     are_read(files);
     fields_are_one();
-    let words = Words::new(files, field.file as usize);
-    let number = number_of(words.get(place.number)) as u64;
-    let reservation = reservation(alloc, number, words.get(field.token))?;
-    let text = text_of(alloc, files, field.file, place, reservation.as_str())?;
-    let span = span_of(files, field.file, place);
-    match spliced(alloc, files, field.file, span, text.as_str())? {
+    match change_of_file(alloc, files, name, field, place)? {
         Some(change) => Ok(only(alloc, change)?),
         None => Err(Refusal::TooLarge),
     }

@@ -1,37 +1,18 @@
 //! The imports of linked files, with one more or one less, and what is seen then.
 
-ghost use Rattle.std.specs.Prelude.{◌≡◌, ◌<◌, ℕ, List, length, map, filter, not, ◌==◌, IfOk};
-ghost use Rattle.std.specs.List.{All};
+ghost use Rattle.std.specs.Prelude.{◌≡◌, ◌<◌, ℕ, List, length, filter, not, ◌==◌, IfOk};
 ghost use Rattle.proto_files.specs.Faults.{HasNoFault};
 ghost use Rattle.proto_files.specs.FilesRead.{ReadOf, AreRead};
-ghost use Rattle.proto_imports.specs.Importing.{AreRising, all_asked};
-ghost use Rattle.proto_imports.specs.Links.{LinkFaults, all_wanted, text_of};
+ghost use Rattle.proto_imports.specs.Links.{LinkFaults};
 ghost use Rattle.proto_statement_edits.specs.Steps.{AreImportsOf, AreSeenIn};
 ghost use Rattle.proto_statement_names.specs.Cases.{IsPlaceOf, with_added, with_dropped};
 
 use proto_faults::NoMemory;
-use proto_files::{Files, Words, all_paths, are_read};
-use proto_imports::import::{FileImport, ImportError, WrittenImport, resolve_imports};
+use proto_files::{Files, all_paths, are_read};
+use proto_imports::import::{FileImport, ImportError, resolve_imports};
 use proto_imports::sight::all_seen;
-use proto_imports::written::written;
-use proto_listing::wanted::imports;
+use proto_names::all_written;
 use std::alloc::Global;
-
-/// The imports of each file with their paths.
-fn all_written(alloc: Global, files: &Files) -> Result<Vec<Vec<WrittenImport>>, NoMemory>
-    ensures len { IfOk result (λ ws. length ws.items ≡ length files.now) }
-    ensures rising { IfOk result (λ ws. All (λ v. AreRising v.items) ws.items) }
-    ensures asked { IfOk result (λ ws. (reads : List ReadOf) → AreRead files.now reads → all_asked 0
-        (map (λ v. v.items) ws.items) ≡ all_wanted (text_of files.now reads) 0 reads) }
-{
-    let mut all = Vec::new(alloc);
-    for file in 0..files.len() {
-        let words = Words::new(files, file);
-        let wanted = imports(alloc, files.tree(file))?;
-        all.push(written(alloc, &words, &wanted)?)?;
-    }
-    Ok(all)
-}
 
 /// The imports of each file, by the numbers of the files that they name.
 pub(crate) fn linked_imports(alloc: Global, files: &Files) -> Result<Vec<Vec<FileImport>>, NoMemory>

@@ -1,87 +1,23 @@
-use Rattle.std.proofs.Common.{◌≡◌, ◌<◌, length, Some, refl, sym, ◌∙◌, ap, arith, subst}
-use Rattle.std.specs.Str.{IsCharBoundary, IsUtf8}
-use Rattle.std.proofs.lemmas.Str.{IsCharBoundary-start}
-use Rattle.proto_text.specs.declared.kind.TokenKind.TheVariants.{Word}
-use Rattle.proto_text.specs.declared.lexer.Token.{Token}
-use Rattle.proto_text.specs.Edits.{Edit}
-use Rattle.proto_text.specs.Segments.{end_before}
-use Rattle.proto_text.proofs.Once.{one_token_list}
-use Rattle.proto_tree.specs.File.{tree_of_file}
-use Rattle.proto_files.specs.FilesRead.{read_at}
+use Rattle.std.proofs.Common.{refl, subst}
 use Rattle.proto_files.specs.GivenFiles.{file_at}
-use Rattle.proto_files.proofs.OneReading.{same_tree}
-use Rattle.proto_statement_laws.specs.Deletions.{splice}
 use Rattle.proto_statement_changes.specs.ImportChanges.{splice_of_addition}
-use Rattle.proto_statement_changes.specs.OneFile.{IsTooLong}
-use Rattle.proto_statement_edits.specs.ImportPlaces.{behind_all, ends_of, place_behind}
-use Rattle.proto_statement_edits.specs.Spliced.{IsSpliced}
-use Rattle.proto_statement_edits.proofs.AddedPlace.{addition_is, empty_span, place_by, place_inside, place_of_some}
+use Rattle.proto_statement_edits.specs.Spliced.{IsChangeOfAddition}
 use Rattle.proto_statement_edits.proofs.Additions.{free_16, refused_16}
-use Rattle.proto_statement_edits.proofs.MoreOrLess.{place_within}
 use Rattle.proto_statement_edits.proofs.Spliced.{changes_are, not_long}
 use Rattle.proto_statement_edits.proofs.adding.changed.Goals as goal
-use Rattle.proto_statement_edits.proofs.adding.changed.Goals.{in-Some, in-None}
 
-pub bounds-tokens-token : goal.bounds-tokens-token
-bounds-tokens-token c =
-    let files = c.args.files.now in
-    let file = c.args.file in
-    let within = place_within files c.args.paths.file.now file c.requires.file in
-    let bytes = (file_at files file).bytes in
-    let ts = c.tokens.result.now in
-    let tree = tree_of_file c.tree.result.now in
-    let inside = place_inside c.additions_are_read.ensures bytes ts tree (c.tree.ensures ts c.tokens.ensures.tokens) in
-    let place = place_by tree (Some c.in-Some.token) c.in-Some.ensures in
-    omega (arith, inside, place)
-
-pub spliced-requires-clause-span : goal.spliced-requires-clause-span
-spliced-requires-clause-span c =
-    let files = c.args.files.now in
-    let file = c.args.file in
-    let bytes = (file_at files file).bytes in
-    let tree = tree_of_file c.tree.result.now in
-    let d : Token = record { kind = Word; span = record { start = 0; end = 0 } } in
-    elim c.match-end.branch [
-      | in-Some w ↦
-          let inside = place_inside c.additions_are_read.ensures bytes w.tokens.result.now tree (c.tree.ensures w.tokens.result.now w.tokens.ensures.tokens) in
-          let behind = place_by tree (Some w.in-Some.token) w.in-Some.ensures in
-          let l : w.in-Some.token < length w.tokens.result.now = omega (arith, inside, behind) in
-          empty_span bytes (record { start = c.match-end.at; end = c.match-end.at }) refl (subst (IsCharBoundary bytes) (sym w.at-is) (w.tokens.ensures.spans w.in-Some.token d l).ends)
-      | in-None w ↦
-          let utf8 = subst IsUtf8 (c.as_bytes.ensures.value ∙ c.source.ensures) c.as_bytes.ensures.utf8 in
-          empty_span bytes (record { start = c.match-end.at; end = c.match-end.at }) refl (subst (IsCharBoundary bytes) (sym w.at-is) (IsCharBoundary-start bytes utf8))
-    ]
-
-pub returns-in-Some-2-clause-ok : goal.returns-in-Some-2-clause-ok
-returns-in-Some-2-clause-ok c =
+pub returns-in-Some-clause-ok : goal.returns-in-Some-clause-ok
+returns-in-Some-clause-ok c =
     let files = c.args.files.now in
     let file = c.args.file in
     let path = c.args.paths.path.now in
     let reads = c.are_read.ensures.0 in
     let are = c.are_read.ensures.1 in
-    let bytes = (file_at files file).bytes in
-    let rest = (read_at reads file).tokens in
-    let within = place_within files c.args.paths.file.now file c.requires.file in
-    let tree = tree_of_file c.tree.result.now in
-    let d : Token = record { kind = Word; span = record { start = 0; end = 0 } } in
-    let by : c.match-end.end ≡ behind_all (ends_of tree) = elim c.match-end.branch [ in-Some w ↦ w.end-is ∙ sym w.in-Some.is ∙ c.end_before_import-end.ensures | in-None w ↦ w.end-is ∙ c.end_before_import-end.ensures ] in
-    let place : c.match-end.at ≡ end_before rest (place_behind c.match-end.end) =
-    elim c.match-end.branch [
-      | in-Some w ↦
-          let inside = place_inside c.additions_are_read.ensures bytes w.tokens.result.now tree (c.tree.ensures w.tokens.result.now w.tokens.ensures.tokens) in
-          let behind = place_by tree (Some w.in-Some.token) w.in-Some.ensures in
-          let l : w.in-Some.token < length w.tokens.result.now = omega (arith, inside, behind) in
-          place_of_some rest w.tokens.result.now (one_token_list bytes rest w.tokens.result.now (are.tokens file within) w.tokens.ensures.tokens) w.in-Some.token d c.match-end.at l w.at-is
-          ∙ ap (λ o. end_before rest (place_behind o)) (sym w.end-is)
-      | in-None w ↦ w.at-is ∙ ap (λ o. end_before rest (place_behind o)) (sym w.in-None.is ∙ sym w.end-is)
-    ] in
-    let e : Edit = splice bytes c.match-end.at c.match-end.at c.as_str.result.now in
-    let same = same_tree files reads file tree are within c.tree.ensures in
-    let is : e ≡ splice_of_addition files reads file path = addition_is files reads file path tree same c.match-end.end by c.match-end.at c.as_str.result.now place (c.as_str.ensures.value ∙ c.in_ok-text.ensures) in
-    let spliced = subst (IsSpliced (file_at files file) e) c.in-Some-2.is c.in_ok-change.ensures in
+    let e = splice_of_addition files reads file path in
+    let spliced = subst (IsChangeOfAddition files reads file path) c.in-Some.is (c.in_ok-change.ensures reads are) in
     record {
-      admissible = free_16 files reads are c.args.paths.file.now path file c.requires.file c.requires.before (not_long (file_at files file) e (splice_of_addition files reads file path) c.in-Some-2.change is spliced);
-      changes = (reads, are, (file, c.requires.file, changes_are (file_at files file) e (splice_of_addition files reads file path) c.in-Some-2.change c.in_ok-only-in-Some-2.field-0.items is spliced c.in_ok-only-in-Some-2.ensures));
+      admissible = free_16 files reads are c.args.paths.file.now path file c.requires.file c.requires.before (not_long (file_at files file) e e c.in-Some.change refl spliced);
+      changes = (reads, are, (file, c.requires.file, changes_are (file_at files file) e e c.in-Some.change c.in_ok-only-in-Some.field-0.items refl spliced c.in_ok-only-in-Some.ensures));
     }
 
 pub returns-clause-err : goal.returns-clause-err
@@ -91,23 +27,4 @@ returns-clause-err c =
     let path = c.args.paths.path.now in
     let reads = c.are_read.ensures.0 in
     let are = c.are_read.ensures.1 in
-    let bytes = (file_at files file).bytes in
-    let rest = (read_at reads file).tokens in
-    let within = place_within files c.args.paths.file.now file c.requires.file in
-    let tree = tree_of_file c.tree.result.now in
-    let d : Token = record { kind = Word; span = record { start = 0; end = 0 } } in
-    let by : c.match-end.end ≡ behind_all (ends_of tree) = elim c.match-end.branch [ in-Some w ↦ w.end-is ∙ sym w.in-Some.is ∙ c.end_before_import-end.ensures | in-None w ↦ w.end-is ∙ c.end_before_import-end.ensures ] in
-    let place : c.match-end.at ≡ end_before rest (place_behind c.match-end.end) =
-    elim c.match-end.branch [
-      | in-Some w ↦
-          let inside = place_inside c.additions_are_read.ensures bytes w.tokens.result.now tree (c.tree.ensures w.tokens.result.now w.tokens.ensures.tokens) in
-          let behind = place_by tree (Some w.in-Some.token) w.in-Some.ensures in
-          let l : w.in-Some.token < length w.tokens.result.now = omega (arith, inside, behind) in
-          place_of_some rest w.tokens.result.now (one_token_list bytes rest w.tokens.result.now (are.tokens file within) w.tokens.ensures.tokens) w.in-Some.token d c.match-end.at l w.at-is
-          ∙ ap (λ o. end_before rest (place_behind o)) (sym w.end-is)
-      | in-None w ↦ w.at-is ∙ ap (λ o. end_before rest (place_behind o)) (sym w.in-None.is ∙ sym w.end-is)
-    ] in
-    let e : Edit = splice bytes c.match-end.at c.match-end.at c.as_str.result.now in
-    let same = same_tree files reads file tree are within c.tree.ensures in
-    let is : e ≡ splice_of_addition files reads file path = addition_is files reads file path tree same c.match-end.end by c.match-end.at c.as_str.result.now place (c.as_str.ensures.value ∙ c.in_ok-text.ensures) in
-    refused_16 files reads are c.args.paths.file.now path file c.requires.file c.requires.before (subst (IsTooLong (file_at files file)) is (subst (IsSpliced (file_at files file) e) c.in-None-2.is c.in_ok-change.ensures))
+    refused_16 files reads are c.args.paths.file.now path file c.requires.file c.requires.before (subst (IsChangeOfAddition files reads file path) c.in-None.is (c.in_ok-change.ensures reads are))

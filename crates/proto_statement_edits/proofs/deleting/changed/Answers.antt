@@ -1,70 +1,10 @@
-use Rattle.std.proofs.Common.{◌≡◌, ◌≤◌, min, ap, subst, ◌∙◌, arith}
-use Rattle.proto_text.specs.declared.kind.TokenKind.TheVariants.{Word}
-use Rattle.proto_text.specs.Edits.{Edit}
-use Rattle.proto_text.specs.Texts.{word_at}
-use Rattle.proto_files.specs.FilesRead.{read_at}
+use Rattle.std.proofs.Common.{refl, subst}
 use Rattle.proto_files.specs.GivenFiles.{file_at}
-use Rattle.proto_parts.specs.Numbers.{past}
-use Rattle.proto_statement_laws.specs.Deletions.{splice}
-use Rattle.proto_statement_changes.specs.DeletionChanges.{number_of_field, splice_of_deletion}
-use Rattle.proto_statement_changes.specs.OneFile.{IsTooLong}
-use Rattle.proto_statement_edits.specs.Spliced.{IsSpliced}
-use Rattle.proto_statement_edits.specs.Fields.{last_of, text_by}
-use Rattle.proto_statement_edits.proofs.FieldCases.{file_there, free_16, refused_16}
-use Rattle.proto_statement_edits.proofs.FieldThere.{deleted_is, field_at, in_order, is_field_at, is_named, min_past, number_told}
+use Rattle.proto_statement_changes.specs.DeletionChanges.{splice_of_deletion}
+use Rattle.proto_statement_edits.specs.Spliced.{IsChangeOfDeletion}
+use Rattle.proto_statement_edits.proofs.FieldCases.{free_16, refused_16}
 use Rattle.proto_statement_edits.proofs.Spliced.{changes_are, not_long}
-use Rattle.proto_statement_edits.proofs.TokenSpans.{spans_told}
 use Rattle.proto_statement_edits.proofs.deleting.changed.Goals as goal
-
-pub overflow_cast-number : goal.overflow_cast-number
-overflow_cast-number c =
-    let files = c.args.files.now in
-    let reads = c.are_read.ensures.0 in
-    let are = c.are_read.ensures.1 in
-    let name = c.args.name.now in
-    let field = c.args.field in
-    let place = c.args.place in
-    let is = c.requires.field reads are in
-    let found = c.requires.place reads are in
-    let within = file_there files reads are name field is in
-    let rest = (read_at reads field.file).tokens in
-    let tokens = are.tokens field.file within in
-    let f = field_at files reads are name field is place found in
-    let lexemes = c.new-words.ensures.words rest tokens in
-    let small = c.requires.small reads are f (is_field_at files reads are name field is place found) in
-    let value = number_told files reads are name field is place found c.new-words.result lexemes c.get.result.now c.get.ensures in
-    let number : c.number_of-number.result ≡ number_of_field files reads f = c.number_of-number.ensures ∙ ap (min past) value ∙ min_past (number_of_field files reads f) small in
-    omega (arith, number, small)
-
-pub text_of-requires-clause-within : goal.text_of-requires-clause-within
-text_of-requires-clause-within c =
-    let reads = c.are_read.ensures.0 in
-    let are = c.are_read.ensures.1 in
-    in_order c.args.files.now reads are c.args.name.now c.args.field (c.requires.field reads are) c.args.place (c.requires.place reads are)
-
-pub span_of-span-requires-clause-within : goal.span_of-span-requires-clause-within
-span_of-span-requires-clause-within c =
-    let reads = c.are_read.ensures.0 in
-    let are = c.are_read.ensures.1 in
-    in_order c.args.files.now reads are c.args.name.now c.args.field (c.requires.field reads are) c.args.place (c.requires.place reads are)
-
-pub spliced-requires-clause-span : goal.spliced-requires-clause-span
-spliced-requires-clause-span c =
-    let files = c.args.files.now in
-    let reads = c.are_read.ensures.0 in
-    let are = c.are_read.ensures.1 in
-    let name = c.args.name.now in
-    let field = c.args.field in
-    let place = c.args.place in
-    let is = c.requires.field reads are in
-    let within = file_there files reads are name field is in
-    let order = in_order files reads are name field is place (c.requires.place reads are) in
-    let rest = (read_at reads field.file).tokens in
-    let told = c.span_of-span.ensures rest (are.tokens field.file within) in
-    let low = order.0 in
-    let high = order.1 in
-    let le : place.first ≤ last_of place = omega (arith, low, high) in
-    spans_told (file_at files field.file).bytes rest (are.tokens field.file within) place.first (last_of place) (record { kind = Word; span = record { start = 0; end = 0 } }) le (order.2 rest (are.tokens field.file within)) c.span_of-span.result told.0 told.1
 
 pub returns-in-Some-clause-ok : goal.returns-in-Some-clause-ok
 returns-in-Some-clause-ok c =
@@ -72,30 +12,11 @@ returns-in-Some-clause-ok c =
     let reads = c.are_read.ensures.0 in
     let are = c.are_read.ensures.1 in
     let name = c.args.name.now in
-    let field = c.args.field in
-    let place = c.args.place in
-    let is = c.requires.field reads are in
-    let found = c.requires.place reads are in
-    let within = file_there files reads are name field is in
-    let rest = (read_at reads field.file).tokens in
-    let tokens = are.tokens field.file within in
-    let f = field_at files reads are name field is place found in
-    let lexemes = c.new-words.ensures.words rest tokens in
-    let small = c.requires.small reads are f (is_field_at files reads are name field is place found) in
-    let value = number_told files reads are name field is place found c.new-words.result lexemes c.get.result.now c.get.ensures in
-    let number : c.number_of-number.result ≡ number_of_field files reads f = c.number_of-number.ensures ∙ ap (min past) value ∙ min_past (number_of_field files reads f) small in
-    let named = is_named files reads are name field is place found in
-    let bytes = (file_at files field.file).bytes in
-    let told = c.span_of-span.ensures rest tokens in
-    let reserved = c.as_str.ensures.value ∙ c.in_ok-reservation.ensures in
-    let text = c.as_str-2.ensures.value ∙ c.in_ok-text.ensures rest tokens ∙ ap (text_by bytes rest place) reserved in
-    let word = c.get-2.ensures ∙ ap (λ z. word_at z field.token) lexemes in
-    let e : Edit = splice bytes c.span_of-span.result.start c.span_of-span.result.end c.as_str-2.result.now in
-    let same : e ≡ splice_of_deletion files reads f = deleted_is files reads are name field is place found c.span_of-span.result.start c.span_of-span.result.end c.as_str-2.result.now c.number_of-number.result c.get-2.result.now number word told.0 told.1 text in
-    let spliced = subst (IsSpliced (file_at files field.file) e) c.in-Some.is c.in_ok-change.ensures in
+    let x = subst (IsChangeOfDeletion files reads name) c.in-Some.is (c.in_ok-change.ensures reads are) in
+    let e = splice_of_deletion files reads x.0 in
     record {
-      admissible = free_16 files reads are name field is c.fields_are_one.ensures.one c.requires.linked c.requires.before f named (not_long (file_at files field.file) e (splice_of_deletion files reads f) c.in-Some.change same spliced);
-      changes = (reads, are, (f, named, changes_are (file_at files field.file) e (splice_of_deletion files reads f) c.in-Some.change c.in_ok-only-in-Some.field-0.items same spliced c.in_ok-only-in-Some.ensures));
+      admissible = free_16 files reads are name c.args.field (c.requires.field reads are) c.fields_are_one.ensures.one c.requires.linked c.requires.before x.0 x.1 (not_long (file_at files x.0.file) e e c.in-Some.change refl x.2);
+      changes = (reads, are, (x.0, x.1, changes_are (file_at files x.0.file) e e c.in-Some.change c.in_ok-only-in-Some.field-0.items refl x.2 c.in_ok-only-in-Some.ensures));
     }
 
 pub returns-clause-err : goal.returns-clause-err
@@ -104,24 +25,5 @@ returns-clause-err c =
     let reads = c.are_read.ensures.0 in
     let are = c.are_read.ensures.1 in
     let name = c.args.name.now in
-    let field = c.args.field in
-    let place = c.args.place in
-    let is = c.requires.field reads are in
-    let found = c.requires.place reads are in
-    let within = file_there files reads are name field is in
-    let rest = (read_at reads field.file).tokens in
-    let tokens = are.tokens field.file within in
-    let f = field_at files reads are name field is place found in
-    let lexemes = c.new-words.ensures.words rest tokens in
-    let small = c.requires.small reads are f (is_field_at files reads are name field is place found) in
-    let value = number_told files reads are name field is place found c.new-words.result lexemes c.get.result.now c.get.ensures in
-    let number : c.number_of-number.result ≡ number_of_field files reads f = c.number_of-number.ensures ∙ ap (min past) value ∙ min_past (number_of_field files reads f) small in
-    let named = is_named files reads are name field is place found in
-    let bytes = (file_at files field.file).bytes in
-    let told = c.span_of-span.ensures rest tokens in
-    let reserved = c.as_str.ensures.value ∙ c.in_ok-reservation.ensures in
-    let text = c.as_str-2.ensures.value ∙ c.in_ok-text.ensures rest tokens ∙ ap (text_by bytes rest place) reserved in
-    let word = c.get-2.ensures ∙ ap (λ z. word_at z field.token) lexemes in
-    let e : Edit = splice bytes c.span_of-span.result.start c.span_of-span.result.end c.as_str-2.result.now in
-    let same : e ≡ splice_of_deletion files reads f = deleted_is files reads are name field is place found c.span_of-span.result.start c.span_of-span.result.end c.as_str-2.result.now c.number_of-number.result c.get-2.result.now number word told.0 told.1 text in
-    refused_16 files reads are name field is c.requires.before f named (subst (IsTooLong (file_at files field.file)) same (subst (IsSpliced (file_at files field.file) e) c.in-None.is c.in_ok-change.ensures))
+    let x = subst (IsChangeOfDeletion files reads name) c.in-None.is (c.in_ok-change.ensures reads are) in
+    refused_16 files reads are name c.args.field (c.requires.field reads are) c.requires.before x.0 x.1 x.2
