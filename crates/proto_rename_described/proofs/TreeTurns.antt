@@ -4,19 +4,20 @@ use Rattle.std.specs.List.{Contains}
 use Rattle.std.proofs.lemmas.List.Elements.{Contains-append_cases, Contains-append_left, Contains-append_right}
 use Rattle.proto_case.specs.Camel.{entry_name}
 use Rattle.proto_faults.proofs.Lists.{contains_cases, contains_head, contains_later, contains_map}
-use Rattle.proto_tree.specs.declared.context.Kind.{Kind}
 use Rattle.proto_tree.specs.declared.context.Context.{Context}
 use Rattle.proto_tree.specs.declared.piece.Header.{Header}
 use Rattle.proto_tree.specs.declared.piece.Heading.{Heading}
 use Rattle.proto_tree.specs.declared.tree.Constant.{Constant}
 use Rattle.proto_tree.specs.declared.tree.MapField.{MapField}
 use Rattle.proto_tree.specs.declared.tree.Value.{Value as EnumValue}
-use Rattle.proto_tree.specs.Tree.{Tree, End, Leaf, Block, IsWellFormed, after, allows, statement_kind}
+use Rattle.proto_tree.specs.Tree.{Tree, End, Leaf, Block, IsWellFormed, after, statement_kind}
+use Rattle.proto_tree.specs.Answer.{IsOuter}
 use Rattle.proto_tree.specs.References.{dotted}
 use Rattle.proto_tree.specs.declared.context.Kind.TheVariants as kind
 use Rattle.proto_tree.specs.declared.context.Context.TheVariants as context
 use Rattle.proto_tree.specs.declared.piece.Header.TheVariants as header
 use Rattle.proto_tree.specs.declared.piece.Statement.TheVariants as statement
+use Rattle.proto_tree.proofs.Walks.{last_outer}
 use Rattle.proto_meaning.specs.Edits.{Renaming}
 use Rattle.proto_meaning.specs.Joined.{ArePlain}
 use Rattle.proto_meaning.specs.declared.kind.Kind.TheVariants.{Message, Entry, Enum, Service, Field, EntryField, Oneof, Value, Method}
@@ -28,6 +29,8 @@ use Rattle.proto_parts.specs.Options.{value_named}
 use Rattle.proto_parts.specs.Parts.{BlockOf, FieldOf, blocks_in, fields_from, fields_in, map_field as field_of_map, options_in, plain_field, statement_fields, statements, values_in}
 use Rattle.proto_parts.specs.Scenes.{Scene, text, value}
 use Rattle.proto_checks_laws.specs.Renamed.{DifferInNames, asked_tokens, block_tokens, field_tokens, header_tokens, option_tokens}
+use Rattle.proto_checks_laws.proofs.Declarations.{oneof_field}
+use Rattle.proto_checks_laws.proofs.Outermost.{no_map_field, no_oneof}
 use Rattle.proto_described.specs.Described.{default_text, field_type_name}
 use Rattle.proto_rename_laws.proofs.Places.{to_flat_map}
 use Rattle.proto_rename_described.specs.Mapped.{Taken, dotted as behind_dots, mapped_default}
@@ -41,16 +44,6 @@ abbrev pub block_of : Header → Tree → BlockOf
 block_of h within = record { header = h; within = within }
 
 -- ---- what is declared of fields and values
-
-oneof_field : (o : Option ℕ) (t : Tree) → IsWellFormed context.Oneof t → (f : FieldOf) → Contains (flat_map (statement_fields o) (statements t)) f → Contains (picked field_names no_names t) f.name × (f.map_key ≡ None)
-oneof_field o End w f c = absurd (omega (arith, c.1))
-oneof_field o (Leaf (statement.Field g) rest) w f c = elim (contains_cases (plain_field o g) f (flat_map (statement_fields o) (statements rest)) c) [
-  | inl q ↦ subst (λ (z : FieldOf). Contains (g.name ∷ picked field_names no_names rest) z.name × (z.map_key ≡ None)) q (contains_head g.name (picked field_names no_names rest), refl)
-  | inr d ↦ let r = oneof_field o rest w.1 f d in (contains_later g.name f.name (picked field_names no_names rest) r.0, r.1)
-]
-oneof_field o (Leaf (statement.MapField g) rest) w f c = absurd (no w.0)
-oneof_field o (Leaf _ rest) w f c = oneof_field o rest w.1 f c
-oneof_field o (Block h opens within closes rest) w f c = oneof_field o rest w.2 f c
 
 value_declared : (t : Tree) (v : EnumValue) → Contains (values_in t) v → Contains (picked value_names no_names t) v.name
 value_declared End v c = absurd (omega (arith, c.1))
@@ -107,50 +100,6 @@ map_field_there n (Leaf s rest) f c = elim (contains_cases s (statement.MapField
 map_field_there n (Block (header.Oneof h) opens within closes rest) f c =
     Contains-append_right (flat_map (statement_fields (Some n)) (statements within)) (fields_from (suc n) rest) (field_of_map f) (map_field_there (suc n) rest f c)
 map_field_there n (Block whole opens within closes rest) f c = map_field_there n rest f c
-
--- ---- where items of a file stand
-
-abbrev Outer : Context → Type 0
-Outer context.Start = Unit {0}
-Outer context.File = Unit {0}
-Outer context.Packaged = Unit {0}
-Outer context.Message = ⊥
-Outer context.Oneof = ⊥
-Outer context.Enum = ⊥
-Outer context.Service = ⊥
-Outer context.Method = ⊥
-
-outer_after : (c : Context) (k : Kind) → Outer c → Outer (after c k)
-outer_after context.Start kind.Package o = tt
-outer_after context.Start _ o = tt
-outer_after context.File kind.Package o = tt
-outer_after context.File _ o = tt
-outer_after context.Packaged k o = tt
-outer_after context.Message k o = o
-outer_after context.Oneof k o = o
-outer_after context.Enum k o = o
-outer_after context.Service k o = o
-outer_after context.Method k o = o
-
-no_map_field : (c : Context) → Outer c → allows c kind.MapField ≡ true → ⊥
-no_map_field context.Start o h = no h
-no_map_field context.File o h = no h
-no_map_field context.Packaged o h = no h
-no_map_field context.Message o h = o
-no_map_field context.Oneof o h = o
-no_map_field context.Enum o h = o
-no_map_field context.Service o h = o
-no_map_field context.Method o h = o
-
-no_oneof : (c : Context) → Outer c → allows c kind.OpenOneof ≡ true → ⊥
-no_oneof context.Start o h = no h
-no_oneof context.File o h = no h
-no_oneof context.Packaged o h = no h
-no_oneof context.Message o h = o
-no_oneof context.Oneof o h = o
-no_oneof context.Enum o h = o
-no_oneof context.Service o h = o
-no_oneof context.Method o h = o
 
 -- ---- the walk
 
@@ -332,21 +281,12 @@ module _ (e : Renaming) (taken : Taken) (named : ℕ → Bool) (a b : Scene) (di
 
   -- ---- the items of a file
 
-  items_turn : (path : List (Source ℕ)) (c : Context) → Outer c → (t : Tree) → IsWellFormed c t → Inside (items_placed path (items_in t)) → InRoot t → Turns e taken a b path t
+  items_turn : (path : List (Source ℕ)) (c : Context) → IsOuter c → (t : Tree) → IsWellFormed c t → Inside (items_placed path (items_in t)) → InRoot t → Turns e taken a b path t
   items_turn path c o End w i r = tt
   items_turn path c o (Leaf (statement.MapField f) rest) w i r = absurd (no_map_field c o w.0)
   items_turn path c o (Leaf (statement.Package p) rest) w i r =
-      items_turn path (after c kind.Package) (outer_after c kind.Package o) rest w.1 (aft (prefixes [] (dotted p.name)) (items_placed path (items_in rest)) i) r
-  items_turn path c o (Leaf (statement.Field f) rest) w i r = items_turn path (after c (statement_kind (statement.Field f))) (outer_after c (statement_kind (statement.Field f)) o) rest w.1 i r
-  items_turn path c o (Leaf (statement.Syntax s) rest) w i r = items_turn path (after c (statement_kind (statement.Syntax s))) (outer_after c (statement_kind (statement.Syntax s)) o) rest w.1 i r
-  items_turn path c o (Leaf (statement.Import s) rest) w i r = items_turn path (after c (statement_kind (statement.Import s))) (outer_after c (statement_kind (statement.Import s)) o) rest w.1 i r
-  items_turn path c o (Leaf (statement.Option s) rest) w i r = items_turn path (after c (statement_kind (statement.Option s))) (outer_after c (statement_kind (statement.Option s)) o) rest w.1 i r
-  items_turn path c o (Leaf (statement.Reserved s) rest) w i r = items_turn path (after c (statement_kind (statement.Reserved s))) (outer_after c (statement_kind (statement.Reserved s)) o) rest w.1 i r
-  items_turn path c o (Leaf (statement.Extensions s) rest) w i r = items_turn path (after c (statement_kind (statement.Extensions s))) (outer_after c (statement_kind (statement.Extensions s)) o) rest w.1 i r
-  items_turn path c o (Leaf (statement.Value s) rest) w i r = items_turn path (after c (statement_kind (statement.Value s))) (outer_after c (statement_kind (statement.Value s)) o) rest w.1 i r
-  items_turn path c o (Leaf (statement.EnumReserved s) rest) w i r = items_turn path (after c (statement_kind (statement.EnumReserved s))) (outer_after c (statement_kind (statement.EnumReserved s)) o) rest w.1 i r
-  items_turn path c o (Leaf (statement.Method s j) rest) w i r = items_turn path (after c (statement_kind (statement.Method s j))) (outer_after c (statement_kind (statement.Method s j)) o) rest w.1 i r
-  items_turn path c o (Leaf (statement.Empty s) rest) w i r = items_turn path (after c (statement_kind (statement.Empty s))) (outer_after c (statement_kind (statement.Empty s)) o) rest w.1 i r
+      items_turn path (after c kind.Package) (last_outer (Leaf (statement.Package p) End) c o) rest w.1 (aft (prefixes [] (dotted p.name)) (items_placed path (items_in rest)) i) r
+  items_turn path c o (Leaf s rest) w i r = items_turn path (after c (statement_kind s)) (last_outer (Leaf s End) c o) rest w.1 i r
   items_turn path c o (Block (header.Message h) opens within closes rest) w i r =
       let below = path ++ Token h.name ∷ [] in
       let mine = placed path (message h.name (members_in within)) in
@@ -356,14 +296,14 @@ module _ (e : Renaming) (taken : Taken) (named : ℕ → Bool) (a b : Scene) (di
         names (place path (Token h.name) Message) (i (place path (Token h.name) Message) (0, omega arith, refl)),
         message_turns below h within w.1 cb inner,
         members_turn below within w.1 inner (within_there (header.Message h) opens within closes rest r) (map_fields_kept h within cb),
-        items_turn path (after c kind.OpenMessage) (outer_after c kind.OpenMessage o) rest w.2 (aft mine (items_placed path (items_in rest)) i) (rest_there (header.Message h) opens within closes rest r),
+        items_turn path (after c kind.OpenMessage) (last_outer (Block (header.Message h) opens within closes End) c o) rest w.2 (aft mine (items_placed path (items_in rest)) i) (rest_there (header.Message h) opens within closes rest r),
       )
   items_turn path c o (Block (header.Oneof h) opens within closes rest) w i r = absurd (no_oneof c o w.0)
   items_turn path c o (Block (header.Enum h) opens within closes rest) w i r =
       let mine = placed path (enum h.name (picked value_names no_names within)) in (
         names (place path (Token h.name) Enum) (i (place path (Token h.name) Enum) (0, omega arith, refl)),
         enum_turns path h within (block_there (header.Enum h) opens within closes rest r) (fore mine (items_placed path (items_in rest)) i),
-        items_turn path (after c kind.OpenEnum) (outer_after c kind.OpenEnum o) rest w.2 (aft mine (items_placed path (items_in rest)) i) (rest_there (header.Enum h) opens within closes rest r),
+        items_turn path (after c kind.OpenEnum) (last_outer (Block (header.Enum h) opens within closes End) c o) rest w.2 (aft mine (items_placed path (items_in rest)) i) (rest_there (header.Enum h) opens within closes rest r),
       )
   items_turn path c o (Block (header.Service h) opens within closes rest) w i r =
       let below = path ++ Token h.name ∷ [] in
@@ -373,9 +313,9 @@ module _ (e : Renaming) (taken : Taken) (named : ℕ → Bool) (a b : Scene) (di
         methods_turn below within (λ j d. i (place below (Token j) Method) (Contains-append_left mine (items_placed path (items_in rest)) (place below (Token j) Method)
             (contains_later (place path (Token h.name) Service) (place below (Token j) Method) (map (λ x. place below (Token x) Method) ms) (contains_map (λ x. place below (Token x) Method) ms j d)))) (within_there (header.Service h) opens within closes rest r),
         service_options_stay e taken named a b differ strings within (options_kept (header.Service h) within (block_there (header.Service h) opens within closes rest r)),
-        items_turn path (after c kind.OpenService) (outer_after c kind.OpenService o) rest w.2 (aft mine (items_placed path (items_in rest)) i) (rest_there (header.Service h) opens within closes rest r),
+        items_turn path (after c kind.OpenService) (last_outer (Block (header.Service h) opens within closes End) c o) rest w.2 (aft mine (items_placed path (items_in rest)) i) (rest_there (header.Service h) opens within closes rest r),
       )
-  items_turn path c o (Block (header.Method s) opens within closes rest) w i r = items_turn path (after c kind.OpenMethod) (outer_after c kind.OpenMethod o) rest w.2 i (rest_there (header.Method s) opens within closes rest r)
+  items_turn path c o (Block (header.Method s) opens within closes rest) w i r = items_turn path (after c kind.OpenMethod) (last_outer (Block (header.Method s) opens within closes End) c o) rest w.2 i (rest_there (header.Method s) opens within closes rest r)
 
   pub tree_turns : IsWellFormed context.Start root → Turns e taken a b (map (λ t. Token t) (package_of (items_in root))) root
-  tree_turns w = items_turn (map (λ t. Token t) (package_of (items_in root))) context.Start tt root w (λ p c. c) (λ x c. c)
+  tree_turns w = items_turn (map (λ t. Token t) (package_of (items_in root))) context.Start refl root w (λ p c. c) (λ x c. c)

@@ -9,8 +9,6 @@ use Rattle.proto_tree.specs.declared.class.Want.{Want}
 use Rattle.proto_tree.specs.declared.class.Want.TheVariants as want
 use Rattle.proto_tree.specs.declared.context.Context.{Context}
 use Rattle.proto_tree.specs.declared.context.Context.TheVariants as context
-use Rattle.proto_tree.specs.declared.context.Kind.{Kind}
-use Rattle.proto_tree.specs.declared.context.Kind.TheVariants as kind
 use Rattle.proto_tree.specs.declared.piece.Header.{Header}
 use Rattle.proto_tree.specs.declared.piece.Header.TheVariants as header
 use Rattle.proto_tree.specs.declared.piece.Statement.{Statement}
@@ -36,9 +34,12 @@ use Rattle.proto_tree.specs.declared.tree.Signature.{Signature}
 use Rattle.proto_tree.specs.declared.tree.Signed.{Signed}
 use Rattle.proto_tree.specs.declared.tree.UpTo.{UpTo}
 use Rattle.proto_tree.specs.declared.tree.Value.{Value}
+use Rattle.proto_tree.specs.Answer.{IsOuter}
 use Rattle.proto_tree.specs.Flat.{Mark, mark, name, one as one_mark, only, text, word, flat_all, flat_behind, flat_constant, flat_field, flat_from, flat_header, flat_map_field, flat_method_type, flat_number, flat_option, flat_range, flat_range_end, flat_reference, flat_reserved, flat_reserved_list, flat_separated, flat_setting, flat_settings, flat_signature, flat_signed, flat_statement, flat_type, flat_up_to, flat_words}
 use Rattle.proto_tree.specs.Tree.{Tree, End, Leaf, Block, IsWellFormed, after, allows, flat, header_kind, statement_kind}
+use Rattle.proto_tree.proofs.Walks.{last_outer}
 use Rattle.proto_parts.specs.Parts.{BlockOf, blocks_in, statement_values, values_in}
+use Rattle.proto_checks_laws.proofs.Outermost.{no_value}
 
 -- ---- marks that want something else
 
@@ -225,49 +226,17 @@ in_tree (Block h i within j rest) m c e =
 
 -- ---- no value stands outermost
 
-abbrev is_outermost : Context → Bool
-is_outermost context.Start = true
-is_outermost context.File = true
-is_outermost context.Packaged = true
-is_outermost context.Message = false
-is_outermost context.Oneof = false
-is_outermost context.Enum = false
-is_outermost context.Service = false
-is_outermost context.Method = false
-
-stays_outermost : (c : Context) (k : Kind) → is_outermost c ≡ true → is_outermost (after c k) ≡ true
-stays_outermost context.Start kind.Package o = refl
-stays_outermost context.Start _ o = refl
-stays_outermost context.File kind.Package o = refl
-stays_outermost context.File _ o = refl
-stays_outermost context.Packaged k o = refl
-stays_outermost context.Message k o = o
-stays_outermost context.Oneof k o = o
-stays_outermost context.Enum k o = o
-stays_outermost context.Service k o = o
-stays_outermost context.Method k o = o
-
-no_value_allowed : (c : Context) → is_outermost c ≡ true → allows c kind.Value ≡ true → ⊥
-no_value_allowed context.Start o h = differ (sym h)
-no_value_allowed context.File o h = differ (sym h)
-no_value_allowed context.Packaged o h = differ (sym h)
-no_value_allowed context.Message o h = differ (sym o)
-no_value_allowed context.Oneof o h = differ (sym o)
-no_value_allowed context.Enum o h = differ (sym o)
-no_value_allowed context.Service o h = differ (sym o)
-no_value_allowed context.Method o h = differ (sym o)
-
-none_outermost : (c : Context) → is_outermost c ≡ true → (t : Tree) → IsWellFormed c t → (i : ℕ) → HasValueName (values_in t) i → ⊥
+none_outermost : (c : Context) → IsOuter c → (t : Tree) → IsWellFormed c t → (i : ℕ) → HasValueName (values_in t) i → ⊥
 none_outermost c o End w i v = omega (arith, v.1.1)
 none_outermost c o (Leaf s rest) w i v = elim (Contains-append_cases (statement_values s) (values_in rest) v.0 v.1) [
   | inl d ↦ outer_statement s w.0 d
-  | inr d ↦ none_outermost (after c (statement_kind s)) (stays_outermost c (statement_kind s) o) rest w.1 i (v.0, d, v.2)
+  | inr d ↦ none_outermost (after c (statement_kind s)) (last_outer (Leaf s End) c o) rest w.1 i (v.0, d, v.2)
 ]
   where
     outer_statement : (s : Statement) → allows c (statement_kind s) ≡ true → Contains (statement_values s) v.0 → ⊥
-    outer_statement (statement.Value x) h d = no_value_allowed c o h
+    outer_statement (statement.Value x) h d = no_value c o h
     outer_statement _ h d = omega (arith, d.1)
-none_outermost c o (Block h j within k rest) w i v = none_outermost (after c (header_kind h)) (stays_outermost c (header_kind h) o) rest w.2 i v
+none_outermost c o (Block h j within k rest) w i v = none_outermost (after c (header_kind h)) (last_outer (Block h j within k End) c o) rest w.2 i v
 
 -- a token where a value's name is wanted names a value of a block
 pub value_of_mark : (t : Tree) → IsWellFormed context.Start t → (m : Mark) → Contains (flat t) m → m.want ≡ want.ValueName → HasBlockValue t m.at
