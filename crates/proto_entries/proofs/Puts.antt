@@ -119,7 +119,7 @@ sum_new : (es : List Edit) → new_len es ≡ sum_by (λ e. length e.new) es
 sum_new [] = refl
 sum_new (e ∷ es) = ap (λ (n : ℕ). length e.new + n) (sum_new es) ∙ sym (sum_by-cons (λ (x : Edit). length x.new) e es)
 
-measured_is_even : (c : ChangeOf) → IsChange c → IsEven c
+pub measured_is_even : (c : ChangeOf) → IsChange c → IsEven c
 measured_is_even c h = ap (λ (n : ℕ). c.after + n) (sum_old c.splices) ∙ h.measured.lengths.lengths ∙ ap (λ (n : ℕ). c.before + n) (sym (sum_new c.splices))
 
 pub entries_lead_back : EntriesLeadBack

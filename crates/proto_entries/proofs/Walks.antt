@@ -29,7 +29,7 @@ ahead f fs o g k = subst (λ (x : FileOf). IsBefore f.path x.path) k.2 (o 0 (suc
 behind : (f : FileOf) (fs : List FileOf) → Ordered (f ∷ fs) → Ordered fs
 behind f fs o i j d lt within = o (suc i) (suc j) d (omega arith) (omega arith)
 
-rises_from : (c : ChangeOf) (cs : List ChangeOf) → AreRising (c ∷ cs) → (d : ChangeOf) → Contains cs d → IsBefore c.path d.path
+pub rises_from : (c : ChangeOf) (cs : List ChangeOf) → AreRising (c ∷ cs) → (d : ChangeOf) → Contains cs d → IsBefore c.path d.path
 rises_from c [] h d k = absurd (contains_none d k)
 rises_from c (e ∷ cs) h d k = elim (contains_cases e d cs k) [
   | inl same ↦ subst (λ (z : ChangeOf). IsBefore c.path z.path) same h.0

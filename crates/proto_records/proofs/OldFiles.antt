@@ -11,9 +11,10 @@ use Rattle.std.proofs.lemmas.Slice.Eq.{bytes_eq-Decides}
 use Rattle.proto_faults.proofs.Lists.{contains_cases, contains_head, contains_later, contains_map}
 use Rattle.proto_files.specs.GivenFiles.{FileOf, file_of, files_of}
 use Rattle.proto_files.specs.WorkspacePaths.{IsBefore}
-use Rattle.proto_files.proofs.PathOrder.{before_trans, never_before_itself}
+use Rattle.proto_files.proofs.PathOrder.{never_before_itself}
 use Rattle.proto_entries.specs.Entries.{AreRising, ChangeOf}
 use Rattle.proto_entries.proofs.Puts.{contains_none}
+use Rattle.proto_entries.proofs.Walks.{rises_from}
 use Rattle.proto_store.specs.Stores.{Held, IsListed, bytes_at, with_bytes, with_file, with_journal}
 use Rattle.proto_store.proofs.Replaced.{bytes_at-with_bytes, bytes_at-with_bytes-other, is_some-with_bytes, paths_of-with_bytes}
 use Rattle.proto_records.specs.Recovery.{ArePartlyBack, ArePutBack, IsPutBack, IsUnnamed}
@@ -26,16 +27,9 @@ abbrev pub AreDistinct : List ChangeOf → Type 0
 AreDistinct [] = Unit {0}
 AreDistinct (c ∷ cs) = IsUnnamed cs c.path × AreDistinct cs
 
-rises_to : (c : ChangeOf) (cs : List ChangeOf) → AreRising (c ∷ cs) → (d : ChangeOf) → Contains cs d → IsBefore c.path d.path
-rises_to c [] h d k = absurd (contains_none d k)
-rises_to c (e ∷ cs) h d k = elim (contains_cases e d cs k) [
-  | inl same ↦ subst (λ (z : ChangeOf). IsBefore c.path z.path) same h.0
-  | inr later ↦ before_trans c.path e.path d.path h.0 (rises_to e cs h.1 d later)
-]
-
 pub distinct : (cs : List ChangeOf) → AreRising cs → AreDistinct cs
 distinct [] h = tt
-distinct (c ∷ cs) h = (λ d k same. never_before_itself c.path (subst (λ (p : List ℕ). IsBefore c.path p) same (rises_to c cs h d k)), distinct cs h.1)
+distinct (c ∷ cs) h = (λ d k same. never_before_itself c.path (subst (λ (p : List ℕ). IsBefore c.path p) same (rises_from c cs h d k)), distinct cs h.1)
 
 apart : (a b : List ℕ) → a ≢ b → bytes_eq a b ≡ false
 apart a b ne = elim (cases_Bool (bytes_eq a b)) [
@@ -229,10 +223,6 @@ pub cut_at_journal : (fs : List FileOf) (journal : List ℕ) (old mid new : Opti
 cut_at_journal fs journal old mid new m (inl same) =
     inl (length fs, same ∙ m ∙ ap (λ (l : List FileOf). option_map (with_files l) old) (sym (take_all (length fs) fs (omega arith))))
 cut_at_journal fs journal old mid new m (inr n) = inr (n ∙ ap (option_map (with_journal journal)) m)
-
-pub on_err : {T E : Type 0} (r : Result T E) (P Q : Type 0) → (P → Q) → OnErr r P → OnErr r Q
-on_err (Ok x) P Q f p = tt
-on_err (Err e) P Q f p = f p
 
 pub err_of : {T E : Type 0} (r : Result T E) (P : Type 0) → P → OnErr r P
 err_of (Ok x) P p = tt

@@ -17,7 +17,7 @@ use Rattle.proto_entries.specs.declared.entry.Change.{Change}
 use Rattle.proto_entries.specs.declared.refusal.Refusal.TheVariants as refusal
 use Rattle.proto_entries.specs.Entries.{ChangeOf, IsChange, IsEntry, change_of, inverted, turned_round}
 use Rattle.proto_entries.specs.Putting.{IsChangedText}
-use Rattle.proto_entries.proofs.Puts.{IsEven}
+use Rattle.proto_entries.proofs.Puts.{IsEven, measured_is_even}
 use Rattle.proto_records.specs.declared.fault.JournalFault.{JournalFault}
 use Rattle.proto_records.specs.declared.fault.JournalFault.TheVariants as fault
 use Rattle.proto_store.specs.Stores.{Held, IsListed, ListsPaths, bytes_at}
@@ -25,7 +25,7 @@ use Rattle.proto_records.specs.Known.{CountsFault, Over}
 use Rattle.proto_records.specs.Restoring.{AddsOldFiles, AreOldFiles, IsAskedFor, IsNeither, IsOldFile, IsStaleOnly}
 use Rattle.proto_records.specs.Torn.{IsAsAfter, IsAsBefore, IsEitherWay}
 use Rattle.proto_records.proofs.OldFiles.{goes_more, stays_more}
-use Rattle.proto_records.proofs.TornStores.{change_in, even_turned, measured_is_even}
+use Rattle.proto_records.proofs.TornStores.{change_in, even_turned}
 
 -- ---- the paths that are asked for
 

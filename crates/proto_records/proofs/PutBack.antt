@@ -9,13 +9,13 @@ use Rattle.proto_text.proofs.EditLaws.{inverse_leads_back}
 use Rattle.proto_text.proofs.Once.{puts_length, puts_once}
 use Rattle.proto_files.specs.GivenFiles.{FileOf, paths_of}
 use Rattle.proto_entries.specs.Entries.{ChangeOf, IsChange, IsEntry, turned_round}
-use Rattle.proto_entries.proofs.Puts.{IsEven, find_change}
+use Rattle.proto_entries.proofs.Puts.{IsEven, find_change, measured_is_even}
 use Rattle.proto_store.specs.Stores.{AreInPathOrder, bytes_at}
 use Rattle.proto_store.proofs.Replaced.{same_files}
 use Rattle.proto_records.specs.Recovery.{ArePartlyBack, ArePutBack, IsPutBack, IsRestored}
 use Rattle.proto_records.specs.Torn.{IsAsBefore, IsEitherWay}
 use Rattle.proto_records.proofs.Apart.{no_text_is_both}
-use Rattle.proto_records.proofs.TornStores.{change_in, even_turned, measured_is_even, twice_from}
+use Rattle.proto_records.proofs.TornStores.{change_in, even_turned, twice_from}
 
 -- ---- texts
 

@@ -1,16 +1,14 @@
 -- Public for the crates above. A store that is torn between the files before and after an entry: each file of the entry is as before or as after it.
 use Rattle.std.proofs.Common.{arith, ◌≡◌, ◌⊎◌, inl, inr, ℕ, ◌+◌, ◌-◌, ◌≤◌, Bool, true, false, cond, List, [], ◌∷◌, length, Some, refl, sym, ap, ◌∙◌, subst}
-use Rattle.std.specs.Prelude.{sum_by}
 use Rattle.std.specs.List.{Contains}
 use Rattle.std.specs.Str.{bytes_eq}
 use Rattle.std.proofs.lemmas.Slice.Eq.{bytes_eq-Decides}
-use Rattle.std.proofs.lemmas.List.Sums.{sum_by-cons}
 use Rattle.proto_text.specs.Edits.{AreShort, Edit, Puts, inverse_from, inverse_of, new_len, old_len}
 use Rattle.proto_faults.proofs.Lists.{contains_cases, contains_head, contains_later, contains_map, from_map}
 use Rattle.proto_files.specs.GivenFiles.{FileOf}
 use Rattle.proto_entries.specs.Entries.{ChangeOf, IsChange, IsEntry, inverted, turned_round}
 use Rattle.proto_entries.specs.Putting.{EachPuts, IsPut}
-use Rattle.proto_entries.proofs.Puts.{IsEven, contains_none, entries_lead_back, put_back}
+use Rattle.proto_entries.proofs.Puts.{IsEven, contains_none, entries_lead_back, measured_is_even, put_back}
 use Rattle.proto_records.specs.declared.record.Record.{Record}
 use Rattle.proto_store.specs.Stores.{Held, bytes_at}
 use Rattle.proto_records.specs.RecoveryLaws.{TornBetweenIsTorn}
@@ -123,17 +121,6 @@ new_turned to from (e ∷ es) = ap (λ (n : ℕ). length e.old + n) (new_turned 
 
 pub even_turned : (c : ChangeOf) → IsEven c → IsEven (turned_round c)
 even_turned c even = ap (λ (n : ℕ). c.before + n) (old_turned 0 0 c.splices) ∙ sym even ∙ ap (λ (n : ℕ). c.after + n) (sym (new_turned 0 0 c.splices))
-
-sum_old : (es : List Edit) → old_len es ≡ sum_by (λ e. length e.old) es
-sum_old [] = refl
-sum_old (e ∷ es) = ap (λ (n : ℕ). length e.old + n) (sum_old es) ∙ sym (sum_by-cons (λ (x : Edit). length x.old) e es)
-
-sum_new : (es : List Edit) → new_len es ≡ sum_by (λ e. length e.new) es
-sum_new [] = refl
-sum_new (e ∷ es) = ap (λ (n : ℕ). length e.new + n) (sum_new es) ∙ sym (sum_by-cons (λ (x : Edit). length x.new) e es)
-
-pub measured_is_even : (c : ChangeOf) → IsChange c → IsEven c
-measured_is_even c h = ap (λ (n : ℕ). c.after + n) (sum_old c.splices) ∙ h.measured.lengths.lengths ∙ ap (λ (n : ℕ). c.before + n) (sym (sum_new c.splices))
 
 pub change_in : (entry : List ChangeOf) → IsEntry entry → (c : ChangeOf) → Contains entry c → IsChange c
 change_in entry is c k = subst IsChange k.2 (is.each k.0 c k.1)
