@@ -6,7 +6,7 @@ use Rattle.std.proofs.lemmas.Bool.{and_from, and_parts}
 use Rattle.std.proofs.lemmas.Option.{none-some, same_Some}
 use Rattle.proto_faults.proofs.Lists.{any_from, same_from_word, word_from_same}
 use Rattle.proto_meaning.specs.Edits.{Renaming, target}
-use Rattle.proto_meaning.specs.Joined.{ArePlain, IsPlain, joined}
+use Rattle.proto_meaning.specs.Joined.{ArePlain, IsPlain, below, joined}
 use Rattle.proto_meaning.specs.Linked.{EntryFits, IsRenaming}
 use Rattle.proto_meaning.specs.Names.{Symbol, Workspace, same_name, sees, shows}
 use Rattle.proto_meaning.proofs.Basics.{name_from_same, same_from_name}
@@ -18,7 +18,7 @@ use Rattle.proto_names.specs.LinkOfFiles.{HoldsNames}
 use Rattle.proto_names.specs.Linking.{LinkOf, NameOf, is_visible, name_at, text_at}
 use Rattle.proto_captures.specs.NewTexts.{NewTexts}
 use Rattle.proto_captures.specs.ShownAnew.{shows_anew, shows_beside, shows_entry}
-use Rattle.proto_captures.specs.ShownTexts.{below, entry_shown_if, first_fits, kind_fits, kind_named, shown_below, shown_beside, shows_text}
+use Rattle.proto_captures.specs.ShownTexts.{entry_shown_if, first_fits, kind_fits, kind_named, shown_below, shown_beside, shows_text}
 use Rattle.proto_captures.proofs.KindNamed.{kind_at}
 use Rattle.proto_captures.proofs.NewlyShown.{same_truth}
 

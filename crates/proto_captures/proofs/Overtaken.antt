@@ -10,7 +10,7 @@ use Rattle.proto_faults.proofs.Lists.{any_from, word_from_same}
 use Rattle.proto_meaning.specs.declared.kind.Kind.{Kind}
 use Rattle.proto_meaning.specs.declared.kind.Kind.TheVariants.{Package}
 use Rattle.proto_meaning.specs.Edits.{IsOvertaken}
-use Rattle.proto_meaning.specs.Joined.{ArePlain, IsPlain, joined}
+use Rattle.proto_meaning.specs.Joined.{ArePlain, IsPlain, below, joined}
 use Rattle.proto_meaning.specs.Linked.{AreApart, is_package}
 use Rattle.proto_meaning.specs.Marks.{MarksSeen}
 use Rattle.proto_meaning.specs.Names.{Reference, Symbol, Workspace, fits, front_at, hit, hits_at, meaning, meaning_at, same_name, sees, shows, typed}
@@ -25,7 +25,7 @@ use Rattle.proto_names.specs.Linking.{LinkOf, NameOf, name_at, text_at}
 use Rattle.proto_rename_laws.proofs.PlacesSuit.{meaning_parts}
 use Rattle.proto_captures.specs.Capturing.{bytes_before, is_cons, shown_from}
 use Rattle.proto_captures.specs.Overtaking.{fits_seen, is_marked, is_seen, overtakes_words, sees_text}
-use Rattle.proto_captures.specs.ShownTexts.{below, first_fits}
+use Rattle.proto_captures.specs.ShownTexts.{first_fits}
 use Rattle.proto_captures.proofs.ByTexts.{below_is, named_at}
 use Rattle.proto_captures.proofs.CapturedWords.{plain_take, taken}
 use Rattle.proto_captures.proofs.FrontLengths.{before_first, deeper, not_deeper, scan_from, scan_to}

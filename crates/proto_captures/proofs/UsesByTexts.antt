@@ -12,7 +12,8 @@ use Rattle.proto_names.specs.Linking.{LinkOf}
 use Rattle.proto_captures.specs.Capturing.{bytes_before, captures_use, first_now, is_cons, shown_from}
 use Rattle.proto_captures.specs.NewTexts.{NewTexts, is_new_word}
 use Rattle.proto_captures.specs.Overtaking.{overtakes_use, sees_text}
-use Rattle.proto_captures.specs.ShownTexts.{below, shown_below}
+use Rattle.proto_meaning.specs.Joined.{below}
+use Rattle.proto_captures.specs.ShownTexts.{shown_below}
 use Rattle.proto_captures.proofs.FirstOnes.{front}
 
 -- the front by one word more, and what is left of the scope

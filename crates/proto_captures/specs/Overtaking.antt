@@ -25,7 +25,8 @@ use Rattle.proto_names.specs.Linking.{LinkOf, NameOf, text_at}
 use Rattle.proto_names.specs.declared.references.Meant.{Meant}
 use Rattle.proto_imports.specs.Links.{used_named}
 use Rattle.proto_captures.specs.Capturing.{bytes_before, is_cons, shown_from}
-use Rattle.proto_captures.specs.ShownTexts.{below, first_fits}
+use Rattle.proto_meaning.specs.Joined.{below}
+use Rattle.proto_captures.specs.ShownTexts.{first_fits}
 
 -- ---- by names
 

@@ -1,9 +1,10 @@
 -- What fits and is visible below a scope by a link, under the new names of a rename: all by texts.
-use Rattle.std.specs.Prelude.{ℕ, Bool, true, false, ◌&&◌, ◌||◌, if◌then◌else◌, ◌∷◌, ◌++◌, Option, Some, None, option_map}
+use Rattle.std.specs.Prelude.{ℕ, Bool, true, false, ◌&&◌, ◌||◌, if◌then◌else◌, Option, Some, None, option_map}
 use Rattle.std.specs.List.{find}
 use Rattle.std.specs.Str.{bytes_eq}
 use Rattle.proto_faults.specs.Texts.{Text}
 use Rattle.proto_meaning.specs.declared.kind.Kind.{Kind}
+use Rattle.proto_meaning.specs.Joined.{below}
 use Rattle.proto_meaning.specs.Names.{is_type, is_outer}
 use Rattle.proto_names.specs.Linking.{LinkOf, is_visible}
 use Rattle.proto_captures.specs.NewTexts.{NewTexts}
@@ -25,10 +26,6 @@ kind_fits is_long (Some k) = first_fits is_long k
 -- a name with this text fits, and is visible from the file
 abbrev pub shows_text : LinkOf → ℕ → Bool → Text → Bool
 shows_text l file is_long text = kind_fits is_long (kind_named l text) && is_visible l file text
-
--- a word right below a scope
-abbrev pub below : Text → Text → Text
-below scope word = scope ++ 46 ∷ word
 
 -- a map field's entry under its new name
 abbrev pub entry_shown : LinkOf → ℕ → Bool → Text × Text → Text → Text → Bool

@@ -1,12 +1,12 @@
 //! What fits and is visible below a scope, under the new names of a rename.
 
-ghost use Rattle.std.specs.Prelude.{◌≡◌, IfOk, string_bytes};
+ghost use Rattle.std.specs.Prelude.{◌≡◌, IfOk};
 ghost use Rattle.proto_captures.specs.NewTexts.{texts_of, entry_pair};
-ghost use Rattle.proto_captures.specs.ShownTexts.{below, entry_shown, first_fits, kind_named, shown_beside, shown_below, shows_text};
+ghost use Rattle.proto_captures.specs.ShownTexts.{entry_shown, first_fits, kind_named, shown_beside, shown_below, shows_text};
 
 use crate::names::{EntryNames, NewNames};
 use proto_faults::NoMemory;
-use proto_meaning::Kind;
+use proto_meaning::{Kind, below};
 use proto_names::Link;
 use std::alloc::Global;
 
@@ -43,16 +43,6 @@ fn is_shown(link: &Link, looking: Looking, name: &str) -> bool
         Some(kind) => fits(kind, looking.is_long) && link.visible(looking.file, name),
         None => false,
     }
-}
-
-/// The name of a word right below a scope.
-pub(crate) fn below(alloc: Global, scope: &str, word: &str) -> Result<String, NoMemory>
-    ensures { IfOk result (λ name. string_bytes name ≡ below scope.now word.now) }
-{
-    let mut name = String::from_str(alloc, scope)?;
-    name.push_str(".")?;
-    name.push_str(word)?;
-    Ok(name)
 }
 
 /// Whether below a scope something fits and is visible under the word, once the names are the new

@@ -4,7 +4,7 @@ use Rattle.std.specs.HashSet.{contains_text}
 use Rattle.proto_meaning.specs.Forest.{under}
 use Rattle.proto_captures.specs.Capturing.{shown_from}
 use Rattle.proto_captures.specs.Overtaking.{sees_text}
-use Rattle.proto_captures.specs.ShownTexts.{below}
+use Rattle.proto_meaning.specs.Joined.{below}
 use Rattle.proto_captures.proofs.UsesByTexts.{not_shown_here, shown_here}
 use Rattle.proto_captures.proofs.overtaking.is_seen_from.Goals as goal
 

@@ -2,7 +2,7 @@ use Rattle.std.proofs.Common.{◌≡◌, [], map, drop, string_bytes}
 use Rattle.std.specs.HashSet.{contains_text}
 use Rattle.proto_captures.specs.Capturing.{shown_from}
 use Rattle.proto_captures.specs.Overtaking.{sees_text}
-use Rattle.proto_captures.specs.ShownTexts.{below}
+use Rattle.proto_meaning.specs.Joined.{below}
 use Rattle.proto_captures.proofs.overtaking.is_seen_from.Given as goal
 
 abbrev pub invariant-loop-part : goal.invariant-loop-part

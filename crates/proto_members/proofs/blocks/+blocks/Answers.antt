@@ -4,15 +4,15 @@ use Rattle.proto_tree.specs.declared.tree.Member.{Member}
 use Rattle.proto_tree.specs.File.{member_tree, trees}
 use Rattle.proto_tree.proofs.Nodes.{member_tree-Enum, member_tree-Oneof}
 use Rattle.proto_parts.specs.Parts.{BlockOf}
-use Rattle.proto_members.specs.Blocks.{block_of, holders_in}
+use Rattle.proto_parts.proofs.ItemBlocks.{wanted_turn}
+use Rattle.proto_members.specs.Blocks.{block_of, holders_in, may_hold}
 use Rattle.proto_members.proofs.BlockTrees.{enum_alone, oneof_alone}
 use Rattle.proto_faults.proofs.Turns.{all_listed}
-use Rattle.proto_members.proofs.BlockTrees.{holders_turn}
 use Rattle.proto_members.proofs.blocks.+blocks.Goals as goal
 
 pub push_members-loop-member-preserved : goal.push_members-loop-member-preserved
 push_members-loop-member-preserved t c =
-    holders_turn member_tree c.args.members.now c.loop-member.member-index c.member-item.result _ _ _ c.loop-member-test.true c.member-item.is c.in_ok-push_member.ensures c.loop-member.invariant
+    wanted_turn may_hold member_tree c.args.members.now c.loop-member.member-index c.member-item.result _ _ _ c.loop-member-test.true c.member-item.is c.in_ok-push_member.ensures c.loop-member.invariant
 
 pub push_members-returns : goal.push_members-returns
 push_members-returns t c = all_listed (λ members. holders_in (trees member_tree members)) refl c.args.members.now c.loop-member.member-index _ _ (omega arith) c.loop-member.invariant
