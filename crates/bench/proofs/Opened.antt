@@ -1,7 +1,6 @@
 -- What an edit asks of files, of those of a schema that was opened.
 use Rattle.std.proofs.Common.{◌≡◌, List, sym, subst}
-use Rattle.proto_files.specs.Faults.{HasNoFault}
-use Rattle.proto_files.specs.GivenFiles.{FileOf}
+use Rattle.proto_files.proofs.Common.{HasNoFault, FileOf}
 use Rattle.proto_imports.specs.Links.{LinkFaults}
 use Rattle.proto_desc.specs.Whole.{FileFaults, of_check, of_link}
 use Rattle.proto_statement_deleted.specs.Fields.{NumbersAreSmall}

@@ -1,7 +1,6 @@
 -- What is found in the blocks of trees that stand one behind another, and of one block.
-use Rattle.std.proofs.Common.{◌≡◌, ℕ, List, [], ◌∷◌, ◌++◌, flat_map, refl, sym, ap, ◌∙◌, append_assoc}
+use Rattle.std.proofs.Common.{◌≡◌, ℕ, List, [], ◌∷◌, ◌++◌, flat_map, refl, sym, ap, ◌∙◌, append_assoc, append-nil}
 use Rattle.std.proofs.lemmas.Grind.{flat_map-append}
-use Rattle.std.proofs.lemmas.List.{append-nil}
 use Rattle.proto_tree.specs.declared.piece.Header.{Header}
 use Rattle.proto_tree.specs.declared.piece.Header.TheVariants as header
 use Rattle.proto_tree.specs.declared.tree.Block.{Block as Braced}
@@ -16,17 +15,12 @@ use Rattle.proto_tree.specs.declared.tree.MethodItem.TheVariants as method_item
 use Rattle.proto_tree.specs.declared.tree.ServiceItem.{ServiceItem}
 use Rattle.proto_tree.specs.declared.tree.ServiceItem.TheVariants as service_item
 use Rattle.proto_tree.specs.declared.tree.Signature.{Signature}
-use Rattle.proto_tree.specs.File.{enum_item_tree, enum_tree, field_tree, member_tree, message_tree, method_by, method_item_tree, oneof_tree, service_item_tree, service_tree, trees}
-use Rattle.proto_tree.specs.Tree.{Tree, End, Leaf, Block, joined}
+use Rattle.proto_tree.proofs.Common.{enum_item_tree, enum_tree, field_tree, member_tree, message_tree, method_by, method_item_tree, oneof_tree, service_item_tree, service_tree, trees, Tree, End, Leaf, Block, joined}
 use Rattle.proto_meaning.specs.Forest.{under}
-use Rattle.proto_findings.specs.Placed.{Found}
-use Rattle.proto_findings.specs.Readings.{Reading, reading_of, text}
-use Rattle.proto_block_rules.specs.declared.walk.Walk.{Walk}
-use Rattle.proto_block_rules.specs.Blocks.{Scoped, blocks_in, scope_within}
-use Rattle.proto_block_rules.specs.BlockFinds.{block_finds}
+use Rattle.proto_findings.proofs.Common.{Found, Reading, reading_of, text}
+use Rattle.proto_block_rules.specs.Common.{Walk, Scoped, blocks_in, scope_within, block_finds, walk_finds}
 use Rattle.proto_block_rules.specs.Methods.{methods_finds}
 use Rattle.proto_block_rules.specs.NameRules.{enum_finds, message_finds, oneof_finds, service_finds}
-use Rattle.proto_block_rules.specs.Walks.{walk_finds}
 
 pub blocks_joined : (r : Reading) (scope : List ℕ) (t u : Tree) → blocks_in r scope (joined t u) ≡ blocks_in r scope t ++ blocks_in r scope u
 blocks_joined r scope End u = refl

@@ -1,22 +1,15 @@
 -- The values of an enum, item by item.
-use Rattle.std.proofs.Common.{◌≡◌, ℕ, ◌+◌, ◌<◌, ◌≤◌, Bool, true, List, [], ◌∷◌, ◌++◌, length, get_or, drop, map, sym, ap, ◌∙◌, append_assoc}
-use Rattle.std.specs.List.{flat_map}
-use Rattle.std.proofs.lemmas.Bool.{cond-true}
-use Rattle.std.proofs.lemmas.Grind.{flat_map-append}
-use Rattle.std.proofs.lemmas.List.{drop_all, map-append}
+use Rattle.std.proofs.Common.{◌≡◌, ℕ, ◌+◌, ◌<◌, ◌≤◌, Bool, true, List, [], ◌∷◌, ◌++◌, length, get_or, drop, map, sym, ap, ◌∙◌, append_assoc, flat_map}
+use Rattle.proto_faults.proofs.Common.{cond-true, flat_map-append, drop_all, map-append, front}
 use Rattle.proto_tree.specs.declared.tree.EnumItem.{EnumItem}
 use Rattle.proto_tree.specs.declared.tree.EnumItem.TheVariants as enum_item
 use Rattle.proto_tree.specs.declared.tree.Value.{Value}
-use Rattle.proto_tree.specs.File.{enum_item_tree, trees}
-use Rattle.proto_tree.specs.Tree.{Tree, joined}
-use Rattle.proto_parts.specs.Parts.{statement_values, statements, values_in}
+use Rattle.proto_tree.proofs.Common.{enum_item_tree, trees, Tree, joined}
+use Rattle.proto_parts.proofs.Common.{statement_values, statements, values_in, statements_joined}
 use Rattle.proto_rules.specs.declared.rule.Rule.{Rule}
-use Rattle.proto_findings.specs.Placed.{found_at, found_by, unless_word}
-use Rattle.proto_findings.specs.Readings.{Reading}
+use Rattle.proto_findings.proofs.Common.{found_at, found_by, unless_word, Reading}
 use Rattle.proto_rules.specs.Rules.{is_chosen}
 use Rattle.proto_block_rules.specs.NameRules.{first_not_zero, is_zero}
-use Rattle.proto_faults.proofs.Turns.{front}
-use Rattle.proto_parts.proofs.JoinedTrees.{statements_joined}
 
 values_joined : (t u : Tree) → values_in (joined t u) ≡ values_in t ++ values_in u
 values_joined t u = ap (flat_map statement_values) (statements_joined t u) ∙ flat_map-append statement_values (statements t) (statements u)

@@ -2,12 +2,9 @@
 use Rattle.std.proofs.Common.{◌≡◌, ℕ, suc, ◌+◌, ◌<◌, List, [], ◌++◌, length, drop, drop-cons, sym, ap, ◌∙◌, append_assoc, arith}
 use Rattle.proto_tree.specs.declared.context.Context.TheVariants as context
 use Rattle.proto_tree.specs.Tree.{Tree, End}
-use Rattle.proto_files.specs.GivenFiles.{FileOf, file_at}
-use Rattle.proto_files.specs.FilesRead.{ReadOf, AreRead, read_at}
-use Rattle.proto_files.proofs.OneReading.{IsTreeOf, same_tree}
+use Rattle.proto_files.proofs.Common.{FileOf, file_at, ReadOf, AreRead, read_at, IsTreeOf, same_tree}
 use Rattle.proto_findings.specs.Readings.{read_of_file, Reading}
-use Rattle.proto_block_rules.specs.BlockFinds.{file_messages, messages_from}
-use Rattle.proto_block_rules.specs.Walks.{outer_messages}
+use Rattle.proto_block_rules.specs.Common.{file_messages, messages_from, outer_messages}
 use Rattle.proto_block_rules.proofs.OuterMessages.{outer_is_all}
 
 module _ (files : List FileOf) (reads : List ReadOf) where

@@ -1,13 +1,10 @@
 -- What is told of trees, one behind another.
 use Rattle.std.proofs.Common.{◌≡◌, List, ◌∷◌, ◌++◌, map, flat_map, refl, sym, ap, ◌∙◌, append_assoc}
-use Rattle.std.proofs.lemmas.Grind.{flat_map-append}
-use Rattle.std.proofs.lemmas.List.{map-append}
+use Rattle.proto_faults.proofs.Common.{flat_map-append, map-append}
 use Rattle.proto_tree.specs.declared.piece.Statement.{Statement}
 use Rattle.proto_tree.specs.declared.tree.Signature.{Signature}
-use Rattle.proto_tree.specs.File.{trees}
-use Rattle.proto_tree.specs.Tree.{Tree, End, Leaf, Block, joined}
-use Rattle.proto_parts.specs.Parts.{statements}
-use Rattle.proto_parts.proofs.JoinedTrees.{statements_joined}
+use Rattle.proto_tree.proofs.Common.{trees, Tree, End, Leaf, Block, joined}
+use Rattle.proto_parts.proofs.Common.{statements, statements_joined}
 use Rattle.proto_block_rules.specs.Methods.{header_signatures, signatures_in, statement_signatures}
 
 signatures_joined : (t u : Tree) → signatures_in (joined t u) ≡ signatures_in t ++ signatures_in u

@@ -6,13 +6,9 @@ use Rattle.proto_tree.specs.declared.context.Context.TheVariants as context
 use Rattle.proto_tree.specs.declared.context.Kind.TheVariants as kind
 use Rattle.proto_tree.specs.declared.piece.Header.{Header}
 use Rattle.proto_tree.specs.declared.piece.Header.TheVariants as header
-use Rattle.proto_tree.specs.Tree.{Tree, End, Leaf, Block, IsWellFormed, after, allows, header_kind, inside, joined, statement_kind}
-use Rattle.proto_tree.specs.File.{trees}
-use Rattle.proto_tree.proofs.Walks.{after_inner, inside_inner}
+use Rattle.proto_tree.proofs.Common.{Tree, End, Leaf, Block, IsWellFormed, after, allows, header_kind, inside, joined, statement_kind, trees, after_inner, inside_inner}
 use Rattle.proto_findings.specs.Readings.{Reading}
-use Rattle.proto_block_rules.specs.Blocks.{Scoped, blocks_in, scope_within}
-use Rattle.proto_block_rules.specs.BlockFinds.{block_messages, file_messages}
-use Rattle.proto_block_rules.specs.Walks.{outer_messages}
+use Rattle.proto_block_rules.specs.Common.{Scoped, blocks_in, scope_within, block_messages, file_messages, outer_messages}
 
 no_service : (c : Context) → allows c kind.Close ≡ true → allows c kind.OpenService ≡ true → ⊥
 no_service context.Start e a = cc

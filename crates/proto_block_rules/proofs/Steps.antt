@@ -1,8 +1,6 @@
 -- Six steps, each of which adds to what was found before it.
-use Rattle.std.proofs.Common.{◌≡◌, List, ◌++◌, Result, ap, ◌∙◌}
-use Rattle.std.specs.Result.{OnOk}
-use Rattle.std.proofs.lemmas.Result.{on_ok_weaker}
-use Rattle.proto_faults.proofs.Turns.{then_added}
+use Rattle.std.proofs.Common.{◌≡◌, List, ◌++◌, Result, ap, ◌∙◌, OnOk}
+use Rattle.proto_faults.proofs.Common.{on_ok_weaker, then_added}
 
 -- what is added, by an equal of what it is made of
 pub by_equal : {A C : Type 0} (part : A → List C) (x y : A) (old new : List C) → x ≡ y → new ≡ old ++ part x → new ≡ old ++ part y

@@ -1,17 +1,6 @@
 -- Names that rise: one of them stands more than once where it stands at the second place of those that are not below it.
-use Rattle.std.proofs.Common.{◌≡◌, ℕ, zero, suc, ◌+◌, ◌<◌, ◌≤◌, Bool, true, false, cond, List, [], ◌∷◌, length, get_or, drop, map, Ordering, refl, sym, ap, ◌∙◌, arith, rules, length-drop, get_or-drop}
-use Rattle.std.specs.Prelude.{nat_le}
-use Rattle.std.specs.List.{filter}
-use Rattle.std.specs.List.Sorted.{IsPartitionPoint, IsPartitionedBy, IsPermutation, IsSortedBy}
-use Rattle.std.specs.Cmp.Lexicographic.{slice_cmp, nat_list_cmp_total}
-use Rattle.std.specs.Ordering.{nat_cmp, is_lt, is_eq, ordering_index, ordering_reverse}
-use Rattle.std.specs.Str.{bytes_eq}
-use Rattle.std.specs.declared.cmp.Ordering.TheVariants.{Less, Equal, Greater}
-use Rattle.std.proofs.lemmas.Bool.{cond-true, cond-false, cond_both, le-leb}
-use Rattle.std.proofs.lemmas.List.Sorted.{IsPermutation-map, ranks_by, searchable_from_sorted, sorted_far, sum_by-IsPermutation}
-use Rattle.std.proofs.lemmas.List.Sums.{length-filter}
-use Rattle.std.proofs.lemmas.Map.Text.{is_eq-slice_cmp}
-use Rattle.std.proofs.lemmas.Slice.Eq.{bytes_eq-Decides}
+use Rattle.std.proofs.Common.{◌≡◌, ℕ, zero, suc, ◌+◌, ◌<◌, ◌≤◌, Bool, true, false, cond, List, [], ◌∷◌, length, get_or, drop, map, Ordering, refl, sym, ap, ◌∙◌, arith, rules, length-drop, get_or-drop, nat_le, filter, IsPermutation, IsSortedBy, nat_cmp, is_lt, is_eq, bytes_eq, le-leb}
+use Rattle.proto_faults.proofs.Common.{IsPartitionPoint, IsPartitionedBy, slice_cmp, nat_list_cmp_total, ordering_index, ordering_reverse, Less, Equal, Greater, cond-true, cond-false, cond_both, IsPermutation-map, ranks_by, searchable_from_sorted, sorted_far, sum_by-IsPermutation, length-filter, is_eq-slice_cmp, bytes_eq-Decides}
 use Rattle.proto_block_rules.specs.Methods.{is_shared}
 
 abbrev pub is_below : List ℕ → List ℕ → Bool

@@ -1,41 +1,18 @@
 -- What a link says of a name, as what the name aims at.
-use Rattle.std.proofs.Common.{◌≡◌, ◌≢◌, ◌↔◌, ℕ, ◌+◌, Bool, true, false, List, [], ◌∷◌, ◌++◌, get_or, map, IsTrue, option_map, Some, refl, sym, ap, subst, ◌∙◌, inl, inr}
-use Rattle.std.specs.List.{Contains}
-use Rattle.std.proofs.lemmas.Bool.{true≢false}
-use Rattle.std.proofs.lemmas.List.Elements.{Contains-get_or}
+use Rattle.std.proofs.Common.{◌≡◌, ◌≢◌, ◌↔◌, ℕ, ◌+◌, Bool, true, false, List, [], ◌∷◌, ◌++◌, get_or, map, IsTrue, option_map, Some, refl, sym, ap, subst, ◌∙◌, inl, inr, Contains, true≢false}
+use Rattle.proto_faults.proofs.Common.{Contains-get_or, contains_map, from_map}
 use Rattle.proto_case.specs.Camel.{entry_name}
-use Rattle.proto_faults.proofs.Lists.{contains_map, from_map}
-use Rattle.proto_files.specs.Faults.{HasNoFault}
-use Rattle.proto_files.specs.FilesRead.{ReadOf, AreRead, read_at}
-use Rattle.proto_files.specs.GivenFiles.{FileOf}
+use Rattle.proto_files.proofs.Common.{HasNoFault, ReadOf, AreRead, read_at, FileOf}
 use Rattle.proto_meaning.specs.declared.kind.Kind.{Kind}
 use Rattle.proto_meaning.specs.declared.kind.Kind.TheVariants.{Package, Entry, EntryField}
-use Rattle.proto_meaning.specs.Faults.{place_from, place_of}
-use Rattle.proto_meaning.specs.Grown.{At, at}
-use Rattle.proto_meaning.specs.Joined.{joined}
-use Rattle.proto_meaning.specs.Names.{Symbol}
-use Rattle.proto_meaning.specs.Skeleton.{Source, Token, EntryOf, Given, Declared, IsAimEntry, name_of, shifted_source, spell, symbol_of}
-use Rattle.proto_meaning.proofs.Edited.{map_append}
-use Rattle.proto_meaning.proofs.Joined.{joined_apart}
-use Rattle.proto_meaning.proofs.Symbols.{one_symbol}
+use Rattle.proto_meaning.proofs.Common.{place_from, place_of, At, at, joined, Symbol, Source, Token, EntryOf, Given, Declared, IsAimEntry, name_of, shifted_source, spell, symbol_of, map_append, joined_apart, one_symbol}
 use Rattle.proto_listing.specs.FromTree.{items_in}
-use Rattle.proto_imports.specs.Links.{LinkFaults, link_skeleton, names_of_files, text_of}
-use Rattle.proto_names.specs.LinkOfFiles.{IsLinkOf, IsLinkRead}
-use Rattle.proto_names.specs.Linking.{LinkOf, NameOf, name_at, text_at}
-use Rattle.proto_rename_laws.specs.Cases.{IsUnknown, RenameCase, unknown_target, kind_not_allowed}
-use Rattle.proto_rename_laws.specs.Targets.{Target, IsNamed, may_rename}
-use Rattle.proto_rename_laws.proofs.Declarations.{EndsAs, IsDeclaredBy, declared_by, path_of, placed_ends, is_written}
-use Rattle.proto_rename_laws.proofs.NoLinkFault.{files_are_linked, files_are_woven}
-use Rattle.proto_rename_laws.proofs.OneTarget.{place_last}
-use Rattle.proto_imports.proofs.PlainNames.{names_are_plain}
-use Rattle.proto_rename_laws.proofs.TargetThere.{targets_are_there}
-use Rattle.proto_rename_laws.specs.Inside.{IsInside}
-use Rattle.proto_rename_laws.proofs.Inside.{tokens_are_inside}
-use Rattle.proto_captures.specs.Aims.{IsAimedAt, IsNoTarget, IsNotAllowed}
+use Rattle.proto_imports.proofs.Common.{LinkFaults, link_skeleton, names_of_files, text_of, names_are_plain}
+use Rattle.proto_names.proofs.Common.{IsLinkOf, IsLinkRead, LinkOf, NameOf, name_at, text_at}
+use Rattle.proto_rename_laws.proofs.Common.{IsUnknown, RenameCase, unknown_target, kind_not_allowed, Target, IsNamed, may_rename, EndsAs, IsDeclaredBy, declared_by, path_of, placed_ends, is_written, files_are_linked, files_are_woven, place_last, targets_are_there, IsInside, tokens_are_inside}
+use Rattle.proto_captures.specs.Common.{IsAimedAt, IsNoTarget, IsNotAllowed, Aim, HasDeclared, HasUnmoved, IsNotDeclared}
 use Rattle.proto_captures.specs.declared.aim.NoTarget.{NoTarget}
 use Rattle.proto_captures.specs.declared.aim.NoTarget.TheVariants as variant
-use Rattle.proto_captures.specs.declared.aim.Aim.{Aim}
-use Rattle.proto_captures.specs.Looked.{HasDeclared, HasUnmoved, IsNotDeclared}
 use Rattle.proto_captures.proofs.JoinedNames.{lead, joined_last}
 use Rattle.proto_captures.proofs.LookedUp.{same_test}
 

@@ -1,30 +1,13 @@
 -- The first reference of all files that a rename captures, and the rename that an aim asks for.
-use Rattle.std.proofs.Common.{◌≡◌, ℕ, ◌+◌, ◌<◌, true, List, [], ◌∷◌, length, map, Option, Some, None, refl, sym, ap, subst, ◌∙◌, inl, inr, arith}
-use Rattle.std.specs.Prelude.{Result, Ok, Err, IfOk}
-use Rattle.std.specs.List.{Contains}
+use Rattle.std.proofs.Common.{◌≡◌, ℕ, ◌+◌, ◌<◌, true, List, [], ◌∷◌, length, map, Option, Some, None, refl, sym, ap, subst, ◌∙◌, inl, inr, arith, Result, Ok, Err, IfOk, Contains}
 use Rattle.proto_case.specs.Camel.{entry_name}
-use Rattle.proto_text.specs.Tokens.{Lexeme, lexeme_at}
-use Rattle.proto_text.specs.Texts.{word_at}
-use Rattle.proto_text.specs.Words.{is_run}
+use Rattle.proto_text.proofs.Common.{Lexeme, lexeme_at, word_at, is_run}
 use Rattle.proto_text.specs.declared.lexer.Token.{Token as TextToken}
-use Rattle.proto_files.specs.Faults.{HasNoFault}
-use Rattle.proto_files.specs.FileTokens.{AreTokensOf}
-use Rattle.proto_files.specs.FilesRead.{ReadOf, AreRead, read_at}
-use Rattle.proto_files.specs.GivenFiles.{FileOf, file_at}
-use Rattle.proto_imports.specs.Links.{LinkFaults, names_of_files, text_of}
-use Rattle.proto_meaning.specs.Edits.{Collides, target}
-use Rattle.proto_meaning.specs.Grown.{At, at, used_in}
-use Rattle.proto_meaning.specs.Joined.{joined}
-use Rattle.proto_meaning.specs.Skeleton.{Token, Used, name_of, spell}
-use Rattle.proto_meaning.proofs.Edited.{map_append}
-use Rattle.proto_imports.specs.Links.{uses_of}
-use Rattle.proto_rename_laws.specs.Cases.{Captures, StandsBefore}
-use Rattle.proto_rename_laws.specs.Targets.{Target, name_map}
-use Rattle.proto_rename_laws.proofs.Inside.{tokens_are_inside}
-use Rattle.proto_captures.specs.Aims.{IsAimOf, IsAimedAt}
-use Rattle.proto_captures.specs.declared.aim.Aim.{Aim}
-use Rattle.proto_captures.specs.FirstCaptured.{AreNewNames, IsFirstCaptured, IsFirstIn, IsRenameOf}
-use Rattle.proto_captures.specs.NewTexts.{NewTexts, texts_by}
+use Rattle.proto_files.proofs.Common.{HasNoFault, AreTokensOf, ReadOf, AreRead, read_at, FileOf, file_at}
+use Rattle.proto_imports.specs.Links.{LinkFaults, names_of_files, text_of, uses_of}
+use Rattle.proto_meaning.proofs.Common.{Collides, target, At, at, used_in, joined, Token, Used, name_of, spell, map_append}
+use Rattle.proto_rename_laws.proofs.Common.{Captures, StandsBefore, Target, name_map, tokens_are_inside}
+use Rattle.proto_captures.specs.Common.{IsAimOf, IsAimedAt, Aim, AreNewNames, IsFirstCaptured, IsFirstIn, IsRenameOf, NewTexts, texts_by}
 use Rattle.proto_captures.proofs.JoinedNames.{word_is_plain}
 use Rattle.proto_names.proofs.UsesOfFiles.{from_use}
 

@@ -1,24 +1,10 @@
 -- What a link shows by texts is what the workspace shows by names.
-use Rattle.std.proofs.Common.{◌≡◌, ◌≢◌, ℕ, Bool, true, false, ◌&&◌, ◌||◌, if◌then◌else◌, List, [], ◌∷◌, ◌++◌, Option, Some, None, option_map, refl, sym, ap, ap₂, subst, ◌∙◌, append_assoc}
-use Rattle.std.specs.List.{Contains}
-use Rattle.std.specs.Str.{bytes_eq}
-use Rattle.std.proofs.lemmas.Bool.{and_from, and_parts}
-use Rattle.std.proofs.lemmas.Option.{none-some, same_Some}
-use Rattle.proto_faults.proofs.Lists.{any_from, same_from_word, word_from_same}
-use Rattle.proto_meaning.specs.Edits.{Renaming, target}
-use Rattle.proto_meaning.specs.Joined.{ArePlain, IsPlain, below, joined}
-use Rattle.proto_meaning.specs.Linked.{EntryFits, IsRenaming}
-use Rattle.proto_meaning.specs.Names.{Symbol, Workspace, same_name, sees, shows}
-use Rattle.proto_meaning.proofs.Basics.{name_from_same, same_from_name}
-use Rattle.proto_meaning.proofs.Joined.{joined_apart}
-use Rattle.proto_meaning.proofs.Ren.{last_parts}
-use Rattle.proto_meaning.proofs.Symbols.{shown}
+use Rattle.std.proofs.Common.{◌≡◌, ◌≢◌, ℕ, Bool, true, false, ◌&&◌, ◌||◌, if◌then◌else◌, List, [], ◌∷◌, ◌++◌, Option, Some, None, option_map, refl, sym, ap, ap₂, subst, ◌∙◌, append_assoc, Contains, bytes_eq}
+use Rattle.proto_faults.proofs.Common.{and_from, and_parts, none-some, same_Some, any_from, same_from_word, word_from_same}
+use Rattle.proto_meaning.proofs.Common.{Renaming, target, ArePlain, IsPlain, below, joined, EntryFits, IsRenaming, Symbol, Workspace, same_name, sees, shows, name_from_same, same_from_name, joined_apart, last_parts, shown}
 use Rattle.proto_imports.proofs.PlainNames.{plain_join}
-use Rattle.proto_names.specs.LinkOfFiles.{HoldsNames}
-use Rattle.proto_names.specs.Linking.{LinkOf, NameOf, is_visible, name_at, text_at}
-use Rattle.proto_captures.specs.NewTexts.{NewTexts}
-use Rattle.proto_captures.specs.ShownAnew.{shows_anew, shows_beside, shows_entry}
-use Rattle.proto_captures.specs.ShownTexts.{entry_shown_if, first_fits, kind_fits, kind_named, shown_below, shown_beside, shows_text}
+use Rattle.proto_names.proofs.Common.{HoldsNames, LinkOf, NameOf, is_visible, name_at, text_at}
+use Rattle.proto_captures.specs.Common.{NewTexts, shows_anew, shows_beside, shows_entry, entry_shown_if, first_fits, kind_fits, kind_named, shown_below, shown_beside, shows_text}
 use Rattle.proto_captures.proofs.KindNamed.{kind_at}
 use Rattle.proto_captures.proofs.NewlyShown.{same_truth}
 

@@ -1,29 +1,12 @@
 -- The answer by texts for one reference is that of the definition by names.
-use Rattle.std.proofs.Common.{◌≡◌, ◌≢◌, ℕ, zero, suc, ◌-◌, ◌<◌, ◌≤◌, Bool, true, false, ◌&&◌, if◌then◌else◌, List, [], ◌∷◌, ◌++◌, length, take, drop, Option, Some, None, refl, sym, ap, subst, ◌∙◌, inl, inr, arith}
-use Rattle.std.specs.Prelude.{◌==◌, nat_eq}
-use Rattle.std.specs.List.{starts_with}
-use Rattle.std.specs.Str.{bytes_eq}
-use Rattle.std.proofs.lemmas.Bool.{and_from, and_parts, both_ways, cond-false, eq-eqb, eqb-true, or_cases, or_left, or_right}
-use Rattle.std.proofs.lemmas.List.{length-take-le, take-append-drop, take_at}
-use Rattle.std.proofs.lemmas.Option.{none-some}
-use Rattle.proto_faults.proofs.Lists.{same_from_word, word_from_same}
-use Rattle.proto_meaning.specs.Edits.{Renaming, Collides, IsCaptured, ren, rewritten, shows_mapped, target}
-use Rattle.proto_meaning.specs.Joined.{ArePlain, IsPlain, joined}
-use Rattle.proto_meaning.specs.Linked.{IsLinked, IsRenaming}
-use Rattle.proto_meaning.specs.Names.{Reference, Workspace, fits, front_at, hit, meaning, meaning_at, same_name, shows, typed}
-use Rattle.proto_meaning.proofs.Basics.{name_from_same, same_from_name}
-use Rattle.proto_meaning.proofs.Joined.{joined_apart}
-use Rattle.proto_meaning.proofs.Rename.{hit_relative}
+use Rattle.std.proofs.Common.{◌≡◌, ◌≢◌, ℕ, zero, suc, ◌-◌, ◌<◌, ◌≤◌, Bool, true, false, ◌&&◌, if◌then◌else◌, List, [], ◌∷◌, ◌++◌, length, take, drop, Option, Some, None, refl, sym, ap, subst, ◌∙◌, inl, inr, arith, ◌==◌, nat_eq, bytes_eq, eq-eqb, eqb-true, length-take-le, take-append-drop, take_at}
+use Rattle.proto_faults.proofs.Common.{starts_with, and_from, and_parts, both_ways, cond-false, or_cases, or_left, or_right, none-some, same_from_word, word_from_same}
+use Rattle.proto_meaning.proofs.Common.{Renaming, Collides, IsCaptured, ren, rewritten, shows_mapped, target, ArePlain, IsPlain, joined, IsLinked, IsRenaming, Reference, Workspace, fits, front_at, hit, meaning, meaning_at, same_name, shows, typed, name_from_same, same_from_name, joined_apart, hit_relative}
 use Rattle.proto_imports.proofs.PlainNames.{plain_join}
-use Rattle.proto_names.specs.LinkOfFiles.{HoldsNames}
-use Rattle.proto_names.specs.Linking.{LinkOf, is_visible}
-use Rattle.proto_rename_laws.specs.Captures.{HasScope, IsNewWord}
+use Rattle.proto_names.proofs.Common.{HoldsNames, LinkOf, is_visible}
+use Rattle.proto_rename_laws.proofs.Common.{HasScope, IsNewWord, meaning_parts}
 use Rattle.proto_rename_laws.proofs.Captures.{captures_begin_anew}
-use Rattle.proto_rename_laws.proofs.PlacesSuit.{meaning_parts}
-use Rattle.proto_captures.specs.Capturing.{bytes_before, captures_at, captures_words, first_now, is_cons, shown_from, stands_first}
-use Rattle.proto_captures.specs.NewTexts.{NewTexts, is_new_by, is_new_word}
-use Rattle.proto_captures.specs.ShownAnew.{IsDeclaredName}
-use Rattle.proto_captures.specs.ShownTexts.{first_fits, shown_below}
+use Rattle.proto_captures.specs.Common.{bytes_before, captures_at, captures_words, first_now, is_cons, shown_from, stands_first, NewTexts, is_new_by, is_new_word, IsDeclaredName, first_fits, shown_below}
 use Rattle.proto_captures.proofs.ByTexts.{shown_is, target_plain, texts_for}
 use Rattle.proto_captures.proofs.FrontLengths.{before_first, deeper, joined_begins, not_deeper, scan_from, scan_to}
 use Rattle.proto_captures.proofs.NewlyShown.{same_truth, shown_is_anew}

@@ -1,48 +1,25 @@
 -- The references of a file that a rename captures, by what is read of it; and those of all files.
-use Rattle.std.proofs.Common.{◌≡◌, ℕ, ◌+◌, ◌<◌, Bool, true, false, not, ◌&&◌, if◌then◌else◌, List, [], ◌∷◌, ◌++◌, length, get_or, map, Option, Some, None, refl, sym, ap, subst, ◌∙◌, arith}
-use Rattle.std.specs.Prelude.{option_map}
-use Rattle.std.specs.List.{AllPairs, Contains}
-use Rattle.std.proofs.lemmas.Bool.{and_from, and_parts, not-true, not_from_false}
-use Rattle.proto_faults.specs.Texts.{or_nothing}
-use Rattle.proto_case.specs.Camel.{entry_name}
-use Rattle.proto_case.proofs.EntryNames.{entry_differs}
-use Rattle.proto_faults.proofs.Lists.{contains_map}
+use Rattle.std.proofs.Common.{◌≡◌, ℕ, ◌+◌, ◌<◌, Bool, true, false, not, ◌&&◌, if◌then◌else◌, List, [], ◌∷◌, ◌++◌, length, get_or, map, Option, Some, None, refl, sym, ap, subst, ◌∙◌, arith, option_map, AllPairs, Contains}
+use Rattle.proto_faults.proofs.Common.{and_from, and_parts, not-true, not_from_false, or_nothing, contains_map}
+use Rattle.proto_case.proofs.Common.{entry_name, entry_differs}
 use Rattle.proto_text.specs.Texts.{words}
-use Rattle.proto_files.specs.FilesRead.{ReadOf, read_at}
-use Rattle.proto_files.specs.GivenFiles.{FileOf, file_at}
-use Rattle.proto_imports.specs.Links.{link_skeleton, names_of_files, text_of}
-use Rattle.proto_listing.specs.Listing.{path_of, read, used_by}
+use Rattle.proto_files.proofs.Common.{ReadOf, read_at, FileOf, file_at}
+use Rattle.proto_imports.proofs.Common.{link_skeleton, names_of_files, text_of, uses_of, name_in, used_named}
+use Rattle.proto_listing.proofs.Common.{path_of, read, used_by, uses_plain}
 use Rattle.proto_listing.specs.declared.listing.Listed.{Listed}
 use Rattle.proto_listing.specs.declared.listing.Use.{Use}
-use Rattle.proto_listing.proofs.ReadTrees.{uses_plain}
-use Rattle.proto_meaning.specs.Edits.{Renaming, IsCaptured, target}
-use Rattle.proto_meaning.specs.Grown.{At, at, used_in}
-use Rattle.proto_meaning.specs.Joined.{ArePlain, IsPlain, joined}
-use Rattle.proto_meaning.specs.Linked.{IsLinked, EntryFits, IsRenaming}
-use Rattle.proto_meaning.specs.Names.{Reference, Workspace, meaning}
+use Rattle.proto_meaning.proofs.Common.{Renaming, IsCaptured, target, At, at, used_in, ArePlain, IsPlain, joined, IsLinked, EntryFits, IsRenaming, Reference, Workspace, meaning, Source, Token, EntryOf, IsAimEntry, Used, name_of, reference_of, spell, symbol_of, map_append, map_map}
 use Rattle.proto_meaning.specs.declared.kind.Kind.{Kind}
 use Rattle.proto_meaning.specs.declared.kind.Kind.TheVariants.{Package, Entry}
-use Rattle.proto_meaning.specs.Skeleton.{Source, Token, EntryOf, IsAimEntry, Used, name_of, reference_of, spell, symbol_of}
-use Rattle.proto_meaning.proofs.Edited.{map_append, map_map}
-use Rattle.proto_imports.specs.Links.{uses_of}
 use Rattle.proto_names.specs.Laws.{VisibleIsShown}
-use Rattle.proto_names.specs.LinkOfFiles.{HoldsNames, IsLinkOf, meant_by_link, meant_by_use, TextMeant}
-use Rattle.proto_names.specs.Linking.{LinkOf, text_at}
+use Rattle.proto_names.proofs.Common.{HoldsNames, IsLinkOf, meant_by_link, meant_by_use, TextMeant, LinkOf, text_at, use_there}
 use Rattle.proto_names.specs.declared.references.Meant.{Meant}
-use Rattle.proto_rename_laws.specs.Captures.{HasScope}
-use Rattle.proto_rename_laws.specs.Cases.{Captures}
-use Rattle.proto_rename_laws.specs.Targets.{Target, may_rename, name_map}
-use Rattle.proto_rename_laws.proofs.NoLinkFault.{files_are_linked, files_are_woven}
-use Rattle.proto_imports.proofs.PlainNames.{name_in}
-use Rattle.proto_imports.specs.Links.{used_named}
-use Rattle.proto_captures.specs.Capturing.{captures_use, captures_words}
-use Rattle.proto_captures.specs.FirstCaptured.{AreNewNames, IsFirstIn, IsRenameOf, captures_by, first_of}
-use Rattle.proto_captures.specs.NewTexts.{NewTexts, entry_words}
+use Rattle.proto_rename_laws.proofs.Common.{HasScope, Captures, Target, may_rename, name_map, files_are_linked, files_are_woven}
+use Rattle.proto_captures.specs.Common.{captures_use, captures_words, AreNewNames, IsFirstIn, IsRenameOf, captures_by, first_of, NewTexts, entry_words}
 use Rattle.proto_captures.proofs.ByTexts.{texts_for}
 use Rattle.proto_captures.proofs.CapturedWords.{back, forth}
 use Rattle.proto_captures.proofs.FirstOnes.{none_passes, one_passes}
 use Rattle.proto_captures.proofs.PlainWords.{has_scope, scope_plain}
-use Rattle.proto_names.proofs.UsesOfFiles.{use_there}
 
 -- ---- the name map of a target
 

@@ -1,15 +1,9 @@
 -- The first of the references that are read in step with what they mean.
-use Rattle.std.proofs.Common.{◌≡◌, ℕ, suc, ◌+◌, ◌<◌, Bool, true, false, cond, List, [], ◌∷◌, length, get_or, drop, map, min, Option, Some, None, refl, sym, ap, subst, ◌∙◌, inl, inr, arith}
-use Rattle.std.specs.List.{AllPairs, Contains}
-use Rattle.std.proofs.lemmas.Bool.{both_ways, cases_Bool, cases_lt, cond-false, cond-true}
-use Rattle.std.proofs.lemmas.List.{drop_all, drop_more}
-use Rattle.std.proofs.lemmas.Option.{none-some, same_Some}
-use Rattle.proto_faults.proofs.Lists.{contains_cases, contains_head, contains_later, contains_map, from_map}
-use Rattle.proto_files.specs.FilesRead.{ReadOf}
-use Rattle.proto_files.specs.GivenFiles.{FileOf}
+use Rattle.std.proofs.Common.{◌≡◌, ℕ, suc, ◌+◌, ◌<◌, Bool, true, false, cond, List, [], ◌∷◌, length, get_or, drop, map, min, Option, Some, None, refl, sym, ap, subst, ◌∙◌, inl, inr, arith, AllPairs, Contains}
+use Rattle.proto_faults.proofs.Common.{both_ways, cases_Bool, cases_lt, cond-false, cond-true, drop_all, drop_more, none-some, same_Some, contains_cases, contains_head, contains_later, contains_map, from_map}
+use Rattle.proto_files.proofs.Common.{ReadOf, FileOf}
 use Rattle.proto_meaning.specs.Skeleton.{Used}
-use Rattle.proto_names.specs.LinkOfFiles.{TextMeant, meant_by_link, meant_by_use}
-use Rattle.proto_names.specs.Linking.{LinkOf}
+use Rattle.proto_names.proofs.Common.{TextMeant, meant_by_link, meant_by_use, LinkOf}
 use Rattle.proto_listing.specs.declared.listing.Use.{Use}
 use Rattle.proto_names.specs.declared.references.Meant.{Meant}
 use Rattle.proto_captures.specs.FirstCaptured.{first_of}

@@ -1,10 +1,7 @@
 -- How long the fronts of a scope are as text, and what scanning them finds.
-use Rattle.std.proofs.Common.{◌≡◌, ℕ, zero, suc, ◌+◌, ◌-◌, ◌<◌, ◌≤◌, Bool, true, false, ◌&&◌, List, [], ◌∷◌, ◌++◌, length, take, refl, sym, ap, subst, ◌∙◌, inl, inr, arith, append_assoc, length-append}
-use Rattle.std.specs.Prelude.{nat_le}
-use Rattle.std.proofs.lemmas.Bool.{and_from, and_parts, both_ways, cases_lt, le-leb, leb-true, or_cases, or_left, or_right}
-use Rattle.std.proofs.lemmas.List.{append-nil}
-use Rattle.proto_meaning.specs.Forest.{under}
-use Rattle.proto_meaning.specs.Joined.{ArePlain, joined}
+use Rattle.std.proofs.Common.{◌≡◌, ℕ, zero, suc, ◌+◌, ◌-◌, ◌<◌, ◌≤◌, Bool, true, false, ◌&&◌, List, [], ◌∷◌, ◌++◌, length, take, refl, sym, ap, subst, ◌∙◌, inl, inr, arith, append_assoc, length-append, nat_le, le-leb, leb-true, append-nil}
+use Rattle.std.proofs.lemmas.Bool.{and_from, and_parts, both_ways, cases_lt, or_cases, or_left, or_right}
+use Rattle.proto_meaning.proofs.Common.{under, ArePlain, joined}
 use Rattle.proto_table.proofs.Search.{joined_more}
 use Rattle.proto_captures.specs.Capturing.{bytes_before, shown_from}
 

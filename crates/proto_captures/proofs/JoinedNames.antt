@@ -1,7 +1,6 @@
 -- A full name is a front and its last word.
 use Rattle.std.proofs.Common.{◌≡◌, ℕ, true, List, [], ◌∷◌, ◌++◌, refl, sym, ◌∙◌, ap, append_assoc}
-use Rattle.proto_text.specs.Words.{is_run}
-use Rattle.proto_text.proofs.WordTest.{run_is}
+use Rattle.proto_text.proofs.Common.{is_run, run_is}
 use Rattle.proto_meaning.specs.Joined.{joined, IsPlain, ArePlain}
 use Rattle.proto_listing.proofs.ReadTrees.{run_is_plain}
 

@@ -1,11 +1,6 @@
 -- The kind of a link's name by its text.
-use Rattle.std.proofs.Common.{◌≡◌, ◌≢◌, ℕ, zero, suc, List, [], ◌∷◌, Some, None, option_map, refl, sym, ap, ◌∙◌, inl, inr, arith}
-use Rattle.std.specs.Prelude.{slice_get}
-use Rattle.std.specs.List.{find}
-use Rattle.std.specs.Str.{bytes_eq}
-use Rattle.std.proofs.lemmas.Bool.{cases_Bool, cond-false, cond-true}
-use Rattle.std.proofs.lemmas.Option.{none-some, same_Some}
-use Rattle.proto_faults.proofs.Lists.{same_from_word, word_from_same}
+use Rattle.std.proofs.Common.{◌≡◌, ◌≢◌, ℕ, zero, suc, List, [], ◌∷◌, Some, None, option_map, refl, sym, ap, ◌∙◌, inl, inr, arith, slice_get, find, bytes_eq}
+use Rattle.proto_faults.proofs.Common.{cases_Bool, cond-false, cond-true, none-some, same_Some, same_from_word, word_from_same}
 use Rattle.proto_names.specs.Linking.{LinkOf, NameOf, name_at, text_at}
 use Rattle.proto_captures.specs.ShownTexts.{kind_named}
 

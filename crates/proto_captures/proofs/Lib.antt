@@ -3,6 +3,7 @@ pub mod Aims
 mod AllFiles
 mod ByTexts
 mod CapturedWords
+pub mod Common
 mod FileCaptures
 mod FileOvertaken
 mod FirstOnes

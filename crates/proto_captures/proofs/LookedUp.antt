@@ -3,8 +3,7 @@ use Rattle.std.proofs.Common.{◌≡◌, ◌↔◌, ℕ, Bool, true, false, IsTr
 use Rattle.std.proofs.lemmas.Option.{none-some, same_Some}
 use Rattle.proto_meaning.specs.declared.kind.Kind.{Kind}
 use Rattle.proto_meaning.specs.declared.kind.Kind.TheVariants.{Package, Message, Entry, Enum, Service, Field, EntryField, Oneof, Value, Method}
-use Rattle.proto_meaning.specs.Grown.{At, at}
-use Rattle.proto_meaning.specs.Linked.{is_package}
+use Rattle.proto_meaning.proofs.Common.{At, at, is_package}
 use Rattle.proto_names.specs.Linking.{LinkOf, NameOf, name_at, text_at}
 use Rattle.proto_rename_laws.specs.Targets.{may_rename}
 use Rattle.proto_captures.specs.Looked.{HasDeclared, HasUnmoved, IsEntryThere, first_place}

@@ -1,13 +1,7 @@
 -- A collision is one of the new names.
-use Rattle.std.proofs.Common.{◌≡◌, ℕ, ◌<◌, Bool, true, false, ◌&&◌, ◌||◌, List, [], ◌∷◌, ◌++◌, length, Option, refl, sym, ◌∙◌, ap, subst, inl, inr, arith, append_assoc, length-append}
-use Rattle.std.specs.List.{Contains}
-use Rattle.std.specs.Str.{bytes_eq}
-use Rattle.std.proofs.lemmas.Bool.{cond-true, cond-false, false_from_ne_true}
-use Rattle.proto_faults.proofs.Lists.{same_from_word, word_from_same}
-use Rattle.proto_meaning.specs.Edits.{Renaming, Collides, in_domain, is_below, moves, moves_by, ren, turn_below, turned, turned_by}
-use Rattle.proto_meaning.specs.Linked.{EntryFits, IsLinked, IsRenaming}
-use Rattle.proto_meaning.specs.Names.{Symbol, Workspace}
-use Rattle.proto_meaning.proofs.Symbols.{below_split, front_of, moved}
+use Rattle.std.proofs.Common.{◌≡◌, ℕ, ◌<◌, Bool, true, false, ◌&&◌, ◌||◌, List, [], ◌∷◌, ◌++◌, length, Option, refl, sym, ◌∙◌, ap, subst, inl, inr, arith, append_assoc, length-append, Contains, bytes_eq}
+use Rattle.proto_faults.proofs.Common.{cond-true, cond-false, false_from_ne_true, same_from_word, word_from_same}
+use Rattle.proto_meaning.proofs.Common.{Renaming, Collides, in_domain, is_below, moves, moves_by, ren, turn_below, turned, turned_by, EntryFits, IsLinked, IsRenaming, Symbol, Workspace, below_split, front_of, moved}
 use Rattle.proto_captures.specs.Collisions.{IsTaken, IsNewNameTaken, CollisionsAreNewNames}
 
 pub below_word : (ps : List (List ℕ)) (t : List ℕ → Bool) (v : List ℕ) (rest : List (List ℕ)) → is_below ps t (ps ++ v ∷ rest) ≡ t v

@@ -1,17 +1,8 @@
 -- What is shown under the new names of a rename, where nothing collides.
-use Rattle.std.proofs.Common.{◌≡◌, ◌≢◌, ℕ, ◌<◌, Bool, true, false, ◌&&◌, if◌then◌else◌, List, [], ◌∷◌, ◌++◌, length, Option, Some, None, refl, sym, ap, ap₂, subst, ◌∙◌, inl, inr, arith, length-append}
-use Rattle.std.specs.List.{Contains}
-use Rattle.std.specs.Str.{bytes_eq}
-use Rattle.std.proofs.lemmas.Bool.{and_from, and_parts, both_ways, cases_Bool, cond-false, cond-true, false_from_ne_true, or_cases, or_left, or_right}
-use Rattle.std.proofs.lemmas.Option.{none-some, same_Some}
-use Rattle.proto_faults.proofs.Lists.{any_from, any_to, same_from_word, word_from_same}
+use Rattle.std.proofs.Common.{◌≡◌, ◌≢◌, ℕ, ◌<◌, Bool, true, false, ◌&&◌, if◌then◌else◌, List, [], ◌∷◌, ◌++◌, length, Option, Some, None, refl, sym, ap, ap₂, subst, ◌∙◌, inl, inr, arith, length-append, Contains, bytes_eq}
+use Rattle.proto_faults.proofs.Common.{and_from, and_parts, both_ways, cases_Bool, cond-false, cond-true, false_from_ne_true, or_cases, or_left, or_right, none-some, same_Some, any_from, any_to, same_from_word, word_from_same}
 use Rattle.proto_meaning.specs.declared.kind.Kind.{Kind}
-use Rattle.proto_meaning.specs.Edits.{Renaming, Collides, is_below, moves, moves_by, ren, shows_mapped, target, turned, turned_by}
-use Rattle.proto_meaning.specs.Linked.{IsLinked, EntryFits, IsRenaming}
-use Rattle.proto_meaning.specs.Names.{Symbol, Workspace, same_name, sees, shows}
-use Rattle.proto_meaning.proofs.Basics.{name_from_same, same_from_name}
-use Rattle.proto_meaning.proofs.Ren.{last_parts, turn_below-length, turn_below-more}
-use Rattle.proto_meaning.proofs.Symbols.{moved, ren_apart, shown, split_last, stays}
+use Rattle.proto_meaning.proofs.Common.{Renaming, Collides, is_below, moves, moves_by, ren, shows_mapped, target, turned, turned_by, IsLinked, EntryFits, IsRenaming, Symbol, Workspace, same_name, sees, shows, name_from_same, same_from_name, last_parts, turn_below-length, turn_below-more, moved, ren_apart, shown, split_last, stays}
 use Rattle.proto_rename_laws.specs.Captures.{IsNewWord}
 use Rattle.proto_captures.specs.ShownAnew.{IsDeclaredName, ShownIsAnew, shows_anew, shows_beside, shows_entry}
 

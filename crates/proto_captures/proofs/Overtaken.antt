@@ -1,31 +1,13 @@
 -- What is seen by texts is seen by names, and so a reference that is overtaken by texts is overtaken by names.
-use Rattle.std.proofs.Common.{◌≡◌, ◌↔◌, ℕ, zero, suc, ◌-◌, ◌<◌, ◌≤◌, Bool, true, false, ◌&&◌, List, [], ◌∷◌, ◌++◌, length, get_or, take, Option, Some, None, option_map, refl, sym, ap, subst, ◌∙◌, inl, inr, arith}
-use Rattle.std.specs.Prelude.{slice_get}
-use Rattle.std.specs.List.{AllPairs, Contains, find}
-use Rattle.std.specs.Str.{bytes_eq}
-use Rattle.std.proofs.lemmas.Bool.{and_from, and_parts, both_ways, cases_Bool, cond-false, cond-true}
-use Rattle.std.proofs.lemmas.List.{get_or_default}
-use Rattle.std.proofs.lemmas.Option.{none-some, same_Some}
-use Rattle.proto_faults.proofs.Lists.{any_from, word_from_same}
+use Rattle.std.proofs.Common.{◌≡◌, ◌↔◌, ℕ, zero, suc, ◌-◌, ◌<◌, ◌≤◌, Bool, true, false, ◌&&◌, List, [], ◌∷◌, ◌++◌, length, get_or, take, Option, Some, None, option_map, refl, sym, ap, subst, ◌∙◌, inl, inr, arith, slice_get, AllPairs, Contains, find, bytes_eq}
+use Rattle.proto_faults.proofs.Common.{and_from, and_parts, both_ways, cases_Bool, cond-false, cond-true, get_or_default, none-some, same_Some, any_from, word_from_same}
 use Rattle.proto_meaning.specs.declared.kind.Kind.{Kind}
 use Rattle.proto_meaning.specs.declared.kind.Kind.TheVariants.{Package}
-use Rattle.proto_meaning.specs.Edits.{IsOvertaken}
-use Rattle.proto_meaning.specs.Joined.{ArePlain, IsPlain, below, joined}
-use Rattle.proto_meaning.specs.Linked.{AreApart, is_package}
-use Rattle.proto_meaning.specs.Marks.{MarksSeen}
-use Rattle.proto_meaning.specs.Names.{Reference, Symbol, Workspace, fits, front_at, hit, hits_at, meaning, meaning_at, same_name, sees, shows, typed}
-use Rattle.proto_meaning.proofs.Basics.{same_from_name}
-use Rattle.proto_meaning.proofs.Joined.{joined_apart}
-use Rattle.proto_meaning.proofs.Rename.{hit_relative}
-use Rattle.proto_meaning.proofs.Sound.{package_from}
-use Rattle.proto_meaning.proofs.Symbols.{one_symbol, shown}
+use Rattle.proto_meaning.proofs.Common.{IsOvertaken, ArePlain, IsPlain, below, joined, AreApart, is_package, MarksSeen, Reference, Symbol, Workspace, fits, front_at, hit, hits_at, meaning, meaning_at, same_name, sees, shows, typed, same_from_name, joined_apart, hit_relative, package_from, one_symbol, shown}
 use Rattle.proto_imports.proofs.PlainNames.{plain_join}
-use Rattle.proto_names.specs.LinkOfFiles.{HoldsNames}
-use Rattle.proto_names.specs.Linking.{LinkOf, NameOf, name_at, text_at}
+use Rattle.proto_names.proofs.Common.{HoldsNames, LinkOf, NameOf, name_at, text_at}
 use Rattle.proto_rename_laws.proofs.PlacesSuit.{meaning_parts}
-use Rattle.proto_captures.specs.Capturing.{bytes_before, is_cons, shown_from}
-use Rattle.proto_captures.specs.Overtaking.{fits_seen, is_marked, is_seen, overtakes_words, sees_text}
-use Rattle.proto_captures.specs.ShownTexts.{first_fits}
+use Rattle.proto_captures.specs.Common.{bytes_before, is_cons, shown_from, fits_seen, is_marked, is_seen, overtakes_words, sees_text, first_fits}
 use Rattle.proto_captures.proofs.ByTexts.{below_is, named_at}
 use Rattle.proto_captures.proofs.CapturedWords.{plain_take, taken}
 use Rattle.proto_captures.proofs.FrontLengths.{before_first, deeper, not_deeper, scan_from, scan_to}

@@ -1,12 +1,8 @@
 -- The packages of marked files, gathered file by file.
-use Rattle.std.proofs.Common.{◌≡◌, ◌↔◌, ℕ, suc, ◌+◌, ◌<◌, Bool, true, false, ◌||◌, cond, List, ◌∷◌, length, map, get_or, drop, refl, sym, ap, subst, ◌∙◌, inl, inr, arith}
-use Rattle.std.specs.List.{Contains, list_any}
-use Rattle.std.specs.Str.{bytes_eq}
+use Rattle.std.proofs.Common.{◌≡◌, ◌↔◌, ℕ, suc, ◌+◌, ◌<◌, Bool, true, false, ◌||◌, cond, List, ◌∷◌, length, map, get_or, drop, refl, sym, ap, subst, ◌∙◌, inl, inr, arith, Contains, bytes_eq}
+use Rattle.proto_faults.proofs.Common.{list_any, both_ways, cases_lt, or_cases, or_left, or_right, any_from, any_to, same_from_word, word_from_same}
 use Rattle.std.proofs.Math.Seq.{drop-cons}
-use Rattle.std.proofs.lemmas.Bool.{both_ways, cases_lt, or_cases, or_left, or_right}
-use Rattle.proto_faults.proofs.Lists.{any_from, any_to, same_from_word, word_from_same}
-use Rattle.proto_files.specs.FilesRead.{ReadOf}
-use Rattle.proto_files.specs.GivenFiles.{FileOf}
+use Rattle.proto_files.proofs.Common.{ReadOf, FileOf}
 use Rattle.proto_meaning.specs.Forest.{under}
 use Rattle.proto_captures.specs.Overtaking.{fronts_from, is_marked, package_texts}
 

@@ -1,32 +1,14 @@
 -- The packages of marked files, as text, are the packages among the names.
-use Rattle.std.proofs.Common.{◌≡◌, ◌↔◌, ℕ, ◌+◌, ◌<◌, Bool, true, false, List, [], ◌∷◌, ◌++◌, length, map, refl, sym, ap, subst, ◌∙◌, inl, inr, arith}
-use Rattle.std.specs.List.{Contains}
-use Rattle.std.proofs.lemmas.Bool.{both_ways}
-use Rattle.std.proofs.lemmas.List.{length-map}
-use Rattle.std.proofs.lemmas.List.Elements.{Contains-append_cases, Contains-append_left}
+use Rattle.std.proofs.Common.{◌≡◌, ◌↔◌, ℕ, ◌+◌, ◌<◌, Bool, true, false, List, [], ◌∷◌, ◌++◌, length, map, refl, sym, ap, subst, ◌∙◌, inl, inr, arith, Contains}
+use Rattle.proto_faults.proofs.Common.{both_ways, length-map, Contains-append_cases, Contains-append_left, contains_cases, contains_head, contains_later, contains_map, from_map}
 use Rattle.proto_case.specs.Camel.{entry_name}
-use Rattle.proto_faults.proofs.Lists.{contains_cases, contains_head, contains_later, contains_map, from_map}
-use Rattle.proto_files.specs.FilesRead.{ReadOf, AreRead, read_at}
-use Rattle.proto_files.specs.GivenFiles.{FileOf, file_at}
-use Rattle.proto_imports.specs.Links.{link_skeleton, names_in, names_of_files, text_of}
-use Rattle.proto_listing.specs.FromTree.{items_in}
-use Rattle.proto_listing.specs.Listing.{items_below, package_first}
-use Rattle.proto_listing.proofs.PackageFirst.{same_declared}
-use Rattle.proto_listing.proofs.ReadTrees.{tree_span}
+use Rattle.proto_files.proofs.Common.{ReadOf, AreRead, read_at, FileOf, file_at}
+use Rattle.proto_imports.proofs.Common.{link_skeleton, names_in, names_of_files, text_of, name_in, plain_join}
+use Rattle.proto_listing.proofs.Common.{items_in, items_below, package_first, same_declared, tree_span}
 use Rattle.proto_meaning.specs.declared.kind.Kind.{Kind}
 use Rattle.proto_meaning.specs.declared.kind.Kind.TheVariants.{Package, Field, Value, Method}
-use Rattle.proto_meaning.specs.Forest.{under}
-use Rattle.proto_meaning.specs.Grown.{At, at, declared_of}
-use Rattle.proto_meaning.specs.Joined.{ArePlain, IsPlain, joined}
-use Rattle.proto_meaning.specs.Linked.{is_package}
-use Rattle.proto_meaning.specs.Names.{Symbol}
-use Rattle.proto_meaning.specs.Skeleton.{Source, Token, name_of, shifted_declared, spell, symbol_of}
-use Rattle.proto_meaning.specs.Tree.{Items, no_items, packaged, item, Member, field, map_field, oneof, message, enum, service, Members, no_members, member, Placed, place, placed, all_placed, prefixes, package_of, file_placed, ItemsSpan}
-use Rattle.proto_meaning.proofs.Edited.{map_append, map_map}
-use Rattle.proto_meaning.proofs.Items.{prefix_whole}
-use Rattle.proto_rename_laws.proofs.Declarations.{declared_by, declared_there}
-use Rattle.proto_imports.proofs.PlainNames.{name_in, plain_join}
-use Rattle.proto_rename_laws.proofs.Scenes.{index_map}
+use Rattle.proto_meaning.proofs.Common.{under, At, at, declared_of, ArePlain, IsPlain, joined, is_package, Symbol, Source, Token, name_of, shifted_declared, spell, symbol_of, Items, no_items, packaged, item, Member, field, map_field, oneof, message, enum, service, Members, no_members, member, Placed, place, placed, all_placed, prefixes, package_of, file_placed, ItemsSpan, map_append, map_map, prefix_whole}
+use Rattle.proto_rename_laws.proofs.Common.{declared_by, declared_there, index_map}
 use Rattle.proto_table.proofs.Search.{joined_more}
 use Rattle.proto_tree.specs.Tree.{End}
 use Rattle.proto_captures.specs.Overtaking.{IsPackageSeen, fronts_from, is_marked, package_texts}

@@ -1,11 +1,7 @@
 -- A reference stands in scopes that are declared, and so their words are plain.
-use Rattle.std.proofs.Common.{◌≡◌, ◌≢◌, ℕ, zero, suc, List, [], ◌∷◌, ◌++◌, length, take, drop, refl, sym, ap, subst, ◌∙◌, arith, length-append, append_assoc}
-use Rattle.std.specs.List.{Contains}
-use Rattle.std.proofs.lemmas.List.{append-nil, take-append-drop, take-map, take_at}
-use Rattle.proto_faults.proofs.Lists.{contains_map}
-use Rattle.proto_meaning.specs.Joined.{ArePlain}
-use Rattle.proto_meaning.specs.Names.{Reference, Symbol, Workspace}
-use Rattle.proto_meaning.specs.Skeleton.{Source, Declared, Used, Skeleton, IsWoven, name_of, reference_of, spell, symbol_of, workspace_of}
+use Rattle.std.proofs.Common.{◌≡◌, ◌≢◌, ℕ, zero, suc, List, [], ◌∷◌, ◌++◌, length, take, drop, refl, sym, ap, subst, ◌∙◌, arith, length-append, append_assoc, Contains, append-nil, take-append-drop, take_at}
+use Rattle.proto_faults.proofs.Common.{take-map, contains_map}
+use Rattle.proto_meaning.proofs.Common.{ArePlain, Reference, Symbol, Workspace, Source, Declared, Used, Skeleton, IsWoven, name_of, reference_of, spell, symbol_of, workspace_of}
 use Rattle.proto_rename_laws.specs.Captures.{HasScope}
 
 split_source : {X : Type 0} (b : List (Source X)) → b ≢ [] → (a : List (Source X)) × (x : Source X) × (b ≡ a ++ x ∷ [])

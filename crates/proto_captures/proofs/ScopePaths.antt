@@ -1,15 +1,14 @@
 -- A declaration of a list stands right below the path that its entry says.
-use Rattle.std.proofs.Common.{◌≡◌, ℕ, zero, suc, ◌+◌, ◌<◌, ◌≤◌, List, [], ◌∷◌, ◌++◌, length, get_or, map, refl, sym, ◌∙◌, ap, arith, append_assoc, length-append, reverse}
-use Rattle.std.proofs.lemmas.List.{map-append, length-map, get_or_append_left, append-nil, get_or_at, reverse-append}
+use Rattle.std.proofs.Common.{◌≡◌, ℕ, zero, suc, ◌+◌, ◌<◌, ◌≤◌, List, [], ◌∷◌, ◌++◌, length, get_or, map, refl, sym, ◌∙◌, ap, arith, append_assoc, length-append, reverse, append-nil}
+use Rattle.std.proofs.lemmas.List.{map-append, length-map, get_or_append_left, get_or_at, reverse-append}
 use Rattle.proto_listing.specs.Listing.{needs, path_at, path_of, read, read_on, seen, source_of, whole}
 use Rattle.proto_listing.specs.declared.listing.Above.{Above}
 use Rattle.proto_listing.specs.declared.listing.Above.TheVariants.{Outermost, Below}
 use Rattle.proto_listing.specs.declared.listing.Listed.{Listed}
 use Rattle.proto_case.specs.Camel.{entry_name}
-use Rattle.proto_meaning.specs.Skeleton.{Source, name_of, spell}
+use Rattle.proto_meaning.proofs.Common.{Source, name_of, spell, Placed}
 use Rattle.proto_listing.specs.declared.listing.LastWord.TheVariants.{Text}
 use Rattle.proto_meaning.specs.declared.kind.Kind.TheVariants.{Package}
-use Rattle.proto_meaning.specs.Tree.{Placed}
 
 -- what is read past the end
 abbrev pub no_entry : Listed

@@ -1,13 +1,10 @@
 -- What is seen by a text, by the row of the name that has it.
-use Rattle.std.proofs.Common.{◌≡◌, ◌≢◌, ℕ, Bool, true, false, ◌&&◌, List, get_or, Option, Some, None, option_map, refl, sym, ap, ◌∙◌, inl, inr}
-use Rattle.std.specs.Option.{option_and_then}
-use Rattle.std.proofs.lemmas.Bool.{cases_Bool, cond-false, cond-true}
-use Rattle.std.proofs.lemmas.Option.{none-some, same_Some}
+use Rattle.std.proofs.Common.{◌≡◌, ◌≢◌, ℕ, Bool, true, false, ◌&&◌, List, get_or, Option, Some, None, option_map, refl, sym, ap, ◌∙◌, inl, inr, option_and_then}
+use Rattle.proto_faults.proofs.Common.{cases_Bool, cond-false, cond-true, none-some, same_Some}
 use Rattle.proto_meaning.specs.declared.kind.Kind.{Kind}
 use Rattle.proto_meaning.specs.Linked.{is_package}
 use Rattle.proto_names.specs.Linking.{LinkOf, NameOf, file_at, name_at, own_file, text_at}
-use Rattle.proto_captures.specs.Overtaking.{fits_seen, is_marked, is_seen, sees_text}
-use Rattle.proto_captures.specs.ShownTexts.{first_fits}
+use Rattle.proto_captures.specs.Common.{fits_seen, is_marked, is_seen, sees_text, first_fits}
 use Rattle.proto_captures.proofs.KindNamed.{found_at, found_none}
 
 module _ (l : LinkOf) (marks : List Bool) (packages : List ℕ → Bool) (is_long : Bool) (text : List ℕ) where

@@ -1,36 +1,18 @@
 -- What is looked up of a collision, as texts.
-use Rattle.std.proofs.Common.{◌≡◌, ◌≢◌, ◌↔◌, ℕ, Bool, true, false, List, [], ◌∷◌, ◌++◌, Some, None, option_map, refl, sym, ap, subst, ◌∙◌, inl, inr, if◌then◌else◌}
-use Rattle.std.specs.List.{Contains}
-use Rattle.std.proofs.lemmas.List.{append_cancel_right}
-use Rattle.std.proofs.lemmas.Option.{none-some, same_Some}
-use Rattle.proto_case.specs.Camel.{entry_name}
-use Rattle.proto_case.proofs.EntryNames.{entry_differs}
+use Rattle.std.proofs.Common.{◌≡◌, ◌≢◌, ◌↔◌, ℕ, Bool, true, false, List, [], ◌∷◌, ◌++◌, Some, None, option_map, refl, sym, ap, subst, ◌∙◌, inl, inr, if◌then◌else◌, Contains}
+use Rattle.proto_faults.proofs.Common.{append_cancel_right, none-some, same_Some, contains_map}
+use Rattle.proto_case.proofs.Common.{entry_name, entry_differs}
 use Rattle.proto_text.specs.Words.{is_run}
-use Rattle.proto_faults.proofs.Lists.{contains_map}
-use Rattle.proto_files.specs.Faults.{HasNoFault}
-use Rattle.proto_files.specs.FilesRead.{ReadOf, AreRead}
-use Rattle.proto_files.specs.GivenFiles.{FileOf}
+use Rattle.proto_files.proofs.Common.{HasNoFault, ReadOf, AreRead, FileOf}
 use Rattle.proto_meaning.specs.declared.kind.Kind.{Kind}
 use Rattle.proto_meaning.specs.declared.kind.Kind.TheVariants.{Entry}
-use Rattle.proto_meaning.specs.Edits.{Collides, in_domain, moves}
-use Rattle.proto_meaning.specs.Joined.{joined, IsPlain, ArePlain}
-use Rattle.proto_meaning.specs.Linked.{EntryFits, IsRenaming}
-use Rattle.proto_meaning.specs.Names.{Symbol}
-use Rattle.proto_meaning.specs.Skeleton.{Token, EntryOf, IsAimEntry, name_of, renaming_of, spell, symbol_of}
-use Rattle.proto_meaning.proofs.Edited.{map_append}
-use Rattle.proto_meaning.proofs.Joined.{joined_apart}
+use Rattle.proto_meaning.proofs.Common.{Collides, in_domain, moves, joined, IsPlain, ArePlain, EntryFits, IsRenaming, Symbol, Token, EntryOf, IsAimEntry, name_of, renaming_of, spell, symbol_of, map_append, joined_apart, at}
 use Rattle.proto_listing.proofs.PlainEntries.{entry_plain}
-use Rattle.proto_imports.specs.Links.{LinkFaults, link_skeleton, names_of_files, text_of}
-use Rattle.proto_names.specs.LinkOfFiles.{IsLinkRead}
-use Rattle.proto_names.specs.Linking.{LinkOf, NameOf, name_at}
-use Rattle.proto_rename_laws.specs.Targets.{Target, IsNamed, may_rename, name_map}
-use Rattle.proto_rename_laws.proofs.NoLinkFault.{files_are_linked}
-use Rattle.proto_imports.proofs.PlainNames.{names_are_plain, plain_join}
-use Rattle.proto_meaning.specs.Grown.{at}
-use Rattle.proto_captures.specs.Aims.{IsAimedAt}
-use Rattle.proto_captures.specs.declared.aim.Aim.{Aim}
+use Rattle.proto_imports.proofs.Common.{LinkFaults, link_skeleton, names_of_files, text_of, names_are_plain, plain_join}
+use Rattle.proto_names.proofs.Common.{IsLinkRead, LinkOf, NameOf, name_at}
+use Rattle.proto_rename_laws.proofs.Common.{Target, IsNamed, may_rename, name_map, files_are_linked}
+use Rattle.proto_captures.specs.Common.{IsAimedAt, Aim, HasText}
 use Rattle.proto_captures.specs.Collisions.{IsNewNameTaken, IsOneTaken, IsTaken, IsTakenText, is_freed}
-use Rattle.proto_captures.specs.Looked.{HasText}
 use Rattle.proto_captures.proofs.Aimed.{may_not_package, spelled, symbol_at}
 use Rattle.proto_captures.proofs.LookedUp.{named_by}
 use Rattle.proto_captures.proofs.JoinedNames.{joined_last, lead, plain_parts, word_is_plain}

@@ -1,19 +1,12 @@
 -- The parts of the code's answer for one reference, put together.
-use Rattle.std.proofs.Common.{◌≡◌, ℕ, ◌+◌, ◌-◌, ◌<◌, Bool, true, false, not, ◌&&◌, ◌||◌, nat_le, List, [], ◌∷◌, length, get_or, drop, map, sym, ap, ◌∙◌, arith}
-use Rattle.std.specs.Prelude.{◌==◌, is_some}
-use Rattle.std.proofs.lemmas.Bool.{ne_eqb}
+use Rattle.std.proofs.Common.{◌≡◌, ℕ, ◌+◌, ◌-◌, ◌<◌, Bool, true, false, not, ◌&&◌, ◌||◌, nat_le, List, [], ◌∷◌, length, get_or, drop, map, sym, ap, ◌∙◌, arith, ◌==◌, is_some, ne_eqb}
 use Rattle.proto_case.specs.Camel.{entry_name}
 use Rattle.proto_listing.specs.Listing.{path_of, read}
 use Rattle.proto_listing.specs.declared.listing.Listed.{Listed}
 use Rattle.proto_listing.specs.declared.listing.Use.{Use}
-use Rattle.proto_meaning.specs.Forest.{under}
-use Rattle.proto_meaning.specs.Skeleton.{name_of}
+use Rattle.proto_meaning.proofs.Common.{under, name_of, below}
 use Rattle.proto_names.specs.Linking.{LinkOf}
-use Rattle.proto_captures.specs.Capturing.{bytes_before, captures_use, first_now, is_cons, shown_from}
-use Rattle.proto_captures.specs.NewTexts.{NewTexts, is_new_word}
-use Rattle.proto_captures.specs.Overtaking.{overtakes_use, sees_text}
-use Rattle.proto_meaning.specs.Joined.{below}
-use Rattle.proto_captures.specs.ShownTexts.{shown_below}
+use Rattle.proto_captures.specs.Common.{bytes_before, captures_use, first_now, is_cons, shown_from, NewTexts, is_new_word, overtakes_use, sees_text, shown_below}
 use Rattle.proto_captures.proofs.FirstOnes.{front}
 
 -- the front by one word more, and what is left of the scope

@@ -9,6 +9,7 @@ pub mod Aims
 pub mod CapturedPlaces
 pub mod Collisions
 pub mod Looked
+pub mod Common
 pub use Rattle.proto_rename_laws.specs.Cases
 pub use Rattle.proto_rename_laws.specs.Targets
 pub use Rattle.proto_rename_laws.specs.SceneOf

@@ -1,9 +1,6 @@
 -- Entry names, character by character.
-use Rattle.std.proofs.Common.{◌≡◌, ◌≢◌, ℕ, ◌+◌, ◌-◌, ◌/◌, ◌<◌, ◌≤◌, Bool, true, false, cond, ◌==◌, List, [], ◌∷◌, ◌++◌, refl, sym, ap, ◌∙◌, if◌then◌else◌, ◌⊎◌, inl, inr, arith, append_assoc}
-use Rattle.std.specs.Prelude.{nat_lt}
-use Rattle.std.specs.Char.{to_ascii_uppercase}
-use Rattle.std.proofs.lemmas.Bool.{cases_Bool, cases_lt, cond-false, eqb-true, false_from_ne_true, le-ltb, ltb-false, ltb-true}
-use Rattle.std.proofs.lemmas.Str.{encode_ascii}
+use Rattle.std.proofs.Common.{◌≡◌, ◌≢◌, ℕ, ◌+◌, ◌-◌, ◌/◌, ◌<◌, ◌≤◌, Bool, true, false, cond, ◌==◌, List, [], ◌∷◌, ◌++◌, refl, sym, ap, ◌∙◌, if◌then◌else◌, ◌⊎◌, inl, inr, arith, append_assoc, nat_lt, eqb-true, le-ltb, ltb-false, ltb-true}
+use Rattle.proto_faults.proofs.Common.{to_ascii_uppercase, cases_Bool, cases_lt, cond-false, false_from_ne_true, encode_ascii}
 use lib.Utf8.{encode, next}
 use Rattle.proto_case.specs.Camel.{camel_from}
 

@@ -1,18 +1,12 @@
 -- The blocks of trees that stand one behind another.
-use Rattle.std.proofs.Common.{◌≡◌, ℕ, false, ◌==◌, ◌<◌, List, [], ◌∷◌, ◌++◌, length, flat_map, refl, sym, ap, ◌∙◌, inl, inr, arith}
-use Rattle.std.proofs.lemmas.Bool.{cases_Bool, eqb-true}
-use Rattle.std.proofs.lemmas.Grind.{flat_map-append}
-use Rattle.std.proofs.lemmas.List.{append-nil}
+use Rattle.std.proofs.Common.{◌≡◌, ℕ, false, ◌==◌, ◌<◌, List, [], ◌∷◌, ◌++◌, length, flat_map, refl, sym, ap, ◌∙◌, inl, inr, arith, eqb-true, append-nil}
+use Rattle.proto_faults.proofs.Common.{cases_Bool, flat_map-append}
 use Rattle.proto_tree.specs.declared.tree.Field.{Field}
 use Rattle.proto_tree.specs.declared.tree.EnumItem.{EnumItem}
 use Rattle.proto_tree.specs.declared.tree.MethodItem.{MethodItem}
 use Rattle.proto_tree.specs.declared.piece.Header.{Header}
-use Rattle.proto_tree.specs.Tree.{Tree, End, Block, joined}
-use Rattle.proto_tree.specs.File.{trees, field_tree, enum_item_tree, method_item_tree}
-use Rattle.proto_parts.specs.Parts.{BlockOf, blocks_in, statements}
-use Rattle.proto_parts.specs.Scenes.{Scene}
-use Rattle.proto_parts.proofs.ItemBlocks.{no_block_in_enum, no_block_in_method, no_blocks}
-use Rattle.proto_parts.proofs.JoinedTrees.{blocks_joined}
+use Rattle.proto_tree.proofs.Common.{Tree, End, Block, joined, trees, field_tree, enum_item_tree, method_item_tree}
+use Rattle.proto_parts.proofs.Common.{BlockOf, blocks_in, statements, Scene, no_block_in_enum, no_block_in_method, no_blocks, blocks_joined}
 use Rattle.proto_numbers.specs.declared.flaw.Flaw.{Flaw}
 use Rattle.proto_checks.specs.FileFlaws.{block_flaws, flaws_in_blocks, is_empty}
 

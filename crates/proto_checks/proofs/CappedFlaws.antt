@@ -1,10 +1,8 @@
 -- The flaws of a file with one cap and another: the least is the same (for the crates above).
-use Rattle.std.proofs.Common.{◌≡◌, ℕ, ◌<◌, ◌^◌, ◌-◌, ℤ, pos, negsuc, Bool, true, false, not, ◌&&◌, if◌then◌else◌, List, [], ◌∷◌, ◌++◌, map, flat_map, find, Option, Some, None, is_none, codes, refl, sym, ◌∙◌, ap, arith}
-use Rattle.std.specs.List.{Contains}
-use Rattle.std.proofs.lemmas.List.Elements.{Contains-append_left, Contains-append_right}
+use Rattle.std.proofs.Common.{◌≡◌, ℕ, ◌<◌, ◌^◌, ◌-◌, ℤ, pos, negsuc, Bool, true, false, not, ◌&&◌, if◌then◌else◌, List, [], ◌∷◌, ◌++◌, map, flat_map, find, Option, Some, None, is_none, codes, refl, sym, ◌∙◌, ap, arith, Contains}
+use Rattle.proto_faults.proofs.Common.{Contains-append_left, Contains-append_right, number_of}
 use Rattle.proto_faults.specs.declared.fault.FaultKind.{FaultKind}
 use Rattle.proto_faults.specs.declared.fault.FaultKind.TheVariants as kind
-use Rattle.proto_faults.specs.FaultTable.{number_of}
 use Rattle.proto_tree.specs.declared.piece.Header.{Header}
 use Rattle.proto_tree.specs.declared.piece.Header.TheVariants as header
 use Rattle.proto_tree.specs.declared.tree.Constant.{Constant}
@@ -15,18 +13,12 @@ use Rattle.proto_tree.specs.declared.tree.Range.{Range}
 use Rattle.proto_tree.specs.declared.tree.Signed.{Signed}
 use Rattle.proto_tree.specs.declared.tree.Value.{Value}
 use Rattle.proto_tree.specs.Tree.{Tree}
-use Rattle.proto_parts.specs.Options.{is_named, is_one_of}
-use Rattle.proto_parts.specs.Parts.{FieldOf, OptionOf, BlockOf, statements, fields_in, values_in, closed_ranges, enum_ranges, reserved_names_in, options_in, blocks_in}
-use Rattle.proto_parts.specs.Scenes.{Scene, text, number_at, signed_at, uncapped}
+use Rattle.proto_parts.proofs.Common.{is_named, is_one_of, FieldOf, OptionOf, BlockOf, statements, fields_in, values_in, closed_ranges, enum_ranges, reserved_names_in, options_in, blocks_in, Scene, text, number_at, signed_at, uncapped, has_label}
 use Rattle.proto_parts.specs.declared.options.Element.TheVariants as element
 use Rattle.proto_numbers.specs.declared.flaw.Flaw.{Flaw}
 use Rattle.proto_checks.specs.Capped.{CapsKeepTheLeast}
-use Rattle.proto_numbers.specs.Flaws.{flaw, flaw_if, marked}
-use Rattle.proto_numbers.specs.NumberFlaws.{first_of_signed, number_of_field, number_of_value, range_of, enum_range_of, most_field, least_value, most_value, is_within, is_field_number, is_value_number, outside, is_sound_range, broken_ranges, reserved_numbers, overlaps, repeated_numbers, end_of, field_number_flaws}
-use Rattle.proto_parts.specs.Labels.{has_label}
-use Rattle.proto_checks.specs.FieldFlaws.{option_flaws, packed_flaws, default_flaws, proto3_defaults, wrong_default, type_flaws, is_default_of, is_scalar_default, holds_number, signed_32, signed_64, unsigned_32, unsigned_64, field_flaws}
-use Rattle.proto_checks.specs.FileFlaws.{name_flaws, json_clashes, extension_flaws, message_flaws, allows_alias, alias_flaws, first_value_flaws, value_number_flaws, value_option_flaws, is_empty, enum_flaws, block_flaws, file_flaws}
-use Rattle.proto_numbers.proofs.CappedNumbers.{Alike, AlikeCaps, equal_alike, within_alike, caps_back, past_or_none, capped, alike_at, alike_signed, alike_end, field_limit, value_limit}
+use Rattle.proto_numbers.proofs.Common.{flaw, flaw_if, marked, first_of_signed, number_of_field, number_of_value, range_of, enum_range_of, most_field, least_value, most_value, is_within, is_field_number, is_value_number, outside, is_sound_range, broken_ranges, reserved_numbers, overlaps, repeated_numbers, end_of, field_number_flaws, Alike, AlikeCaps, equal_alike, within_alike, caps_back, past_or_none, capped, alike_at, alike_signed, alike_end, field_limit, value_limit}
+use Rattle.proto_checks.specs.Common.{option_flaws, packed_flaws, default_flaws, proto3_defaults, wrong_default, type_flaws, is_default_of, is_scalar_default, holds_number, signed_32, signed_64, unsigned_32, unsigned_64, field_flaws, name_flaws, json_clashes, extension_flaws, message_flaws, allows_alias, alias_flaws, first_value_flaws, value_number_flaws, value_option_flaws, is_empty, enum_flaws, block_flaws, file_flaws}
 use Rattle.proto_numbers.proofs.CappedCovers.{Beneath, Covered, covered_equal, covered_join, covered_more, covered_unless, covered_flat, least_kept}
 use Rattle.proto_numbers.proofs.CappedRanges.{outside_here, outside_same, covered_repeated, broken_here, broken_same, sound_same, inside_same, covered_overlaps, covered_reserved}
 use Rattle.proto_checks.proofs.KnownNames.{flat_map_same}

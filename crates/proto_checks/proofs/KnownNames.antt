@@ -1,11 +1,6 @@
 -- Names that are known: a list of them without repeats has the same names.
-use Rattle.std.proofs.Common.{◌≡◌, ℕ, Bool, true, false, ◌||◌, List, [], ◌∷◌, ◌++◌, map, flat_map, refl, sym, ap, ◌∙◌, if◌then◌else◌}
-use Rattle.std.specs.List.{list_any}
-use Rattle.std.specs.Str.{bytes_eq}
-use Rattle.std.proofs.lemmas.List.{map-append}
-use Rattle.std.proofs.lemmas.List.Folds.{list_any-append}
-use Rattle.std.proofs.lemmas.Slice.Eq.{bytes_eq-Decides}
-use Rattle.proto_faults.proofs.Lists.{any_map}
+use Rattle.std.proofs.Common.{◌≡◌, ℕ, Bool, true, false, ◌||◌, List, [], ◌∷◌, ◌++◌, map, flat_map, refl, sym, ap, ◌∙◌, if◌then◌else◌, bytes_eq}
+use Rattle.proto_faults.proofs.Common.{list_any, map-append, list_any-append, bytes_eq-Decides, any_map}
 
 or_right : (a b : Bool) → (b ≡ true → a ≡ true) → a ≡ (a || (b || false))
 or_right true b h = refl

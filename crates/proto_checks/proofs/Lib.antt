@@ -1,5 +1,6 @@
 pub mod Blocks
 pub mod CappedFlaws
+pub mod Common
 pub mod FlawTokens
 pub mod KnownNames
 pub mod OptionNames

@@ -1,13 +1,7 @@
 -- Names among others: an equal one, and those that an earlier option has (for the crates above).
-use Rattle.std.proofs.Common.{◌≡◌, ℕ, Bool, ◌||◌, List, [], ◌∷◌, ◌++◌, length, map, refl, sym, ap, ◌∙◌, Bor, arith}
-use Rattle.std.specs.List.{list_any}
-use Rattle.std.specs.Str.{bytes_eq}
-use Rattle.std.proofs.lemmas.Bool.Decides.{same_from_decides, Decides-like}
-use Rattle.std.proofs.lemmas.List.{map-append, length-map}
-use Rattle.std.proofs.lemmas.Slice.Eq.{bytes_eq-Decides}
-use Rattle.proto_faults.proofs.Lists.{any_map}
-use Rattle.proto_numbers.specs.Flaws.{earlier, after_earlier}
-use Rattle.proto_numbers.proofs.FlawLists.{repeats_length}
+use Rattle.std.proofs.Common.{◌≡◌, ℕ, Bool, ◌||◌, List, [], ◌∷◌, ◌++◌, length, map, refl, sym, ap, ◌∙◌, Bor, arith, bytes_eq}
+use Rattle.proto_faults.proofs.Common.{list_any, same_from_decides, Decides-like, map-append, length-map, bytes_eq-Decides, any_map}
+use Rattle.proto_numbers.proofs.Common.{earlier, after_earlier, repeats_length}
 
 flip : (a b : List ℕ) → bytes_eq a b ≡ bytes_eq b a
 flip a b = same_from_decides {P = a ≡ b} (bytes_eq a b) (bytes_eq b a) (bytes_eq-Decides a b) (Decides-like {P = b ≡ a} {Q = a ≡ b} (bytes_eq b a) (λ e. sym e) (λ e. sym e) (bytes_eq-Decides b a))

@@ -1,31 +1,21 @@
 -- All that is wrong with a file is of the phase of checks (for the crates above).
-use Rattle.std.proofs.Common.{◌≡◌, ℕ, Bool, true, false, List, [], ◌∷◌, ◌++◌, Option, Some, None, refl, sym, subst}
-use Rattle.std.specs.Prelude.{ℤ, pos, not, ◌&&◌, map, flat_map, find, codes, if◌then◌else◌}
-use Rattle.std.specs.List.{All, Contains, list_any}
-use Rattle.std.specs.Ordering.{int_eq}
-use Rattle.std.specs.Str.{bytes_eq}
+use Rattle.std.proofs.Common.{◌≡◌, ℕ, Bool, true, false, List, [], ◌∷◌, ◌++◌, Option, Some, None, refl, sym, subst, ℤ, pos, not, ◌&&◌, map, flat_map, find, codes, if◌then◌else◌, All, Contains, int_eq, bytes_eq}
+use Rattle.proto_faults.proofs.Common.{list_any, All-nil, All-cons, All-append, All-contains, phase_of}
 use Rattle.std.proofs.lemmas.List.Concat.{flat_map-cons}
-use Rattle.std.proofs.lemmas.List.Elements.{All-nil, All-cons, All-append, All-contains}
 use Rattle.proto_faults.specs.declared.fault.FaultKind.{FaultKind}
 use Rattle.proto_faults.specs.declared.fault.FaultKind.TheVariants as kind
-use Rattle.proto_faults.specs.FaultTable.{phase_of}
 use Rattle.proto_tree.specs.declared.tree.Value.{Value}
 use Rattle.proto_tree.specs.declared.piece.Header.{Header}
 use Rattle.proto_tree.specs.declared.piece.Header.TheVariants as header
 use Rattle.proto_tree.specs.Tree.{Tree}
-use Rattle.proto_parts.specs.Options.{is_allowed, is_named, is_one_of}
-use Rattle.proto_parts.specs.Parts.{FieldOf, OptionOf, statements, fields_in, values_in, closed_ranges, enum_ranges, reserved_names_in, extension_words, options_in, settings_of, BlockOf, blocks_in}
-use Rattle.proto_parts.specs.Scenes.{Scene, text, value}
+use Rattle.proto_parts.proofs.Common.{is_allowed, is_named, is_one_of, FieldOf, OptionOf, statements, fields_in, values_in, closed_ranges, enum_ranges, reserved_names_in, extension_words, options_in, settings_of, BlockOf, blocks_in, Scene, text, value, json_name_of}
 use Rattle.proto_parts.specs.declared.options.Element.{Element}
 use Rattle.proto_parts.specs.declared.options.Element.TheVariants as element
 use Rattle.proto_numbers.specs.declared.flaw.Flaw.{Flaw}
 use Rattle.proto_numbers.specs.declared.numbers.NumberAt.{NumberAt}
 use Rattle.proto_parts.specs.declared.ranges.RangeAt.{RangeAt}
-use Rattle.proto_numbers.specs.Flaws.{flaw, flaw_if, after_earlier, marked}
-use Rattle.proto_numbers.specs.NumberFlaws.{number_of_field, number_of_value, range_of, enum_range_of, most_field, least_value, most_value, is_field_number, is_value_number, outside, is_sound_range, broken_ranges, is_inside, reserved_numbers, share, overlaps, repeated_numbers, field_number_flaws}
-use Rattle.proto_checks.specs.FieldFlaws.{option_flaws, type_token, lacks_label, required_flaws, no_map_keys, map_key_flaws, starts_wrong, has_closed_enum, may_be_packed, packed_flaws, may_default, wrong_default, default_flaws, proto3_defaults, type_flaws, field_flaws}
-use Rattle.proto_parts.specs.JsonNames.{json_name_of}
-use Rattle.proto_checks.specs.FileFlaws.{name_flaws, json_clashes, extension_flaws, message_flaws, allows_alias, alias_flaws, first_value_flaws, is_empty, value_number_flaws, value_option_flaws, enum_flaws, block_flaws, file_flaws}
+use Rattle.proto_numbers.proofs.Common.{flaw, flaw_if, after_earlier, marked, number_of_field, number_of_value, range_of, enum_range_of, most_field, least_value, most_value, is_field_number, is_value_number, outside, is_sound_range, broken_ranges, is_inside, reserved_numbers, share, overlaps, repeated_numbers, field_number_flaws}
+use Rattle.proto_checks.specs.Common.{option_flaws, type_token, lacks_label, required_flaws, no_map_keys, map_key_flaws, starts_wrong, has_closed_enum, may_be_packed, packed_flaws, may_default, wrong_default, default_flaws, proto3_defaults, type_flaws, field_flaws, name_flaws, json_clashes, extension_flaws, message_flaws, allows_alias, alias_flaws, first_value_flaws, is_empty, value_number_flaws, value_option_flaws, enum_flaws, block_flaws, file_flaws}
 
 abbrev IsOfChecks : Flaw → Type 0
 IsOfChecks f = phase_of f.kind ≡ 6

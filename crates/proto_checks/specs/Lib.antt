@@ -1,3 +1,4 @@
 pub mod Capped
+pub mod Common
 pub mod FieldFlaws
 pub mod FileFlaws

@@ -1,8 +1,6 @@
 -- What the blocks of a tree hold is declared (for the crates above).
-use Rattle.std.proofs.Common.{◌≡◌, ℕ, suc, true, false, List, [], ◌∷◌, ◌++◌, map, flat_map, Option, Some, None, is_some, refl, sym, ap, subst, ◌∙◌, inl, inr, arith}
-use Rattle.std.specs.List.{AllByRecursion, Contains}
-use Rattle.std.proofs.lemmas.List.Elements.{All-contains, All-from_recursion, Contains-append_cases, Contains-append_left, Contains-append_right}
-use Rattle.proto_faults.proofs.Lists.{contains_cases, contains_head, contains_later, contains_map}
+use Rattle.std.proofs.Common.{◌≡◌, ℕ, suc, true, false, List, [], ◌∷◌, ◌++◌, map, flat_map, Option, Some, None, is_some, refl, sym, ap, subst, ◌∙◌, inl, inr, arith, Contains}
+use Rattle.proto_faults.proofs.Common.{AllByRecursion, All-contains, All-from_recursion, Contains-append_cases, Contains-append_left, Contains-append_right, contains_cases, contains_head, contains_later, contains_map}
 use Rattle.proto_tree.specs.declared.context.Context.{Context}
 use Rattle.proto_tree.specs.declared.context.Context.TheVariants as context
 use Rattle.proto_tree.specs.declared.context.Kind.{Kind}
@@ -13,13 +11,9 @@ use Rattle.proto_tree.specs.declared.piece.Heading.{Heading}
 use Rattle.proto_tree.specs.declared.piece.Statement.{Statement}
 use Rattle.proto_tree.specs.declared.piece.Statement.TheVariants as statement
 use Rattle.proto_tree.specs.declared.tree.Value.{Value as ValueParts}
-use Rattle.proto_tree.specs.Answer.{IsOuter}
-use Rattle.proto_tree.specs.References.{dotted}
-use Rattle.proto_tree.specs.Tree.{Tree, End, Leaf, Block, IsWellFormed, after, allows, field_kind, header_kind, statement_kind}
-use Rattle.proto_tree.proofs.Walks.{last_outer}
+use Rattle.proto_tree.proofs.Common.{IsOuter, dotted, Tree, End, Leaf, Block, IsWellFormed, after, allows, field_kind, header_kind, statement_kind, last_outer}
 use Rattle.proto_meaning.specs.declared.kind.Kind.TheVariants.{Message, Entry, Enum, Service, Field, Oneof, Value, Method}
-use Rattle.proto_meaning.specs.Skeleton.{Source, Token, EntryOf}
-use Rattle.proto_meaning.specs.Tree.{Items, Members, Placed, all_placed, enum, field, file_placed, items_placed, map_field, message, oneof, package_of, place, placed, prefixes, service}
+use Rattle.proto_meaning.proofs.Common.{Source, Token, EntryOf, Items, Members, Placed, all_placed, enum, field, file_placed, items_placed, map_field, message, oneof, package_of, place, placed, prefixes, service}
 use Rattle.proto_listing.specs.FromTree.{add_statement, block_names, field_names, file_statement, items_in, members_in, method_names, no_names, picked, value_names}
 use Rattle.proto_parts.specs.Parts.{BlockOf, FieldOf, blocks_in, fields_from, fields_in, map_field as field_of_map, plain_field, statement_fields, statements, values_in}
 use Rattle.proto_checks.proofs.FlawTokens.{both}

@@ -1,30 +1,15 @@
 -- What the deletion of a field leaves of the flaws of its message: no flaw where there was none (for the crates above).
-use Rattle.std.proofs.Common.{◌≡◌, ℕ, ℤ, int_le, Bool, true, false, not, ◌&&◌, List, [], ◌∷◌, ◌++◌, length, map, flat_map, refl, sym, ◌∙◌, ap, subst, inl, inr, if◌then◌else◌, arith}
-use Rattle.std.specs.Prelude.{pos}
-use Rattle.std.specs.List.{list_any}
-use Rattle.std.specs.Ordering.{int_eq}
-use Rattle.std.specs.Str.{bytes_eq}
-use Rattle.std.proofs.lemmas.Bool.{cases_Bool, and_parts}
-use Rattle.std.proofs.lemmas.Bool.Decides.{Decides-int_eq}
-use Rattle.std.proofs.lemmas.Cmp.{int_eq_equiv, nat_list_eq_equiv}
-use Rattle.std.proofs.lemmas.List.{map-append}
-use Rattle.std.proofs.lemmas.List.Folds.{list_any-append, list_any_none}
-use Rattle.proto_faults.proofs.Lists.{any_agree, any_map}
+use Rattle.std.proofs.Common.{◌≡◌, ℕ, ℤ, int_le, Bool, true, false, not, ◌&&◌, List, [], ◌∷◌, ◌++◌, length, map, flat_map, refl, sym, ◌∙◌, ap, subst, inl, inr, if◌then◌else◌, arith, pos, int_eq, bytes_eq}
+use Rattle.proto_faults.proofs.Common.{list_any, cases_Bool, and_parts, Decides-int_eq, int_eq_equiv, nat_list_eq_equiv, map-append, list_any-append, list_any_none, any_agree, any_map}
 use Rattle.proto_faults.specs.declared.fault.FaultKind.{FaultKind}
 use Rattle.proto_faults.specs.declared.fault.FaultKind.TheVariants as kind
-use Rattle.proto_parts.specs.Options.{is_one_of}
-use Rattle.proto_parts.specs.Parts.{FieldOf}
-use Rattle.proto_parts.specs.Scenes.{text, value}
+use Rattle.proto_parts.proofs.Common.{is_one_of, FieldOf, text, value, json_name_of}
 use Rattle.proto_numbers.specs.declared.flaw.Flaw.{Flaw}
 use Rattle.proto_numbers.specs.declared.numbers.NumberAt.{NumberAt}
 use Rattle.proto_parts.specs.declared.ranges.RangeAt.{RangeAt}
 use Rattle.proto_checks_laws.specs.Deleted.{range_of_one, DeletionsKeepJsonNames, DeletionsKeepNames, DeletionsKeepNumbers}
-use Rattle.proto_numbers.specs.NumberFlaws.{field_number_flaws, broken_ranges, is_field_number, is_inside, is_sound_range, is_within, most_field, outside, overlaps, repeated_numbers, reserved_numbers, share}
-use Rattle.proto_parts.specs.JsonNames.{json_name_of}
+use Rattle.proto_numbers.proofs.Common.{field_number_flaws, broken_ranges, is_field_number, is_inside, is_sound_range, is_within, most_field, outside, overlaps, repeated_numbers, reserved_numbers, share, after_earlier, earlier, flaw_if, marked, le_both, le_itself, false_or, length_map, or_false, repeats_length}
 use Rattle.proto_checks.specs.FileFlaws.{reserved_again, with_reserved_name}
-use Rattle.proto_numbers.specs.Flaws.{after_earlier, earlier, flaw_if, marked}
-use Rattle.proto_numbers.proofs.CappedNumbers.{le_both, le_itself}
-use Rattle.proto_numbers.proofs.FlawLists.{false_or, length_map, or_false, repeats_length}
 use Rattle.proto_numbers.proofs.IndexLemmas.{alone_inside}
 
 -- ---- no element passes a test

@@ -1,8 +1,6 @@
 -- The name tokens of a block's fields rise (for the crates above).
-use Rattle.std.proofs.Common.{◌≡◌, ℕ, suc, ◌+◌, ◌≤◌, List, [], ◌∷◌, ◌++◌, length, flat_map, Option, Some, None, arith, length-append}
-use Rattle.std.specs.List.{AllByRecursion, Contains}
-use Rattle.std.proofs.lemmas.List.Elements.{All-contains, All-from_recursion, Contains-append_right}
-use Rattle.proto_faults.proofs.Lists.{contains_head}
+use Rattle.std.proofs.Common.{◌≡◌, ℕ, suc, ◌+◌, ◌≤◌, List, [], ◌∷◌, ◌++◌, length, flat_map, Option, Some, None, arith, length-append, Contains}
+use Rattle.proto_faults.proofs.Common.{AllByRecursion, All-contains, All-from_recursion, Contains-append_right, contains_head}
 use Rattle.proto_tree.specs.declared.class.Class.TheVariants as class
 use Rattle.proto_tree.specs.declared.class.Want.TheVariants as want
 use Rattle.proto_tree.specs.declared.piece.Header.{Header}
@@ -11,10 +9,7 @@ use Rattle.proto_tree.specs.declared.piece.Statement.{Statement}
 use Rattle.proto_tree.specs.declared.piece.Statement.TheVariants as statement
 use Rattle.proto_tree.specs.declared.tree.Field.{Field}
 use Rattle.proto_tree.specs.declared.tree.MapField.{MapField}
-use Rattle.proto_tree.specs.Flat.{Mark, mark, name, one, only, flat_field, flat_header, flat_map_field, flat_option, flat_settings, flat_statement, flat_type}
-use Rattle.proto_tree.specs.Laws.{Numbered}
-use Rattle.proto_tree.specs.Tree.{Tree, End, Leaf, Block, flat}
-use Rattle.proto_tree.proofs.MarkLaws.{numbered_append, numbered_at, trees_are_numbered}
+use Rattle.proto_tree.proofs.Common.{Mark, mark, name, one, only, flat_field, flat_header, flat_map_field, flat_option, flat_settings, flat_statement, flat_type, Numbered, Tree, End, Leaf, Block, flat, numbered_append, numbered_at, trees_are_numbered}
 use Rattle.proto_meaning.proofs.RisingLists.{Rising, rising_append, rising_pairs, rising_within}
 use Rattle.proto_parts.specs.Parts.{BlockOf, FieldOf, blocks_in, fields_from, fields_in, map_field, plain_field, statement_fields, statements}
 use Rattle.proto_checks_laws.specs.Declarations.{FieldNamesRise}

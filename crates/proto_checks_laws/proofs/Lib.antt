@@ -1,3 +1,4 @@
+pub mod Common
 pub mod Declarations
 pub mod DeletedFlaws
 pub mod FieldOrder

@@ -1,9 +1,6 @@
 -- The flaws of a file whose imports are others: the same, each at the token that its token became (for the crates above).
-use Rattle.std.proofs.Common.{◌≡◌, ℕ, ℤ, pos, neg_ℤ, Bool, true, false, not, ◌&&◌, if◌then◌else◌, List, [], ◌∷◌, ◌++◌, map, flat_map, find, Option, Some, None, option_map, is_some, is_none, codes, option_and_then, refl, sym, ◌∙◌, ap, ap₂}
-use Rattle.std.specs.List.{list_any}
-use Rattle.std.specs.Ordering.{int_eq}
-use Rattle.std.specs.Str.{bytes_eq}
-use Rattle.std.proofs.lemmas.List.{map-append}
+use Rattle.std.proofs.Common.{◌≡◌, ℕ, ℤ, pos, neg_ℤ, Bool, true, false, not, ◌&&◌, if◌then◌else◌, List, [], ◌∷◌, ◌++◌, map, flat_map, find, Option, Some, None, option_map, is_some, is_none, codes, option_and_then, refl, sym, ◌∙◌, ap, ap₂, int_eq, bytes_eq}
+use Rattle.proto_faults.proofs.Common.{list_any, map-append}
 use Rattle.proto_faults.specs.declared.fault.FaultKind.{FaultKind}
 use Rattle.proto_faults.specs.declared.fault.FaultKind.TheVariants as kind
 use Rattle.proto_tree.specs.declared.piece.Header.{Header}
@@ -18,13 +15,8 @@ use Rattle.proto_tree.specs.declared.tree.RangeEnd.TheVariants as range_end
 use Rattle.proto_tree.specs.declared.tree.Signed.{Signed}
 use Rattle.proto_tree.specs.declared.tree.UpTo.{UpTo}
 use Rattle.proto_tree.specs.declared.tree.Value.{Value}
-use Rattle.proto_tree.specs.Moved.{Move, move_constant, move_header, move_option, move_range, move_range_end, move_separated, move_signed, move_statement, move_tree, move_type, move_up_to, move_value}
-use Rattle.proto_tree.specs.Tree.{Tree}
-use Rattle.proto_tree.specs.References.{first_of}
-use Rattle.proto_parts.specs.Numbers.{number_of}
-use Rattle.proto_parts.specs.Options.{fits_kind, idempotency_levels, is_allowed, is_named, is_one_of, is_text, is_word_of, optimize_modes, text_of, truth_named, value_kind_of, word_of, is_true}
-use Rattle.proto_parts.specs.Parts.{FieldOf, OptionOf, blocks_in, closed_ranges, enum_ranges, extension_words, fields_in, options_in, reserved_names_in, settings_of, statements, values_in}
-use Rattle.proto_parts.specs.Scenes.{Scene, number_at, signed_at, text, up_to, value}
+use Rattle.proto_tree.proofs.Common.{Move, move_constant, move_header, move_option, move_range, move_range_end, move_separated, move_signed, move_statement, move_tree, move_type, move_up_to, move_value, Tree, first_of}
+use Rattle.proto_parts.proofs.Common.{number_of, fits_kind, idempotency_levels, is_allowed, is_named, is_one_of, is_text, is_word_of, optimize_modes, text_of, truth_named, value_kind_of, word_of, is_true, FieldOf, OptionOf, blocks_in, closed_ranges, enum_ranges, extension_words, fields_in, options_in, reserved_names_in, settings_of, statements, values_in, Scene, number_at, signed_at, text, up_to, value, is_label, json_name_of, written_or}
 use Rattle.proto_parts.specs.declared.options.Element.{Element}
 use Rattle.proto_parts.specs.declared.options.Element.TheVariants as element
 use Rattle.proto_parts.specs.declared.options.ValueKind.{ValueKind}
@@ -32,12 +24,8 @@ use Rattle.proto_parts.specs.declared.options.ValueKind.TheVariants as value_kin
 use Rattle.proto_numbers.specs.declared.flaw.Flaw.{Flaw}
 use Rattle.proto_numbers.specs.declared.numbers.NumberAt.{NumberAt}
 use Rattle.proto_parts.specs.declared.ranges.RangeAt.{RangeAt}
-use Rattle.proto_numbers.specs.Flaws.{after_earlier, flaw_if, marked}
-use Rattle.proto_numbers.specs.NumberFlaws.{bound_of, broken_ranges, end_of, enum_range_of, first_of_signed, is_field_number, is_inside, is_value_number, least_value, most_field, most_value, number_of_field, number_of_value, outside, overlaps, range_of, repeated_numbers, reserved_numbers, share, field_number_flaws}
-use Rattle.proto_parts.specs.Labels.{is_label}
-use Rattle.proto_checks.specs.FieldFlaws.{default_flaws, enum_of_type, field_flaws, holds_number, is_default_of, is_of_proto2, is_packable_type, is_past_zero, is_scalar_default, is_unpackable, is_value_of, lacks_label, map_key_flaws, may_be_packed, may_default, no_map_keys, option_flaws, required_flaws, type_flaws, type_token, wrong_default}
-use Rattle.proto_parts.specs.JsonNames.{json_name_of, written_or}
-use Rattle.proto_checks.specs.FileFlaws.{allows_alias, block_flaws, enum_flaws, file_flaws, first_value_flaws, is_empty, json_clashes, message_flaws, name_flaws, value_number_flaws, value_option_flaws}
+use Rattle.proto_numbers.proofs.Common.{after_earlier, flaw_if, marked, bound_of, broken_ranges, end_of, enum_range_of, first_of_signed, is_field_number, is_inside, is_value_number, least_value, most_field, most_value, number_of_field, number_of_value, outside, overlaps, range_of, repeated_numbers, reserved_numbers, share, field_number_flaws}
+use Rattle.proto_checks.proofs.Common.{default_flaws, enum_of_type, field_flaws, holds_number, is_default_of, is_of_proto2, is_packable_type, is_past_zero, is_scalar_default, is_unpackable, is_value_of, lacks_label, map_key_flaws, may_be_packed, may_default, no_map_keys, option_flaws, required_flaws, type_flaws, type_token, wrong_default, allows_alias, block_flaws, enum_flaws, file_flaws, first_value_flaws, is_empty, json_clashes, message_flaws, name_flaws, value_number_flaws, value_option_flaws}
 use Rattle.proto_checks_laws.specs.Imports.{ImportsMoveFlaws, IsMoved, moved}
 use Rattle.proto_checks_laws.proofs.MovedParts.{any_kept, closed_ranges_moved, empty_kept, enum_ranges_moved, extension_words_moved, fields_moved, file_blocks_moved, file_options_moved, find_moved, flat_kept, flat_moved, maps_kept, maps_moved, move_block_of, move_field_of, move_option_of, none_kept, options_moved, reserved_names_moved, settings_moved, some_kept, statements_moved, values_moved}
 use Rattle.proto_checks.proofs.OptionNames.{earlier_map}

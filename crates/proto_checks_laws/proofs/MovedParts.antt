@@ -1,7 +1,6 @@
 -- The parts of a tree whose tokens are moved: the moved parts. Imports give no part that flaws are read from (for the crates above).
 use Rattle.std.proofs.Common.{◌≡◌, ℕ, suc, Bool, true, false, ◌||◌, if◌then◌else◌, List, [], ◌∷◌, ◌++◌, map, flat_map, find, Option, Some, None, option_map, is_some, is_none, refl, sym, ◌∙◌, ap, ap₂}
-use Rattle.std.specs.List.{list_any}
-use Rattle.std.proofs.lemmas.List.{map-append}
+use Rattle.proto_faults.proofs.Common.{list_any, map-append, any_map}
 use Rattle.proto_tree.specs.declared.tree.Behind.{Behind}
 use Rattle.proto_tree.specs.declared.tree.Separated.{Separated}
 use Rattle.proto_tree.specs.declared.tree.Range.{Range}
@@ -11,9 +10,7 @@ use Rattle.proto_tree.specs.declared.tree.Settings.{Settings}
 use Rattle.proto_tree.specs.declared.piece.Statement.{Statement}
 use Rattle.proto_tree.specs.declared.piece.Statement.TheVariants as statement
 use Rattle.proto_tree.specs.declared.piece.Header.TheVariants as header
-use Rattle.proto_tree.specs.Moved.{Move, move_behind, move_constant, move_header, move_option, move_range, move_reserved_list, move_separated, move_setting, move_settings, move_signed, move_statement, move_tree, move_type, move_value}
-use Rattle.proto_tree.specs.Tree.{Tree, End, Leaf, Block}
-use Rattle.proto_faults.proofs.Lists.{any_map}
+use Rattle.proto_tree.proofs.Common.{Move, move_behind, move_constant, move_header, move_option, move_range, move_reserved_list, move_separated, move_setting, move_settings, move_signed, move_statement, move_tree, move_type, move_value, Tree, End, Leaf, Block}
 use Rattle.proto_parts.specs.Parts.{BlockOf, FieldOf, OptionOf, blocks_in, closed_ranges, enum_ranges, extension_ranges, extension_words, fields_from, names_of, option_of_setting, options_in, ranges_of, reserved_names, reserved_names_in, reserved_ranges, separated, settings_of, statement_fields, statement_options, statement_values, statements, values_in}
 use Rattle.proto_checks.specs.FileFlaws.{is_empty}
 use Rattle.proto_checks_laws.specs.Imports.{without_imports}

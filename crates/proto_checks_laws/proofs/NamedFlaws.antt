@@ -1,29 +1,19 @@
 -- The flaws of a file that names decide, block by block (for the crates above).
-use Rattle.std.proofs.Common.{◌≡◌, ℕ, Bool, true, false, not, ◌&&◌, if◌then◌else◌, List, [], ◌∷◌, ◌++◌, map, flat_map, find, Option, Some, None, codes, refl, sym, ◌∙◌, ap, ap₂}
-use Rattle.std.specs.List.{Contains}
-use Rattle.std.specs.Str.{bytes_eq}
-use Rattle.std.proofs.lemmas.List.{append-nil}
-use Rattle.std.proofs.lemmas.List.Elements.{filter-append}
+use Rattle.std.proofs.Common.{◌≡◌, ℕ, Bool, true, false, not, ◌&&◌, if◌then◌else◌, List, [], ◌∷◌, ◌++◌, map, flat_map, find, Option, Some, None, codes, refl, sym, ◌∙◌, ap, ap₂, Contains, bytes_eq, append-nil, pos}
+use Rattle.proto_faults.proofs.Common.{filter-append, contains_head, contains_later}
 use Rattle.proto_faults.specs.declared.fault.FaultKind.{FaultKind}
 use Rattle.proto_faults.specs.declared.fault.FaultKind.TheVariants as kind
 use Rattle.proto_tree.specs.declared.piece.Header.{Header}
 use Rattle.proto_tree.specs.declared.piece.Header.TheVariants as header
 use Rattle.proto_tree.specs.Tree.{Tree}
-use Rattle.proto_faults.proofs.Lists.{contains_head, contains_later}
-use Rattle.proto_parts.specs.Options.{is_allowed, is_named}
-use Rattle.proto_parts.specs.Parts.{BlockOf, FieldOf, OptionOf, blocks_in, closed_ranges, enum_ranges, extension_words, fields_in, options_in, reserved_names_in, settings_of, statements, values_in}
-use Rattle.proto_parts.specs.Scenes.{Scene, text, value}
+use Rattle.proto_parts.proofs.Common.{is_allowed, is_named, BlockOf, FieldOf, OptionOf, blocks_in, closed_ranges, enum_ranges, extension_words, fields_in, options_in, reserved_names_in, settings_of, statements, values_in, Scene, text, value, json_name_of}
 use Rattle.proto_parts.specs.declared.options.Element.{Element}
 use Rattle.proto_parts.specs.declared.options.Element.TheVariants as element
 use Rattle.proto_numbers.specs.declared.flaw.Flaw.{Flaw}
 use Rattle.proto_numbers.specs.declared.numbers.NumberAt.{NumberAt}
 use Rattle.proto_parts.specs.declared.ranges.RangeAt.{RangeAt}
-use Rattle.proto_numbers.specs.Flaws.{after_earlier, flaw, flaw_if, marked}
-use Rattle.proto_numbers.specs.NumberFlaws.{broken_ranges, enum_range_of, field_number_flaws, is_field_number, is_value_number, least_value, most_field, most_value, number_of_field, number_of_value, outside, overlaps, range_of, repeated_numbers, reserved_numbers, share}
-use Rattle.std.specs.Prelude.{pos}
-use Rattle.proto_parts.specs.JsonNames.{json_name_of}
-use Rattle.proto_checks.specs.FieldFlaws.{default_flaws, field_flaws, has_closed_enum, lacks_label, map_key_flaws, may_be_packed, may_default, option_flaws, required_flaws, starts_wrong, type_flaws, type_token, wrong_default}
-use Rattle.proto_checks.specs.FileFlaws.{alias_flaws, allows_alias, block_flaws, enum_flaws, file_flaws, first_value_flaws, json_clashes, message_flaws, name_flaws, value_number_flaws, value_option_flaws}
+use Rattle.proto_numbers.proofs.Common.{after_earlier, flaw, flaw_if, marked, broken_ranges, enum_range_of, field_number_flaws, is_field_number, is_value_number, least_value, most_field, most_value, number_of_field, number_of_value, outside, overlaps, range_of, repeated_numbers, reserved_numbers, share}
+use Rattle.proto_checks.proofs.Common.{default_flaws, field_flaws, has_closed_enum, lacks_label, map_key_flaws, may_be_packed, may_default, option_flaws, required_flaws, starts_wrong, type_flaws, type_token, wrong_default, alias_flaws, allows_alias, block_flaws, enum_flaws, file_flaws, first_value_flaws, json_clashes, message_flaws, name_flaws, value_number_flaws, value_option_flaws}
 use Rattle.proto_checks_laws.specs.Renamed.{but_names, is_of_names}
 use Rattle.proto_checks_laws.specs.NamedFlaws.{FlawsOfNames, NoFlawComesIn, flaws_of_block, of_names}
 

@@ -1,8 +1,6 @@
 -- A token names one field, or an option of one field (for the crates above).
-use Rattle.std.proofs.Common.{◌≡◌, ℕ, suc, ◌+◌, List, [], ◌∷◌, ◌++◌, length, map, flat_map, Option, Some, None, refl, sym, subst, ◌∙◌, arith, inl, inr}
-use Rattle.std.specs.List.{Contains}
-use Rattle.std.proofs.lemmas.List.Elements.{Contains-append_cases, Contains-append_left, Contains-append_right}
-use Rattle.proto_faults.proofs.Lists.{contains_cases, contains_head, contains_later, from_map}
+use Rattle.std.proofs.Common.{◌≡◌, ℕ, suc, ◌+◌, List, [], ◌∷◌, ◌++◌, length, map, flat_map, Option, Some, None, refl, sym, subst, ◌∙◌, arith, inl, inr, Contains}
+use Rattle.proto_faults.proofs.Common.{Contains-append_cases, Contains-append_left, Contains-append_right, contains_cases, contains_head, contains_later, from_map}
 use Rattle.proto_tree.specs.declared.class.Class.TheVariants as class
 use Rattle.proto_tree.specs.declared.class.Want.TheVariants as want
 use Rattle.proto_tree.specs.declared.piece.Header.TheVariants as header
@@ -13,10 +11,7 @@ use Rattle.proto_tree.specs.declared.tree.Field.{Field}
 use Rattle.proto_tree.specs.declared.tree.MapField.{MapField}
 use Rattle.proto_tree.specs.declared.tree.Setting.{Setting}
 use Rattle.proto_tree.specs.declared.tree.Settings.{Settings}
-use Rattle.proto_tree.specs.Flat.{Mark, mark, name, one, only, flat_all, flat_behind, flat_constant, flat_field, flat_header, flat_map_field, flat_option, flat_separated, flat_setting, flat_settings, flat_statement, flat_type}
-use Rattle.proto_tree.specs.Laws.{Numbered}
-use Rattle.proto_tree.specs.Tree.{Tree, End, Leaf, Block, flat}
-use Rattle.proto_tree.proofs.MarkLaws.{numbered_append, numbered_at, trees_are_numbered}
+use Rattle.proto_tree.proofs.Common.{Mark, mark, name, one, only, flat_all, flat_behind, flat_constant, flat_field, flat_header, flat_map_field, flat_option, flat_separated, flat_setting, flat_settings, flat_statement, flat_type, Numbered, Tree, End, Leaf, Block, flat, numbered_append, numbered_at, trees_are_numbered}
 use Rattle.proto_parts.specs.Parts.{BlockOf, FieldOf, OptionOf, blocks_in, fields_from, map_field, option_of_setting, plain_field, separated, settings_of, statement_fields, statements}
 use Rattle.proto_checks_laws.specs.OneField.{IsSameField, NamesAreOfOneField, OptionsAreOfOneField}
 

@@ -1,10 +1,9 @@
 -- What cannot stand outermost in a file (for the crates above).
 use Rattle.std.proofs.Common.{◌≡◌, true}
-use Rattle.proto_tree.specs.Answer.{IsOuter}
+use Rattle.proto_tree.proofs.Common.{IsOuter, allows}
 use Rattle.proto_tree.specs.declared.context.Context.{Context}
 use Rattle.proto_tree.specs.declared.context.Context.TheVariants as context
 use Rattle.proto_tree.specs.declared.context.Kind.TheVariants as kind
-use Rattle.proto_tree.specs.Tree.{allows}
 
 pub no_oneof : (c : Context) → IsOuter c → allows c kind.OpenOneof ≡ true → ⊥
 no_oneof context.Start o h = cc

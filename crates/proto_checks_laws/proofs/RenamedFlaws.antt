@@ -1,10 +1,6 @@
 -- The flaws of a file in two scenes that differ in names: the same, but for those that names decide (for the crates above).
-use Rattle.std.proofs.Common.{◌≡◌, ℕ, ℤ, pos, neg_ℤ, Bool, true, false, not, ◌&&◌, ◌||◌, if◌then◌else◌, List, [], ◌∷◌, ◌++◌, map, flat_map, find, Option, Some, None, is_some, is_none, codes, option_and_then, refl, sym, ◌∙◌, ap, ap₂}
-use Rattle.std.specs.Prelude.{option_to_list}
-use Rattle.std.specs.List.{AllByRecursion, list_any}
-use Rattle.std.specs.Ordering.{int_eq}
-use Rattle.std.specs.Str.{bytes_eq}
-use Rattle.std.proofs.lemmas.List.Elements.{filter-append, recursion_from_All}
+use Rattle.std.proofs.Common.{◌≡◌, ℕ, ℤ, pos, neg_ℤ, Bool, true, false, not, ◌&&◌, ◌||◌, if◌then◌else◌, List, [], ◌∷◌, ◌++◌, map, flat_map, find, Option, Some, None, is_some, is_none, codes, option_and_then, refl, sym, ◌∙◌, ap, ap₂, option_to_list, int_eq, bytes_eq}
+use Rattle.proto_faults.proofs.Common.{AllByRecursion, list_any, filter-append, recursion_from_All, word_from_same}
 use Rattle.proto_faults.specs.declared.fault.FaultKind.{FaultKind}
 use Rattle.proto_faults.specs.declared.fault.FaultKind.TheVariants as kind
 use Rattle.proto_tree.specs.declared.piece.Header.{Header}
@@ -20,11 +16,7 @@ use Rattle.proto_tree.specs.declared.tree.Signed.{Signed}
 use Rattle.proto_tree.specs.declared.tree.UpTo.{UpTo}
 use Rattle.proto_tree.specs.declared.tree.Value.{Value}
 use Rattle.proto_tree.specs.Tree.{Tree}
-use Rattle.proto_faults.proofs.Lists.{word_from_same}
-use Rattle.proto_parts.specs.Numbers.{number_of}
-use Rattle.proto_parts.specs.Options.{fits_kind, idempotency_levels, is_allowed, is_named, is_word_of, optimize_modes, truth_named, truth_of, value_kind_of, word_of, is_true}
-use Rattle.proto_parts.specs.Parts.{BlockOf, FieldOf, OptionOf, blocks_in, closed_ranges, enum_ranges, extension_words, fields_in, options_in, reserved_names_in, settings_of, statements, values_in}
-use Rattle.proto_parts.specs.Scenes.{EnumOf, Scene, enum_meant, number_at, signed_at, text, up_to, value}
+use Rattle.proto_parts.proofs.Common.{number_of, fits_kind, idempotency_levels, is_allowed, is_named, is_word_of, optimize_modes, truth_named, truth_of, value_kind_of, word_of, is_true, BlockOf, FieldOf, OptionOf, blocks_in, closed_ranges, enum_ranges, extension_words, fields_in, options_in, reserved_names_in, settings_of, statements, values_in, EnumOf, Scene, enum_meant, number_at, signed_at, text, up_to, value, is_label, json_name_of}
 use Rattle.proto_parts.specs.declared.options.Element.{Element}
 use Rattle.proto_parts.specs.declared.options.Element.TheVariants as element
 use Rattle.proto_parts.specs.declared.options.ValueKind.{ValueKind}
@@ -32,14 +24,9 @@ use Rattle.proto_parts.specs.declared.options.ValueKind.TheVariants as value_kin
 use Rattle.proto_numbers.specs.declared.flaw.Flaw.{Flaw}
 use Rattle.proto_numbers.specs.declared.numbers.NumberAt.{NumberAt}
 use Rattle.proto_parts.specs.declared.ranges.RangeAt.{RangeAt}
-use Rattle.proto_numbers.specs.Flaws.{after_earlier, flaw, flaw_if, marked}
-use Rattle.proto_numbers.specs.NumberFlaws.{bound_of, broken_ranges, end_of, enum_range_of, first_of_signed, is_value_number, least_value, most_field, most_value, number_of_field, number_of_value, outside, overlaps, range_of, repeated_numbers, reserved_numbers, field_number_flaws}
-use Rattle.proto_parts.specs.Labels.{is_label}
-use Rattle.proto_checks.specs.FieldFlaws.{default_flaws, enum_of_type, field_flaws, is_packable_type, is_unpackable, map_key_flaws, may_default, no_map_keys, option_flaws, required_flaws, type_flaws, type_token, wrong_default}
-use Rattle.proto_parts.specs.JsonNames.{json_name_of}
-use Rattle.proto_checks.specs.FileFlaws.{block_flaws, enum_flaws, file_flaws, first_value_flaws, json_clashes, message_flaws, name_flaws, value_number_flaws, value_option_flaws}
+use Rattle.proto_numbers.proofs.Common.{after_earlier, flaw, flaw_if, marked, bound_of, broken_ranges, end_of, enum_range_of, first_of_signed, is_value_number, least_value, most_field, most_value, number_of_field, number_of_value, outside, overlaps, range_of, repeated_numbers, reserved_numbers, field_number_flaws}
+use Rattle.proto_checks.proofs.Common.{default_flaws, enum_of_type, field_flaws, is_packable_type, is_unpackable, map_key_flaws, may_default, no_map_keys, option_flaws, required_flaws, type_flaws, type_token, wrong_default, block_flaws, enum_flaws, file_flaws, first_value_flaws, json_clashes, message_flaws, name_flaws, value_number_flaws, value_option_flaws, aft, fore}
 use Rattle.proto_checks_laws.specs.Renamed.{DifferInNames, NamesDecideThreeKinds, SameButValues, asked_tokens, block_tokens, but_names, constant_tokens, end_tokens, enum_tokens, field_tokens, header_tokens, is_of_names, message_tokens, option_tokens, range_tokens, scalar_tokens, up_to_tokens, value_tokens}
-use Rattle.proto_checks.proofs.FlawTokens.{aft, fore}
 
 -- ---- flaws that are the same but for those of names
 

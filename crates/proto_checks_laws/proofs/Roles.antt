@@ -1,11 +1,7 @@
 -- What sentences and options read besides names stands at tokens of other roles (for the crates above).
-use Rattle.std.proofs.Common.{◌≡◌, ◌⊎◌, ℕ, suc, ◌+◌, Bool, true, false, List, [], ◌∷◌, ◌++◌, map, flat_map, Option, Some, None, codes, refl, sym, ap, subst, ◌∙◌, inl, inr, arith}
-use Rattle.std.specs.Prelude.{if◌then◌else◌, option_to_list}
-use Rattle.std.specs.List.{AllByRecursion, Contains}
-use Rattle.std.specs.Str.{bytes_eq}
-use Rattle.std.proofs.lemmas.List.Elements.{All-contains, All-from_recursion}
+use Rattle.std.proofs.Common.{◌≡◌, ◌⊎◌, ℕ, suc, ◌+◌, Bool, true, false, List, [], ◌∷◌, ◌++◌, map, flat_map, Option, Some, None, codes, refl, sym, ap, subst, ◌∙◌, inl, inr, arith, if◌then◌else◌, option_to_list, Contains, bytes_eq}
+use Rattle.proto_faults.proofs.Common.{AllByRecursion, All-contains, All-from_recursion, contains_head, contains_later}
 use Rattle.proto_text.specs.Tokens.{Lexeme}
-use Rattle.proto_faults.proofs.Lists.{contains_head, contains_later}
 use Rattle.proto_tree.specs.declared.class.Class.{Class}
 use Rattle.proto_tree.specs.declared.class.Class.TheVariants as class
 use Rattle.proto_tree.specs.declared.class.Want.TheVariants as want
@@ -31,16 +27,8 @@ use Rattle.proto_tree.specs.declared.tree.Settings.{Settings}
 use Rattle.proto_tree.specs.declared.tree.Signed.{Signed}
 use Rattle.proto_tree.specs.declared.tree.UpTo.{UpTo}
 use Rattle.proto_tree.specs.declared.tree.Value.{Value}
-use Rattle.proto_tree.specs.Flat.{Mark, mark, flat_all, flat_behind, flat_constant, flat_header, flat_number, flat_option, flat_range, flat_range_end, flat_reserved_list, flat_separated, flat_setting, flat_settings, flat_signed, flat_statement, flat_type, flat_up_to, name as name_mark, one as one_mark, only}
-use Rattle.proto_tree.specs.Laws.{Numbered}
-use Rattle.proto_tree.specs.Roles.{HasRole, Role, is_number, is_other, is_scalar, is_value, labels, names, names_option, refers, role_of}
-use Rattle.proto_tree.specs.Tree.{Tree, End, Leaf, Block, Spells, flat}
-use Rattle.proto_tree.specs.Words.{classes}
-use Rattle.proto_tree.proofs.MarkLaws.{trees_are_numbered}
-use Rattle.proto_tree.proofs.Roles.{roles_are_one}
-use Rattle.proto_parts.specs.Options.{is_named}
-use Rattle.proto_parts.specs.Parts.{FieldOf, OptionOf, BlockOf, blocks_in, closed_ranges, enum_ranges, fields_from, fields_in, map_field, option_of_setting, options_in, plain_field, ranges_of, separated, settings_of, statement_fields, statement_options, statement_values, statements, values_in}
-use Rattle.proto_parts.specs.Scenes.{Scene, text}
+use Rattle.proto_tree.proofs.Common.{Mark, mark, flat_all, flat_behind, flat_constant, flat_header, flat_number, flat_option, flat_range, flat_range_end, flat_reserved_list, flat_separated, flat_setting, flat_settings, flat_signed, flat_statement, flat_type, flat_up_to, name as name_mark, one as one_mark, only, Numbered, HasRole, Role, is_number, is_other, is_scalar, is_value, labels, names, names_option, refers, role_of, Tree, End, Leaf, Block, Spells, flat, classes, trees_are_numbered, roles_are_one}
+use Rattle.proto_parts.proofs.Common.{is_named, FieldOf, OptionOf, BlockOf, blocks_in, closed_ranges, enum_ranges, fields_from, fields_in, map_field, option_of_setting, options_in, plain_field, ranges_of, separated, settings_of, statement_fields, statement_options, statement_values, statements, values_in, Scene, text}
 use Rattle.proto_checks.proofs.FlawTokens.{both, flattened, mapped}
 use Rattle.proto_checks_laws.specs.Renamed.{asked_tokens, block_tokens, constant_tokens, end_tokens, field_tokens, header_tokens, option_tokens, range_tokens, scalar_tokens, up_to_tokens, value_tokens}
 use Rattle.proto_checks_laws.specs.Roles.{AskedTokensHaveRoles, DefaultsAreNotAsked, FieldOptionsHaveRoles, IsOtherValue, NamesAreNotAsked, ValueHasRole, ValueNumbersAreNumbers, is_asked, is_of_declarations}

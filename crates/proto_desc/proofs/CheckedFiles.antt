@@ -1,26 +1,20 @@
 -- What holds of a file as the code reads it holds of it as it is read, with its numbers as they are.
-use Rattle.std.proofs.Common.{◌≡◌, ℕ, suc, ◌+◌, ◌<◌, List, [], ◌∷◌, length, get_or, map, Option, Some, None, refl, sym, ap, subst, ◌∙◌, arith}
-use Rattle.std.specs.List.{Contains}
+use Rattle.std.proofs.Common.{◌≡◌, ℕ, suc, ◌+◌, ◌<◌, List, [], ◌∷◌, length, get_or, map, Option, Some, None, refl, sym, ap, subst, ◌∙◌, arith, Contains}
 use Rattle.proto_tree.specs.Tree.{Tree}
-use Rattle.proto_files.specs.GivenFiles.{FileOf, file_at}
-use Rattle.proto_files.specs.FilesRead.{Each, ReadOf, AreRead, read_at}
-use Rattle.proto_files.proofs.OneReading.{IsTreeOf, same_tree}
-use Rattle.proto_parts.specs.Numbers.{past}
-use Rattle.proto_parts.specs.Scenes.{Scene}
+use Rattle.proto_files.proofs.Common.{FileOf, file_at, Each, ReadOf, AreRead, read_at, IsTreeOf, same_tree}
+use Rattle.proto_parts.proofs.Common.{past, Scene}
 use Rattle.proto_checks.specs.FileFlaws.{file_flaws}
 use Rattle.proto_numbers.specs.Flaws.{IsLeast}
 use Rattle.proto_numbers.specs.declared.flaw.Flaw.{Flaw}
 use Rattle.proto_checks.proofs.CappedFlaws.{caps_keep_the_least}
 use Rattle.proto_described.proofs.CappedDescriptors.{caps_keep_the_descriptor}
-use Rattle.proto_desc.specs.Checked.{described_from, flaws_of}
+use Rattle.proto_desc.specs.Common.{described_from, flaws_of, IsFaultOf, IsFileError}
 use Rattle.proto_scenes.specs.Scenes.{IsSceneOf}
-use Rattle.proto_desc.specs.CheckSteps.{IsFaultOf, IsFileError}
 use Rattle.proto_faults.specs.declared.fault.SchemaFault.{SchemaFault}
 use Rattle.proto_faults.specs.declared.fault.SchemaFault.TheVariants.{Schema, NoMemory}
 use Rattle.proto_described.specs.Described.{file_described}
-use Rattle.proto_descriptors.specs.Descriptors.{FileDesc}
+use Rattle.proto_descriptors.proofs.Common.{FileDesc, file_desc}
 use Rattle.proto_scenes.specs.SceneOf.{scene_of}
-use Rattle.proto_descriptors.specs.Views.{file_desc}
 use Rattle.proto_descriptors.specs.declared.file.FileDescriptor.{FileDescriptor}
 
 -- the descriptor of the file with this number, by its tree

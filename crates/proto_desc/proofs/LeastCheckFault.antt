@@ -1,23 +1,14 @@
 -- The least flaw of the first file that has one is the least fault of the checks.
-use Rattle.std.proofs.Common.{◌≡◌, ℕ, ◌<◌, ◌⊎◌, inl, inr, Bool, true, false, ◌==◌, ◌&&◌, ◌||◌, List, length, Some, None, refl, sym, ap, subst, ◌∙◌, arith}
-use Rattle.std.specs.Prelude.{nat_lt}
-use Rattle.std.specs.List.{Contains}
-use Rattle.std.proofs.lemmas.Bool.Decides.{nat_tests}
-use Rattle.std.proofs.lemmas.Bool.{eq-eqb}
+use Rattle.std.proofs.Common.{◌≡◌, ℕ, ◌<◌, ◌⊎◌, inl, inr, Bool, true, false, ◌==◌, ◌&&◌, ◌||◌, List, length, Some, None, refl, sym, ap, subst, ◌∙◌, arith, nat_lt, Contains, eq-eqb}
+use Rattle.proto_faults.proofs.Common.{nat_tests, number_of, phase_of}
 use Rattle.proto_text.specs.Texts.{offset_at}
-use Rattle.proto_faults.specs.FaultTable.{number_of, phase_of}
-use Rattle.proto_files.specs.Faults.{FaultAt, ComesBefore, IsLeastFault, HasNoFault}
-use Rattle.proto_files.specs.GivenFiles.{FileOf, AreWorkspaceFiles, file_at}
-use Rattle.proto_files.proofs.FaultOrder.{comes_before_cases}
-use Rattle.proto_files.specs.FilesRead.{ReadOf, AreRead, read_at}
+use Rattle.proto_files.proofs.Common.{FaultAt, ComesBefore, IsLeastFault, HasNoFault, FileOf, AreWorkspaceFiles, file_at, comes_before_cases, ReadOf, AreRead, read_at, read_once}
 use Rattle.proto_imports.proofs.LeastLinkFault.{file_before, one_file, one_token, token_before}
-use Rattle.proto_files.proofs.ReadOnce.{read_once}
 use Rattle.proto_numbers.specs.Flaws.{IsLeast, comes_before}
 use Rattle.proto_numbers.specs.declared.flaw.Flaw.{Flaw}
 use Rattle.proto_checks.proofs.FlawTokens.{flaw_within}
 use Rattle.proto_checks.proofs.Phases.{flaws_are_of_checks}
-use Rattle.proto_desc.specs.Checked.{CheckFaults, of_flaw, fault_of, flaws_of, IsCheckError}
-use Rattle.proto_desc.specs.CheckSteps.{HasNoFlaw, IsFileError}
+use Rattle.proto_desc.specs.Common.{CheckFaults, of_flaw, fault_of, flaws_of, IsCheckError, HasNoFlaw, IsFileError}
 use Rattle.proto_scenes.specs.SceneOf.{scene_of}
 use Rattle.proto_faults.specs.declared.fault.SchemaFault.{SchemaFault}
 use Rattle.proto_faults.specs.declared.fault.SchemaFault.TheVariants.{Schema, NoMemory}

@@ -1,3 +1,4 @@
 pub mod CheckedFiles
+pub mod Common
 pub mod LeastCheckFault
 mod Opened

@@ -1,21 +1,10 @@
 -- What opening files answers: the first step that finds a fault has the least of all.
-use Rattle.std.proofs.Common.{◌≡◌, ◌<◌, ◌⊎◌, inl, inr, ⊎_elim, List, None, sym, subst, arith}
-use Rattle.std.specs.Prelude.{IsPermutation}
-use Rattle.std.proofs.lemmas.List.Sorted.{IsPermutation-sym, IsPermutation-trans, All-permutation, length_permutation}
-use Rattle.proto_faults.specs.FaultTable.{phase_of}
-use Rattle.proto_files.specs.Faults.{FaultAt, fault_at, ComesBefore, IsLeastFault, HasNoFault, IsFilesError}
-use Rattle.proto_files.specs.GivenFiles.{FileOf, paths_of, AreWorkspaceFiles}
-use Rattle.proto_files.specs.PathFaults.{PathFaults}
-use Rattle.proto_files.specs.ReadFaults.{ReadFaults}
-use Rattle.proto_files.specs.WorkspacePaths.{IsWorkspacePath}
+use Rattle.std.proofs.Common.{◌≡◌, ◌<◌, ◌⊎◌, inl, inr, ⊎_elim, List, None, sym, subst, arith, IsPermutation}
+use Rattle.proto_faults.proofs.Common.{IsPermutation-sym, IsPermutation-trans, All-permutation, length_permutation, phase_of}
+use Rattle.proto_files.proofs.Common.{FaultAt, fault_at, ComesBefore, IsLeastFault, HasNoFault, IsFilesError, FileOf, paths_of, AreWorkspaceFiles, PathFaults, ReadFaults, IsWorkspacePath, comes_before_cases, one_order, paths_are_phase_0, texts_are_phase_1, grammar_is_phase_2, read_at}
 use Rattle.proto_faults.specs.declared.fault.SchemaFault.{SchemaFault}
 use Rattle.proto_faults.specs.declared.fault.SchemaFault.TheVariants.{Schema, NoMemory}
-use Rattle.proto_files.proofs.FaultOrder.{comes_before_cases}
-use Rattle.proto_files.proofs.OneOrder.{one_order, paths_are_phase_0, texts_are_phase_1, grammar_is_phase_2}
-use Rattle.proto_imports.specs.LinkErrors.{IsLinkError}
-use Rattle.proto_files.specs.FilesRead.{read_at}
-use Rattle.proto_imports.specs.Links.{LinkFaults, of_import, of_name, of_reference}
-use Rattle.proto_imports.proofs.FaultPlaces.{import_found, name_found, reference_found}
+use Rattle.proto_imports.proofs.Common.{IsLinkError, LinkFaults, of_import, of_name, of_reference, import_found, name_found, reference_found}
 use Rattle.proto_checks.proofs.Phases.{flaws_are_of_checks}
 use Rattle.proto_desc.specs.Checked.{CheckFaults, of_flaw, IsCheckError}
 use Rattle.proto_desc.specs.SceneOf.{scene_of}

@@ -1,7 +1,6 @@
 -- The descriptor of a file is the same with one cap and another, each past every limit (for the crates above).
 use Rattle.std.proofs.Common.{◌≡◌, ◌⊎◌, ℕ, ◌+◌, ◌-◌, ◌^◌, ℤ, pos, negsuc, nat_abs, true, false, if◌then◌else◌, List, [], ◌∷◌, map, flat_map, Option, Some, None, option_map, codes, refl, sym, ◌∙◌, ap, inl, inr}
-use Rattle.std.specs.Fmt.{signed_decimal}
-use Rattle.std.proofs.lemmas.Bool.{cases_Bool}
+use Rattle.proto_faults.proofs.Common.{signed_decimal, cases_Bool}
 use Rattle.proto_tree.specs.declared.piece.Header.TheVariants as header
 use Rattle.proto_tree.specs.declared.piece.Statement.TheVariants as statement
 use Rattle.proto_tree.specs.declared.tree.Constant.{Constant}
@@ -12,11 +11,8 @@ use Rattle.proto_tree.specs.declared.tree.Value.{Value}
 use Rattle.proto_tree.specs.Tree.{Tree, End, Leaf, Block}
 use Rattle.proto_listing.specs.FromTree.{items_in}
 use Rattle.proto_meaning.specs.Tree.{package_of}
-use Rattle.proto_parts.specs.Options.{value_named}
-use Rattle.proto_parts.specs.Parts.{FieldOf, statements, fields_in, values_in, reserved_ranges, extension_ranges, enum_ranges}
-use Rattle.proto_parts.specs.Scenes.{Scene, text, number_at, signed_at}
-use Rattle.proto_numbers.specs.NumberFlaws.{is_within, most_field, most_value, least_value, range_of, enum_range_of, end_of}
-use Rattle.proto_numbers.proofs.CappedNumbers.{Alike, AlikeCaps, is_near, within_alike, near_within, same_near, past_or_none, capped, alike_at, alike_signed, alike_end}
+use Rattle.proto_parts.proofs.Common.{value_named, FieldOf, statements, fields_in, values_in, reserved_ranges, extension_ranges, enum_ranges, Scene, text, number_at, signed_at}
+use Rattle.proto_numbers.proofs.Common.{is_within, most_field, most_value, least_value, range_of, enum_range_of, end_of, Alike, AlikeCaps, is_near, within_alike, near_within, same_near, past_or_none, capped, alike_at, alike_signed, alike_end}
 use Rattle.proto_described.specs.Capped.{CapsKeepTheDescriptor}
 use Rattle.proto_descriptors.specs.Descriptors.{NoMessages, Message}
 use Rattle.proto_described.specs.Described.{field_number, value_number, default_number, number_range, value_range, default_text, below, field_described, value_described, enum_described, enums_described, entry_described, message_described, messages_described, package_named, package_prefix, file_described}

@@ -1,20 +1,16 @@
 -- What stands right in a message or a file, of trees that stand one behind another (for the crates above).
-use Rattle.std.proofs.Common.{◌≡◌, ℕ, ◌+◌, ◌<◌, ◌≤◌, List, [], ◌∷◌, ◌++◌, length, get_or, take, drop, refl, sym, ap, ◌∙◌, map, append_assoc}
-use Rattle.std.specs.Prelude.{Option, option_to_list}
-use Rattle.std.proofs.lemmas.List.{append-nil, at_drop_more, at_drop_all, map-append, take_more}
+use Rattle.std.proofs.Common.{◌≡◌, ℕ, ◌+◌, ◌<◌, ◌≤◌, List, [], ◌∷◌, ◌++◌, length, get_or, take, drop, refl, sym, ap, ◌∙◌, map, append_assoc, Option, option_to_list, append-nil}
+use Rattle.std.proofs.lemmas.List.{at_drop_more, at_drop_all, map-append, take_more}
 use Rattle.proto_tree.specs.declared.piece.Statement.TheVariants as statement
 use Rattle.proto_tree.specs.declared.piece.Header.TheVariants as header
-use Rattle.proto_tree.specs.File.{trees}
-use Rattle.proto_tree.specs.Tree.{Tree, End, Leaf, Block, joined}
-use Rattle.proto_parts.specs.Scenes.{Scene, text}
+use Rattle.proto_tree.proofs.Common.{trees, Tree, End, Leaf, Block, joined}
+use Rattle.proto_parts.proofs.Common.{Scene, text, options_in}
 use Rattle.proto_described.specs.Described.{below, enum_described, enums_described, oneof_names, entry_described, message_described, messages_described, method_described, methods_described, service_described, services_described}
-use Rattle.proto_parts.specs.Parts.{options_in}
-use Rattle.proto_descriptors.specs.Views.{MessageTree, message_desc, message_step, message_tree, messages_desc}
+use Rattle.proto_descriptors.proofs.Common.{MessageTree, message_desc, message_step, message_tree, messages_desc, EnumDesc, MessageDesc, Messages, NoMessages, Message, MethodDesc, ServiceDesc}
 use Rattle.proto_descriptors.specs.declared.message.MessageDescriptor.{MessageDescriptor}
 use Rattle.proto_descriptors.specs.declared.message.MessageDescriptor.TheOpen.{MessageDescriptor-F}
 use Rattle.proto_descriptors.specs.declared.message.MessageDescriptor.TheFolds.{fold-roll-MessageDescriptor}
 use Rattle.proto_descriptors.specs.declared.message.MessageDescriptor.TheViews.{roll-MessageDescriptor}
-use Rattle.proto_descriptors.specs.Descriptors.{EnumDesc, MessageDesc, Messages, NoMessages, Message, MethodDesc, ServiceDesc}
 
 pub enums_joined : (scene : Scene) (t u : Tree) → enums_described scene (joined t u) ≡ enums_described scene t ++ enums_described scene u
 enums_joined scene End u = refl

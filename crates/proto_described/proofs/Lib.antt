@@ -1,2 +1,3 @@
 pub mod CappedDescriptors
+pub mod Common
 pub mod Levels

@@ -1,17 +1,12 @@
 -- Runs and undoings, one step more: what a loop over edits or entries has done so far.
-use Rattle.std.proofs.Common.{◌≡◌, ◌≢◌, ℕ, ◌+◌, ◌<◌, List, [], ◌∷◌, ◌++◌, length, map, take, drop, get_or, reverse, refl, sym, ap, subst, ◌∙◌}
-use Rattle.std.specs.Borrow.{Bor}
-use Rattle.std.specs.Prelude.{Result, Ok, Err, Some}
-use Rattle.std.proofs.lemmas.List.{map_more, map_push, drop_more, take-append-drop}
+use Rattle.std.proofs.Common.{◌≡◌, ◌≢◌, ℕ, ◌+◌, ◌<◌, List, [], ◌∷◌, ◌++◌, length, map, take, drop, get_or, reverse, refl, sym, ap, subst, ◌∙◌, Bor, Result, Ok, Err, Some, take-append-drop}
+use Rattle.std.proofs.lemmas.List.{map_more, map_push, drop_more}
 use Rattle.proto_files.specs.GivenFiles.{FileOf}
-use Rattle.proto_edit.specs.Compiled.{AreCompiled}
-use Rattle.proto_edit.specs.Answers.{asked, IsReopened, IsUndoRefusal, IsUndoAllRefusal, LeadsBack}
+use Rattle.proto_edit.specs.Common.{AreCompiled, asked, IsReopened, IsUndoRefusal, IsUndoAllRefusal, LeadsBack, Asked, IsAdmissible, AreChanges, IsMappedStep, IsRefusal, IsUndo, Run, Undone, StatementLaws}
 use Rattle.proto_edit.specs.declared.edit.Edit.{Edit}
 use Rattle.proto_entries.specs.declared.refusal.Refusal.{Refusal}
 use Rattle.proto_entries.specs.declared.refusal.Refusal.TheVariants as refusal
 use Rattle.proto_entries.specs.Entries.{ChangeOf}
-use Rattle.proto_edit.specs.Workspaces.{Asked, IsAdmissible, AreChanges, IsMappedStep, IsRefusal, IsUndo, Run, Undone}
-use Rattle.proto_edit.specs.StatementLaws.{StatementLaws}
 use Rattle.proto_edit.proofs.Steps.{steps_compile, run_more, undone_append, undone_once, leads_back, leads_somewhere}
 
 abbrev pub Answer : Type 0

@@ -1,22 +1,14 @@
 -- Files that compile are read, and compile when they are given again (for the crates above).
-use Rattle.std.proofs.Common.{◌≡◌, ℕ, suc, List, [], ◌∷◌, subst, arith}
-use Rattle.std.specs.Prelude.{AllPairs}
-use Rattle.std.proofs.lemmas.List.Sorted.{IsPermutation-sym, All-permutation, length_permutation}
+use Rattle.std.proofs.Common.{◌≡◌, ℕ, suc, List, [], ◌∷◌, subst, arith, AllPairs}
+use Rattle.proto_faults.proofs.Common.{IsPermutation-sym, All-permutation, length_permutation, from_map}
 use Rattle.proto_text.proofs.OneEdit.{length_map}
-use Rattle.proto_faults.proofs.Lists.{from_map}
 use Rattle.proto_faults.specs.declared.fault.FaultKind.{FaultKind}
 use Rattle.proto_faults.specs.declared.fault.FaultKind.TheVariants.{BadPath, DoublePath, TooManyFiles}
-use Rattle.proto_files.specs.Faults.{FaultAt, IsLeastFault}
-use Rattle.proto_files.specs.GivenFiles.{FileOf, paths_of, AreWorkspaceFiles}
-use Rattle.proto_files.specs.PathFaults.{IsPathFault}
-use Rattle.proto_files.specs.WorkspacePaths.{IsWorkspacePath, IsBefore}
+use Rattle.proto_files.proofs.Common.{FaultAt, IsLeastFault, FileOf, paths_of, AreWorkspaceFiles, IsPathFault, IsWorkspacePath, IsBefore, one_order, Rises, count_once}
 use Rattle.proto_files.proofs.Members.{Contains-from_member}
-use Rattle.proto_files.proofs.OneOrder.{one_order}
-use Rattle.proto_files.proofs.PathOrder.{Rises, count_once}
 use Rattle.proto_desc.specs.Whole.{IsSortedOf, FileFaults, WorkspaceFaults, of_path, of_files, of_read}
 use Rattle.proto_rename_described.proofs.CleanFiles.{clean_files_are_read}
-use Rattle.proto_edit.specs.Compiled.{AreCompiled}
-use Rattle.proto_edit.specs.Laws.{CompiledAreRead, WorkspacesAreClean}
+use Rattle.proto_edit.specs.Common.{AreCompiled, CompiledAreRead, WorkspacesAreClean}
 
 pub compiled_are_read : CompiledAreRead
 compiled_are_read w has = clean_files_are_read w (λ x h. has.clean x (of_read x h))

@@ -1,4 +1,5 @@
 mod Chains
+pub mod Common
 pub mod GivenAgain
 mod MappedSteps
 mod NamedFields

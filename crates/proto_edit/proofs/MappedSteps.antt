@@ -1,36 +1,20 @@
 -- A rename that no case refuses is a mapped step.
-use Rattle.std.proofs.Common.{◌≢◌, ℕ, ◌<◌, List, [], length, slice_index_or, refl, subst, inl}
-use Rattle.std.specs.List.{AllPairs}
+use Rattle.std.proofs.Common.{◌≢◌, ℕ, ◌<◌, List, [], length, slice_index_or, refl, subst, inl, AllPairs}
 use Rattle.std.proofs.lemmas.List.Elements.{Contains-get_or}
-use Rattle.proto_files.specs.Faults.{FaultAt}
-use Rattle.proto_files.specs.FilesRead.{ReadOf, AreRead, read_at}
-use Rattle.proto_files.specs.GivenFiles.{FileOf, file_at}
-use Rattle.proto_files.specs.ReadFaults.{IsText}
-use Rattle.proto_files.specs.WorkspacePaths.{IsBefore}
-use Rattle.proto_files.proofs.PathOrder.{never_before_itself}
+use Rattle.proto_files.proofs.Common.{FaultAt, ReadOf, AreRead, read_at, FileOf, file_at, IsText, IsBefore, never_before_itself}
 use Rattle.proto_desc.specs.Whole.{FileFaults, of_read, of_link, of_check}
-use Rattle.proto_entries.specs.Entries.{IsEntry}
-use Rattle.proto_entries.specs.Putting.{IsPut}
-use Rattle.proto_entries.proofs.Walks.{puts_keep_paths}
-use Rattle.proto_rename_laws.specs.Cases.{RenameCase}
-use Rattle.proto_rename_laws.specs.Changes.{changes_of_words}
+use Rattle.proto_entries.proofs.Common.{IsEntry, IsPut, puts_keep_paths}
+use Rattle.proto_rename_laws.proofs.Common.{RenameCase, changes_of_words, AreReworded, Target, IsNamed, renamed_words, tokens_are_inside, read_files_are_clean, files_are_reworded, targets_are_there}
 use Rattle.proto_rename_laws.specs.ChangesEntry.{IsPutIn}
-use Rattle.proto_rename_laws.specs.Rewording.{AreReworded}
-use Rattle.proto_rename_laws.specs.Targets.{Target, IsNamed, renamed_words}
-use Rattle.proto_rename_laws.proofs.Inside.{tokens_are_inside}
 use Rattle.proto_rename_laws.proofs.ChangesEntry.{changes_are_entry, texts_after}
 use Rattle.proto_rename_laws.proofs.ChangesPut.{changes_are_put}
 use Rattle.proto_rename_described.proofs.CleanFiles.{file_is_text}
-use Rattle.proto_rename_laws.proofs.NoLinkFault.{read_files_are_clean}
-use Rattle.proto_rename_laws.proofs.Rewording.{files_are_reworded}
-use Rattle.proto_rename_laws.proofs.TargetThere.{targets_are_there}
 use Rattle.proto_rename_described.specs.Allowed.{IsAllowed}
 use Rattle.proto_rename_described.proofs.Allowed.{words_suit}
 use Rattle.proto_rename_described.proofs.DefaultsFit.{renames_leave_no_fault}
 use Rattle.proto_rename_described.proofs.FilesTurn.{renames_are_mapped}
-use Rattle.proto_edit.specs.Compiled.{AreCompiled}
+use Rattle.proto_edit.specs.Common.{AreCompiled, IsAdmissible, IsMappedStep, rename}
 use Rattle.proto_edit.specs.MappedSteps.{AdmissibleRenamesStep, RenamesAreSteps}
-use Rattle.proto_edit.specs.Workspaces.{IsAdmissible, IsMappedStep, rename}
 use Rattle.proto_edit.proofs.GivenAgain.{compiled_are_read}
 
 -- ---- the step

@@ -1,7 +1,6 @@
 -- Two fields of one full name are one.
 use Rattle.std.proofs.Common.{◌≡◌, ℕ, ◌∙◌, List, sym, ap}
-use Rattle.proto_files.specs.FilesRead.{ReadOf}
-use Rattle.proto_files.specs.GivenFiles.{FileOf}
+use Rattle.proto_files.proofs.Common.{ReadOf, FileOf}
 use Rattle.proto_meaning.specs.Grown.{At, at}
 use Rattle.proto_rename_laws.specs.Targets.{Target}
 use Rattle.proto_statement_changes.specs.DeletionChanges.{FieldAt}

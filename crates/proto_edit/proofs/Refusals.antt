@@ -1,7 +1,6 @@
 -- What refuses an edit, as each kind of edit is answered.
 use Rattle.std.proofs.Common.{ℕ, List}
-use Rattle.proto_files.specs.Faults.{HasNoFault}
-use Rattle.proto_files.specs.GivenFiles.{FileOf}
+use Rattle.proto_files.proofs.Common.{HasNoFault, FileOf}
 use Rattle.proto_imports.specs.Links.{LinkFaults}
 use Rattle.proto_entries.specs.Entries.{ChangeOf}
 use Rattle.proto_entries.specs.declared.refusal.Refusal.{Refusal}
@@ -9,8 +8,7 @@ use Rattle.proto_entries.specs.declared.refusal.Refusal.TheVariants as refusal
 use Rattle.proto_desc.specs.Whole.{of_link}
 use Rattle.proto_rename.specs.Renames.{IsLeastRenameCase, IsRenamed, IsRenameRefusal}
 use Rattle.proto_statement_edits.specs.Edits.{IsAdded, IsAdditionCase, IsAdditionRefusal, IsDeleted, IsDeletionCase, IsDeletionRefusal, IsDropCase, IsDropRefusal, IsDropped, IsLeastOf}
-use Rattle.proto_edit.specs.Compiled.{AreCompiled}
-use Rattle.proto_edit.specs.Workspaces.{rename, delete_field, add_import, drop_import, AreChanges, IsAdmissible, IsLeastCase, IsRefusal}
+use Rattle.proto_edit.specs.Common.{AreCompiled, rename, delete_field, add_import, drop_import, AreChanges, IsAdmissible, IsLeastCase, IsRefusal}
 
 -- ---- a rename, as it is answered
 

@@ -1,18 +1,11 @@
 -- A workspace with changes, opened again: what is put, or that nothing is.
-use Rattle.std.proofs.Common.{List, length, refl, sym, subst, inl, inr}
-use Rattle.std.specs.Prelude.{Some, None}
-use Rattle.std.proofs.lemmas.Bool.{cases_lt}
-use Rattle.proto_faults.specs.Texts.{text_limit}
+use Rattle.std.proofs.Common.{List, length, refl, sym, subst, inl, inr, Some, None}
+use Rattle.proto_faults.proofs.Common.{cases_lt, text_limit}
 use Rattle.proto_faults.specs.declared.fault.FaultKind.TheVariants as kind
-use Rattle.proto_files.specs.Faults.{FaultAt, IsLeastFault}
-use Rattle.proto_files.specs.GivenFiles.{FileOf}
+use Rattle.proto_files.proofs.Common.{FaultAt, IsLeastFault, FileOf}
 use Rattle.proto_desc.specs.Whole.{IsSortedOf, of_read, WorkspaceFaults}
-use Rattle.proto_edit.specs.Answers.{IsReopened}
-use Rattle.proto_edit.specs.Compiled.{AreCompiled, at}
-use Rattle.proto_entries.specs.Entries.{ChangeOf, AreRising}
-use Rattle.proto_entries.specs.Putting.{ArePut, AreShortFiles, IsPut}
-use Rattle.proto_entries.proofs.Puts.{puts_are_once}
-use Rattle.proto_entries.proofs.Walks.{put_by_paths, put_in_order, still_files}
+use Rattle.proto_edit.specs.Common.{IsReopened, AreCompiled, at}
+use Rattle.proto_entries.proofs.Common.{ChangeOf, AreRising, ArePut, AreShortFiles, IsPut, puts_are_once, put_by_paths, put_in_order, still_files}
 use Rattle.proto_edit.proofs.GivenAgain.{opens_again, sorted_again}
 
 -- no file of what compiles is too large

@@ -1,23 +1,15 @@
 -- Edits of a workspace, runs of edits, and the way back (for the crates above).
-use Rattle.std.proofs.Common.{◌≡◌, List, [], ◌∷◌, ◌++◌, refl, sym, subst, ◌∙◌, reverse}
-use Rattle.std.specs.Prelude.{Result, Ok, Err}
+use Rattle.std.proofs.Common.{◌≡◌, List, [], ◌∷◌, ◌++◌, refl, sym, subst, ◌∙◌, reverse, Result, Ok, Err}
 use Rattle.std.proofs.lemmas.List.{reverse-append}
 use Rattle.proto_files.specs.GivenFiles.{FileOf}
 use Rattle.proto_entries.specs.declared.refusal.Refusal.{Refusal}
-use Rattle.proto_entries.specs.Entries.{ChangeOf, IsEntry, inverted}
-use Rattle.proto_entries.specs.Putting.{IsPut}
-use Rattle.proto_entries.proofs.Puts.{entries_lead_back, puts_are_once}
-use Rattle.proto_rename_laws.specs.Changes.{changes_of_words}
-use Rattle.proto_rename_laws.specs.Targets.{renamed_words}
-use Rattle.proto_edit.specs.Compiled.{AreCompiled}
-use Rattle.proto_edit.specs.Laws.{EditsAreMade, RunsAreUndone, StepsCompile, UndoneOnce}
-use Rattle.proto_edit.specs.Workspaces.{Asked, rename, delete_field, add_import, drop_import, IsAdmissible, AreChanges, IsStep, IsMappedStep, Run, accepted, IsUndo, Undone}
+use Rattle.proto_entries.proofs.Common.{ChangeOf, IsEntry, inverted, IsPut, entries_lead_back, puts_are_once}
+use Rattle.proto_rename_laws.proofs.Common.{changes_of_words, renamed_words}
+use Rattle.proto_edit.specs.Common.{AreCompiled, EditsAreMade, RunsAreUndone, StepsCompile, UndoneOnce, Asked, rename, delete_field, add_import, drop_import, IsAdmissible, AreChanges, IsStep, IsMappedStep, Run, accepted, IsUndo, Undone, StatementLaws}
 use Rattle.proto_edit.proofs.GivenAgain.{compiled_are_read}
-use Rattle.proto_edit.specs.StatementLaws.{StatementLaws}
 use Rattle.proto_edit.proofs.MappedSteps.{target_of, words_are_put}
 use Rattle.proto_edit.proofs.StatementSteps.{addition_steps, deletion_steps, drop_steps, field_of, file_of, import_of}
-use Rattle.proto_statement_changes.specs.DeletionChanges.{changes_of_deletion}
-use Rattle.proto_statement_changes.specs.ImportChanges.{changes_of_addition, changes_of_drop}
+use Rattle.proto_statement_changes.proofs.Common.{changes_of_deletion, changes_of_addition, changes_of_drop}
 
 -- ---- one edit
 

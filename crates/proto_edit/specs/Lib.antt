@@ -1,4 +1,5 @@
 pub mod Answers
+pub mod Common
 pub mod Compiled
 pub mod Laws
 pub mod MappedSteps

@@ -1,14 +1,10 @@
 -- Steps that lead from files to files, one more.
-use Rattle.std.proofs.Common.{◌≡◌, ℕ, ◌+◌, ◌<◌, List, [], ◌∷◌, ◌++◌, length, map, take, get_or, refl, sym, ap, subst, ◌∙◌, append_assoc}
-use Rattle.std.specs.Borrow.{Bor}
-use Rattle.std.specs.Prelude.{Result, Ok, Err}
-use Rattle.std.proofs.lemmas.List.{map_more, map_push}
-use Rattle.proto_faults.specs.Texts.{Text}
+use Rattle.std.proofs.Common.{◌≡◌, ℕ, ◌+◌, ◌<◌, List, [], ◌∷◌, ◌++◌, length, map, take, get_or, refl, sym, ap, subst, ◌∙◌, append_assoc, Bor, Result, Ok, Err}
+use Rattle.proto_faults.proofs.Common.{map_more, map_push, Text}
 use Rattle.proto_files.specs.GivenFiles.{FileOf}
 use Rattle.proto_entries.specs.declared.refusal.Refusal.{Refusal}
 use Rattle.proto_entries.specs.Entries.{ChangeOf}
-use Rattle.proto_edit.specs.Workspaces.{Asked, Run, accepted}
-use Rattle.proto_edit.proofs.Steps.{run_more}
+use Rattle.proto_edit.proofs.Common.{Asked, Run, accepted, run_more}
 use Rattle.proto_edit_rows.specs.RowsHold.{AnsweredSo, AnswersHold, AreLed, IsLed, StepOf, step_of}
 use Rattle.proto_edit_rows.specs.Told.{told_of}
 

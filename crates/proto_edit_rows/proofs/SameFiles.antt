@@ -1,9 +1,6 @@
 -- Files that are told to be the same are.
-use Rattle.std.proofs.Common.{◌≡◌, ◌∙◌, refl, ap, subst, Bool, true, ◌&&◌, List}
-use Rattle.std.specs.Cmp.{first_so, second_so}
-use Rattle.std.specs.Cmp.Lexicographic.{pointwise, pointwise_decides}
-use Rattle.std.specs.Str.{bytes_eq}
-use Rattle.std.proofs.lemmas.Slice.Eq.{bytes_eq-Decides}
+use Rattle.std.proofs.Common.{◌≡◌, ◌∙◌, refl, ap, subst, Bool, true, ◌&&◌, List, bytes_eq}
+use Rattle.proto_faults.proofs.Common.{first_so, second_so, pointwise, pointwise_decides, bytes_eq-Decides}
 use Rattle.proto_edit_rows.specs.Rows.{is_file}
 use Rattle.proto_files.specs.GivenFiles.{FileOf}
 

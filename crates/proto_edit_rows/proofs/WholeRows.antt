@@ -1,12 +1,9 @@
 -- A row holds by what was seen of the files that it begins with, of its steps and of its undos.
-use Rattle.std.proofs.Common.{◌≡◌, ◌≢◌, ℕ, ◌+◌, ◌<◌, List, [], ◌∷◌, ◌++◌, length, map, take, get_or, sym, ap, subst, ◌∙◌}
-use Rattle.std.specs.Borrow.{Bor}
-use Rattle.std.proofs.lemmas.List.{map_more}
-use Rattle.proto_faults.specs.Texts.{Path, Text}
+use Rattle.std.proofs.Common.{◌≡◌, ◌≢◌, ℕ, ◌+◌, ◌<◌, List, [], ◌∷◌, ◌++◌, length, map, take, get_or, sym, ap, subst, ◌∙◌, Bor}
+use Rattle.proto_faults.proofs.Common.{map_more, Path, Text}
 use Rattle.proto_files.specs.GivenFiles.{FileOf}
 use Rattle.proto_entries.specs.Entries.{ChangeOf}
-use Rattle.proto_edit.specs.Compiled.{AreCompiled}
-use Rattle.proto_edit.specs.Workspaces.{accepted}
+use Rattle.proto_edit.proofs.Common.{AreCompiled, accepted}
 use Rattle.proto_edit_rows.specs.RowsHold.{AnswersHold, AreLed, RowHolds, RowOf, ShowsPart, UndoOf, UndoneSo, UndosHold, UndosLead, undo_of}
 
 -- an undo as its row writes it

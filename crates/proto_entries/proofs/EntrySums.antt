@@ -1,13 +1,8 @@
 -- Sums over splices that are in order.
-use Rattle.std.proofs.Common.{◌≡◌, ℕ, ◌+◌, ◌-◌, ◌<◌, ◌≤◌, List, [], ◌∷◌, ◌++◌, length, get_or, take, refl, sym, ap, ◌∙◌, arith}
-use Rattle.std.specs.Prelude.{sum_by}
-use Rattle.std.specs.String.{string_bytes}
-use Rattle.std.proofs.lemmas.List.{take_more}
-use Rattle.std.proofs.lemmas.List.Sums.{sum_by-cons, sum_by_push, sum_by-take-le}
-use Rattle.proto_faults.specs.Texts.{text_limit}
+use Rattle.std.proofs.Common.{◌≡◌, ℕ, ◌+◌, ◌-◌, ◌<◌, ◌≤◌, List, [], ◌∷◌, ◌++◌, length, get_or, take, refl, sym, ap, ◌∙◌, arith, sum_by, string_bytes}
+use Rattle.proto_faults.proofs.Common.{take_more, sum_by-cons, sum_by_push, sum_by-take-le, text_limit}
 use Rattle.proto_text.specs.declared.splice.Splice.{Splice}
-use Rattle.proto_text.specs.Edits.{Edit, AreShort}
-use Rattle.proto_text.specs.Splicing.{edit_of, edits}
+use Rattle.proto_text.proofs.Common.{Edit, AreShort, edit_of, edits}
 
 abbrev pub old_of : Splice → ℕ
 old_of s = length (string_bytes s.old)

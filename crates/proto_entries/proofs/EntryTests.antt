@@ -1,13 +1,8 @@
 -- The tests of a change say what its definition says.
-use Rattle.std.proofs.Common.{◌≡◌, ℕ, ◌+◌, ◌<◌, ◌≤◌, Bool, true, false, not, eqb, List, length, map, refl, sym, ap, subst, ◌∙◌, eq-eqb}
-use Rattle.std.specs.Prelude.{IsTrue, ◌↔◌, All, sum_by}
-use Rattle.std.specs.String.{string_bytes}
-use Rattle.std.proofs.lemmas.Bool.{eqb-true}
-use Rattle.std.proofs.lemmas.List.{length-map, get_or-map}
-use Rattle.std.proofs.lemmas.List.Elements.{All-map}
+use Rattle.std.proofs.Common.{◌≡◌, ℕ, ◌+◌, ◌<◌, ◌≤◌, Bool, true, false, not, eqb, List, length, map, refl, sym, ap, subst, ◌∙◌, eq-eqb, IsTrue, ◌↔◌, All, sum_by, string_bytes, eqb-true}
+use Rattle.proto_faults.proofs.Common.{length-map, get_or-map, All-map}
 use Rattle.proto_text.specs.declared.splice.Splice.{Splice}
-use Rattle.proto_text.specs.Edits.{Edit}
-use Rattle.proto_text.specs.Splicing.{edit_of, edits}
+use Rattle.proto_text.proofs.Common.{Edit, edit_of, edits}
 use Rattle.proto_entries.specs.declared.entry.Change.{Change}
 use Rattle.proto_entries.specs.Entries.{change_of, IsToldApart, HasLengths, IsChange, AreRising, IsEntry}
 use Rattle.proto_entries.proofs.EntrySums.{old_of, new_of, sum_edits}

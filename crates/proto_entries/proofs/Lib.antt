@@ -3,3 +3,4 @@ pub mod ShortPuts
 pub mod Walks
 mod EntrySums
 mod EntryTests
+pub mod Common

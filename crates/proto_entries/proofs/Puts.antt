@@ -1,18 +1,9 @@
 -- Changes of the files of a workspace: they put one list of files, and the inverted ones lead back. (Public for the crates above.)
-use Rattle.std.proofs.Common.{◌≡◌, ◌≢◌, ℕ, ◌+◌, true, false, List, [], ◌∷◌, ◌⊎◌, inl, inr, length, refl, sym, ap, subst, ◌∙◌, arith}
-use Rattle.std.specs.Prelude.{sum_by}
-use Rattle.std.specs.List.{Contains}
-use Rattle.std.specs.Str.{bytes_eq}
-use Rattle.std.proofs.lemmas.Bool.{cases_Bool}
-use Rattle.std.proofs.lemmas.List.Sums.{sum_by-cons}
-use Rattle.proto_text.specs.Edits.{Edit, Puts, old_len, new_len}
-use Rattle.proto_text.proofs.EditLaws.{inverse_leads_back}
-use Rattle.proto_text.proofs.Once.{puts_once, puts_length}
+use Rattle.std.proofs.Common.{◌≡◌, ◌≢◌, ℕ, ◌+◌, true, false, List, [], ◌∷◌, ◌⊎◌, inl, inr, length, refl, sym, ap, subst, ◌∙◌, arith, sum_by, Contains, bytes_eq}
+use Rattle.proto_faults.proofs.Common.{cases_Bool, sum_by-cons, contains_head, contains_later, contains_cases, contains_map, from_map, word_from_same, same_from_word}
+use Rattle.proto_text.proofs.Common.{Edit, Puts, old_len, new_len, inverse_leads_back, puts_once, puts_length}
 use Rattle.proto_files.specs.GivenFiles.{FileOf}
-use Rattle.proto_faults.proofs.Lists.{contains_head, contains_later, contains_cases, contains_map, from_map, word_from_same, same_from_word}
-use Rattle.proto_entries.specs.Entries.{ChangeOf, turned_round, inverted, IsChange}
-use Rattle.proto_entries.specs.Putting.{PutsFile, EachPuts, IsPut}
-use Rattle.proto_entries.specs.Laws.{PutsOnce, EntriesLeadBack}
+use Rattle.proto_entries.specs.Common.{ChangeOf, turned_round, inverted, IsChange, PutsFile, EachPuts, IsPut, PutsOnce, EntriesLeadBack}
 
 pub same_file : (f g : FileOf) → f.path ≡ g.path → f.bytes ≡ g.bytes → f ≡ g
 same_file f g p b =

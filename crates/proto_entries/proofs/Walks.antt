@@ -1,21 +1,9 @@
 -- Files and changes gone through together: what is put so is what is put by the paths. (Public for the crates above.)
-use Rattle.std.proofs.Common.{◌≡◌, ◌≢◌, ℕ, zero, suc, ◌+◌, ◌<◌, ◌≤◌, List, [], ◌∷◌, ◌++◌, ◌⊎◌, inl, inr, length, get_or, drop, refl, sym, ap, subst, ◌∙◌, append_assoc, arith}
-use Rattle.std.specs.Prelude.{Bool, true, ◌==◌, AllPairs, String}
-use Rattle.std.specs.Global.{Vec, Global}
-use Rattle.std.specs.String.{string_bytes}
-use Rattle.std.specs.List.{Contains}
-use Rattle.std.proofs.lemmas.Bool.Decides.{nat_tests}
-use Rattle.std.proofs.lemmas.List.{drop_more, map_push}
-use Rattle.proto_faults.specs.Texts.{text_limit}
-use Rattle.proto_text.specs.Edits.{Puts}
-use Rattle.proto_text.proofs.Once.{puts_once}
-use Rattle.proto_files.specs.GivenFiles.{FileOf, file_at, file_of, files_of, AreWorkspaceFiles}
-use Rattle.proto_files.specs.WorkspacePaths.{IsBefore, IsWorkspacePath}
-use Rattle.proto_files.proofs.PathOrder.{never_before_itself, before_trans, sides}
-use Rattle.proto_faults.proofs.Lists.{contains_head, contains_later, contains_cases}
-use Rattle.proto_entries.specs.Entries.{ChangeOf, AreRising, inverted}
-use Rattle.proto_entries.specs.Putting.{HasChange, IsNext, ArePut, PutsFile, EachPuts, IsPut, AreShortFiles}
-use Rattle.proto_entries.specs.Laws.{WalksPut, PutsAreWalked, PutsKeepPaths}
+use Rattle.std.proofs.Common.{◌≡◌, ◌≢◌, ℕ, zero, suc, ◌+◌, ◌<◌, ◌≤◌, List, [], ◌∷◌, ◌++◌, ◌⊎◌, inl, inr, length, get_or, drop, refl, sym, ap, subst, ◌∙◌, append_assoc, arith, Bool, true, ◌==◌, AllPairs, String, Global, string_bytes, Contains}
+use Rattle.proto_faults.proofs.Common.{Vec, nat_tests, drop_more, map_push, text_limit, contains_head, contains_later, contains_cases}
+use Rattle.proto_text.proofs.Common.{Puts, puts_once}
+use Rattle.proto_files.proofs.Common.{FileOf, file_at, file_of, files_of, AreWorkspaceFiles, IsBefore, IsWorkspacePath, never_before_itself, before_trans, sides}
+use Rattle.proto_entries.specs.Common.{ChangeOf, AreRising, inverted, HasChange, IsNext, ArePut, PutsFile, EachPuts, IsPut, AreShortFiles, WalksPut, PutsAreWalked, PutsKeepPaths}
 use Rattle.proto_entries.proofs.Puts.{same_file, contains_none}
 
 -- ---- the order of files and changes

@@ -2,3 +2,4 @@ pub mod Entries
 pub mod Putting
 pub mod RefusalTable
 pub mod Laws
+pub mod Common

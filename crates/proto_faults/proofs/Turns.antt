@@ -1,7 +1,7 @@
 -- General lemmas on loops over a list, for every crate above: one turn more, and the end.
-use Rattle.std.proofs.Common.{◌≡◌, ℕ, ◌+◌, ◌<◌, ◌≤◌, Bool, true, false, ◌&&◌, ◌||◌, List, [], ◌∷◌, ◌++◌, length, get_or, take, drop, map, flat_map, refl, sym, ap, ◌∙◌, append_assoc}
+use Rattle.std.proofs.Common.{◌≡◌, ℕ, ◌+◌, ◌<◌, ◌≤◌, Bool, true, false, ◌&&◌, ◌||◌, List, [], ◌∷◌, ◌++◌, length, get_or, take, drop, map, flat_map, refl, sym, ap, ◌∙◌, append_assoc, append-nil, take_all}
 use Rattle.std.specs.List.{list_any}
-use Rattle.std.proofs.lemmas.List.{append-nil, drop_all, drop_more, flat_map_more, map_more, map_push, take_all, take_more}
+use Rattle.std.proofs.lemmas.List.{drop_all, drop_more, flat_map_more, map_more, map_push, take_more}
 
 -- ---- what is found so far is that of the elements before
 

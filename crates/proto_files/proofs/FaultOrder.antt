@@ -1,12 +1,7 @@
 -- The order of faults, and least faults of sets joined (for the crates above).
-use Rattle.std.proofs.Common.{◌≡◌, ℕ, ◌<◌, refl, sym, inl, inr, ⊎_elim, arith, ◌⊎◌}
-use Rattle.std.specs.declared.cmp.Ordering.{Ordering}
-use Rattle.std.specs.declared.cmp.Ordering.TheVariants.{Less, Equal, Greater}
-use Rattle.std.specs.Ordering.{nat_cmp, ordering_then}
-use Rattle.std.proofs.lemmas.Cmp.{ranked}
-use Rattle.proto_faults.specs.FaultTable.{number_of, phase_of}
-use Rattle.proto_files.specs.WorkspacePaths.{path_cmp, IsBefore}
-use Rattle.proto_files.specs.Faults.{FaultAt, ComesBefore, IsLeastFault, HasNoFault}
+use Rattle.std.proofs.Common.{◌≡◌, ℕ, ◌<◌, refl, sym, inl, inr, ⊎_elim, arith, ◌⊎◌, nat_cmp}
+use Rattle.proto_faults.proofs.Common.{Ordering, Less, Equal, Greater, ordering_then, ranked, number_of, phase_of}
+use Rattle.proto_files.specs.Common.{path_cmp, IsBefore, FaultAt, ComesBefore, IsLeastFault, HasNoFault}
 use Rattle.proto_files.proofs.PathOrder.{same_from_equal}
 
 then_less : (a b : Ordering) → ordering_then a b ≡ Less → (a ≡ Less) ⊎ ((a ≡ Equal) × (b ≡ Less))

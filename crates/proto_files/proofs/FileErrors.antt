@@ -1,23 +1,17 @@
 -- What the errors of the lexer and of the parser say of a file (for the crates above).
-use Rattle.std.proofs.Common.{◌≡◌, ℕ, List, refl, sym, ap, subst, inl, inr, ⊎_elim, arith, ◌⊎◌}
-use Rattle.std.specs.Prelude.{String}
-use Rattle.std.specs.Global.{Global}
-use Rattle.std.specs.String.{string_bytes}
+use Rattle.std.proofs.Common.{◌≡◌, ℕ, List, refl, sym, ap, subst, inl, inr, ⊎_elim, arith, ◌⊎◌, String, Global, string_bytes}
 use Rattle.proto_text.specs.declared.fault.LexFault.{LexFault}
 use Rattle.proto_text.specs.declared.fault.LexFault.TheVariants as lex
 use Rattle.proto_text.specs.declared.fault.TextFault.{TextFault}
 use Rattle.proto_text.specs.declared.fault.TextFault.TheVariants as text
 use Rattle.proto_text.specs.declared.lexer.Token.{Token}
-use Rattle.proto_text.specs.Tokens.{AreTokens, IsFaultAt, IsLexError}
-use Rattle.proto_text.proofs.Once.{one_token_list, no_fault_with_tokens}
+use Rattle.proto_text.proofs.Common.{AreTokens, IsFaultAt, IsLexError, one_token_list, no_fault_with_tokens}
 use Rattle.proto_tree.specs.declared.parsing.ParseFault.{ParseFault}
 use Rattle.proto_tree.specs.declared.parsing.ParseFault.TheVariants as grammar
 use Rattle.proto_tree.specs.Reads.{IsFault, is_fault_or_memory, IsSyntaxAt, IsTooDeepAt}
 use Rattle.proto_faults.specs.declared.fault.FaultKind.{FaultKind}
 use Rattle.proto_faults.specs.declared.fault.FaultKind.TheVariants as kind
-use Rattle.proto_files.specs.GivenFiles.{FileOf}
-use Rattle.proto_files.specs.ReadFaults.{IsText, IsTextFault, IsGrammarFault}
-use Rattle.proto_files.specs.Reading.{lex_kind, text_error, grammar_error, HasNone, IsFileError}
+use Rattle.proto_files.specs.Common.{FileOf, IsText, IsTextFault, IsGrammarFault, lex_kind, text_error, grammar_error, HasNone, IsFileError}
 
 -- the lexer's fault, if the text has one at an offset
 abbrev pub IsOnlyLexFault : List ℕ → TextFault → Type 0

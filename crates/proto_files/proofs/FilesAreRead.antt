@@ -1,10 +1,8 @@
 -- The files of a workspace are read, one after the other (for the crates above).
 use Rattle.std.proofs.Common.{◌≡◌, ℕ, zero, suc, ◌<◌, List, [], ◌∷◌, ◌++◌, length, sym, subst, arith}
 use Rattle.proto_text.specs.Tokens.{AreTokens}
-use Rattle.proto_tree.specs.Tree.{End}
-use Rattle.proto_tree.specs.Reads.{Reads}
-use Rattle.proto_files.specs.FilesRead.{Each, ReadOf, AreRead, read_at}
-use Rattle.proto_files.specs.GivenFiles.{FileOf, file_at}
+use Rattle.proto_tree.proofs.Common.{End, Reads}
+use Rattle.proto_files.specs.Common.{Each, ReadOf, AreRead, read_at, FileOf, file_at}
 
 -- what is read of the file with this number
 pub record IsReadAt (files : List FileOf) (k : ℕ) (r : ReadOf) : Type 0 where

@@ -1,24 +1,14 @@
 -- The first file with a fault has the least fault of its phase, and of both phases.
-use Rattle.std.proofs.Common.{◌≡◌, ℕ, zero, suc, ◌<◌, List, [], ◌∷◌, length, get_or, refl, sym, ap, ◌∙◌, subst, inl, inr, ⊎_elim, arith, ◌⊎◌}
-use Rattle.std.specs.List.{All}
+use Rattle.std.proofs.Common.{◌≡◌, ℕ, zero, suc, ◌<◌, List, [], ◌∷◌, length, get_or, refl, sym, ap, ◌∙◌, subst, inl, inr, ⊎_elim, arith, ◌⊎◌, All}
 use Rattle.proto_text.specs.declared.lexer.Token.{Token}
-use Rattle.proto_text.specs.Tokens.{AreTokens}
-use Rattle.proto_text.proofs.Once.{one_token_list}
-use Rattle.proto_tree.specs.File.{tree_of_file}
-use Rattle.proto_tree.specs.Reads.{Reads}
+use Rattle.proto_text.proofs.Common.{AreTokens, one_token_list}
+use Rattle.proto_tree.proofs.Common.{tree_of_file, Reads}
 use Rattle.proto_faults.specs.declared.fault.FaultKind.{FaultKind}
 use Rattle.proto_faults.specs.declared.fault.FaultKind.TheVariants as kind
 use Rattle.proto_faults.specs.declared.fault.SchemaFault.{SchemaFault}
 use Rattle.proto_faults.specs.declared.fault.SchemaFault.TheVariants.{Schema, NoMemory}
-use Rattle.proto_files.specs.declared.stages.LexedFile.{LexedFile}
-use Rattle.proto_files.specs.declared.stages.ReadFile.{ReadFile}
+use Rattle.proto_files.specs.Common.{LexedFile, ReadFile, IsBefore, FaultAt, fault_at, ComesBefore, IsLeastFault, HasNoFault, IsFilesError, FileOf, file_at, AreWorkspaceFiles, IsTextFault, IsGrammarFault, FaultsOf, TextFaults, GrammarFaults, ReadFaults, IsFirstFault, IsFirstError, IsLexedFile, IsReadFile, lexed_files, read_file, read_files}
 use Rattle.proto_faults.specs.FaultTable.{number_of, phase_of}
-use Rattle.proto_files.specs.WorkspacePaths.{IsBefore}
-use Rattle.proto_files.specs.Faults.{FaultAt, fault_at, ComesBefore, IsLeastFault, HasNoFault, IsFilesError}
-use Rattle.proto_files.specs.GivenFiles.{FileOf, file_at, AreWorkspaceFiles}
-use Rattle.proto_files.specs.ReadFaults.{IsTextFault, IsGrammarFault, FaultsOf, TextFaults, GrammarFaults, ReadFaults}
-use Rattle.proto_files.specs.Reading.{IsFirstFault, IsFirstError, IsLexedFile, IsReadFile}
-use Rattle.proto_files.specs.Stages.{lexed_files, read_file, read_files}
 use Rattle.proto_files.proofs.Members.{member_from_Contains}
 use Rattle.proto_files.proofs.PathOrder.{never_before_itself, before_trans}
 use Rattle.proto_files.proofs.FaultOrder.{comes_before_cases, least_of_first, least_of_second, none_of_both}

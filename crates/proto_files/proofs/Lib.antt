@@ -17,3 +17,4 @@ pub mod OwnTokens
 pub mod FilesAreRead
 pub mod OneReading
 pub mod ReadOnce
+pub mod Common

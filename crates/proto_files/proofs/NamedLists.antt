@@ -1,18 +1,7 @@
 -- Named files as files of a workspace.
-use Rattle.std.proofs.Common.{◌≡◌, ℕ, zero, suc, ◌<◌, ◌≤◌, Bool, List, [], ◌∷◌, length, map, get_or, refl, sym, ap, ◌∙◌, subst, inl, inr, arith}
-use Rattle.std.specs.Prelude.{AllPairs, String}
-use Rattle.std.specs.Global.{Vec, Global}
-use Rattle.std.specs.String.{string_bytes}
-use Rattle.std.specs.Ordering.{is_lt}
-use Rattle.std.specs.Cmp.{IsStrictWeakOrder}
-use Rattle.std.specs.List.Sorted.{IsSortedBy}
-use Rattle.std.proofs.lemmas.Bool.{false≢true}
-use Rattle.std.proofs.lemmas.Cmp.{nat_list_cmp_total}
-use Rattle.std.proofs.lemmas.List.Sorted.{sorted_far, ranks_by}
-use Rattle.proto_files.specs.declared.stages.NamedFile.{NamedFile}
-use Rattle.proto_files.specs.WorkspacePaths.{path_cmp, IsBefore, IsInPathOrder, IsWorkspacePath}
-use Rattle.proto_files.specs.GivenFiles.{FileOf, paths_of, file_of, files_of, AreWorkspaceFiles}
-use Rattle.proto_files.specs.Stages.{named_files, named_paths}
+use Rattle.std.proofs.Common.{◌≡◌, ℕ, zero, suc, ◌<◌, ◌≤◌, Bool, List, [], ◌∷◌, length, map, get_or, refl, sym, ap, ◌∙◌, subst, inl, inr, arith, AllPairs, String, Global, string_bytes, is_lt, IsSortedBy}
+use Rattle.proto_faults.proofs.Common.{Vec, IsStrictWeakOrder, false≢true, nat_list_cmp_total, sorted_far, ranks_by}
+use Rattle.proto_files.specs.Common.{NamedFile, path_cmp, IsBefore, IsInPathOrder, IsWorkspacePath, FileOf, paths_of, file_of, files_of, AreWorkspaceFiles, named_files, named_paths}
 use Rattle.proto_files.proofs.Members.{Member, All-from_members, member_at}
 use Rattle.proto_files.proofs.PathOrder.{Rises}
 use Rattle.proto_files.proofs.PathWalk.{Passed}

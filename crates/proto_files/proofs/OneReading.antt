@@ -1,13 +1,9 @@
 -- A file is read in one way (for the crates above).
 use Rattle.std.proofs.Common.{◌≡◌, ℕ, ◌<◌, List, length, map, ◌∙◌, ap}
 use Rattle.proto_text.specs.declared.lexer.Token.{Token}
-use Rattle.proto_text.specs.Tokens.{Lexeme, lexeme_at, AreTokens}
-use Rattle.proto_text.proofs.Once.{one_token_list}
-use Rattle.proto_tree.specs.Tree.{Tree}
-use Rattle.proto_tree.specs.Reads.{Reads, classed}
-use Rattle.proto_tree.proofs.Faults.{one_tree}
-use Rattle.proto_files.specs.GivenFiles.{FileOf, file_at}
-use Rattle.proto_files.specs.FilesRead.{ReadOf, AreRead, read_at}
+use Rattle.proto_text.proofs.Common.{Lexeme, lexeme_at, AreTokens, one_token_list}
+use Rattle.proto_tree.proofs.Common.{Tree, Reads, classed, one_tree}
+use Rattle.proto_files.specs.Common.{FileOf, file_at, ReadOf, AreRead, read_at}
 
 -- what answers for a file's tree
 abbrev pub IsTreeOf : List ℕ → Tree → Type 0

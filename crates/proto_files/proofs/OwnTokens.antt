@@ -1,25 +1,12 @@
 -- The tokens of files that were read: those of their texts, by their indices.
-use Rattle.std.proofs.Common.{◌≡◌, ℕ, zero, suc, ◌<◌, ◌≤◌, List, [], ◌∷◌, length, get_or, refl, sym, ap, ◌∙◌, subst, arith}
-use Rattle.std.specs.List.{All}
-use Rattle.std.specs.Prelude.{Some, slice_get, map}
+use Rattle.std.proofs.Common.{◌≡◌, ℕ, zero, suc, ◌<◌, ◌≤◌, List, [], ◌∷◌, length, get_or, refl, sym, ap, ◌∙◌, subst, arith, All, Some, slice_get, map}
 use Rattle.std.proofs.lemmas.Option.{get_or_from_slice_get, slice_get_within}
 use Rattle.proto_text.specs.declared.kind.TokenKind.TheVariants.{Text}
 use Rattle.proto_text.specs.declared.lexer.Token.{Token}
-use Rattle.proto_text.specs.SourceFacts.{IsSpan, text_at}
-use Rattle.proto_text.specs.Strings.{IsString}
-use Rattle.proto_text.specs.Texts.{offset_at, words}
-use Rattle.proto_text.specs.Tokens.{AreTokens}
-use Rattle.proto_text.proofs.Once.{one_token_list}
-use Rattle.proto_text.proofs.OneEdit.{word_at_token}
-use Rattle.proto_text.proofs.Order.{text_token_is_string}
-use Rattle.proto_tree.specs.File.{tree_of_file}
-use Rattle.proto_tree.specs.Reads.{Reads}
-use Rattle.proto_files.specs.declared.stages.ReadFile.{ReadFile}
+use Rattle.proto_text.proofs.Common.{IsSpan, text_at, IsString, offset_at, words, AreTokens, one_token_list, word_at_token, text_token_is_string}
+use Rattle.proto_tree.proofs.Common.{tree_of_file, Reads}
+use Rattle.proto_files.specs.Common.{ReadFile, ReadOf, AreRead, read_at, FileOf, file_at, IsReadFile, read_files}
 use Rattle.proto_files.specs.FileTokens.{AreTokensOf, HasString}
-use Rattle.proto_files.specs.FilesRead.{ReadOf, AreRead, read_at}
-use Rattle.proto_files.specs.GivenFiles.{FileOf, file_at}
-use Rattle.proto_files.specs.Reading.{IsReadFile}
-use Rattle.proto_files.specs.Stages.{read_files}
 use Rattle.proto_files.proofs.LeastOfFiles.{file_at-read, length-read_files}
 
 pub offset_past : (ts : List Token) (i : ℕ) → length ts ≤ i → offset_at ts i ≡ 0

@@ -1,13 +1,9 @@
 -- Files are read in one way (for the crates above).
 use Rattle.std.proofs.Common.{◌≡◌, ℕ, suc, ◌<◌, List, [], ◌∷◌, length, slice_index_or, refl, sym, ap, subst, ◌∙◌, arith}
 use Rattle.proto_text.specs.declared.lexer.Token.{Token}
-use Rattle.proto_text.specs.Tokens.{AreTokens}
-use Rattle.proto_text.proofs.Once.{one_token_list}
-use Rattle.proto_tree.specs.Tree.{Tree, Spells}
-use Rattle.proto_tree.specs.Reads.{Reads, classed}
-use Rattle.proto_tree.proofs.Faults.{one_tree}
-use Rattle.proto_files.specs.GivenFiles.{FileOf, file_at}
-use Rattle.proto_files.specs.FilesRead.{ReadOf, read_at, AreRead}
+use Rattle.proto_text.proofs.Common.{AreTokens, one_token_list}
+use Rattle.proto_tree.proofs.Common.{Tree, Spells, Reads, classed, one_tree}
+use Rattle.proto_files.specs.Common.{FileOf, file_at, ReadOf, read_at, AreRead}
 
 pub one_reading : (text : List ℕ) (a b : ReadOf) → Reads text a.tokens a.tree → Reads text b.tokens b.tree → a ≡ b
 one_reading text a b x y =

@@ -1,6 +1,5 @@
 -- Worked rows of the definitions.
-use Rattle.std.proofs.Common.{◌≡◌, true, false, refl}
-use Rattle.std.specs.Prelude.{codes}
+use Rattle.std.proofs.Common.{◌≡◌, true, false, refl, codes}
 use Rattle.proto_files.specs.WorkspacePaths.{is_workspace_path, IsBefore}
 
 a_path : is_workspace_path (codes "a/b-c_D.9/e.proto") ≡ true

@@ -1,9 +1,7 @@
 -- The word of a token, by its index.
 use Rattle.std.proofs.Common.{◌≡◌, ℕ, zero, suc, ◌<◌, ◌≤◌, List, [], ◌∷◌, length, get_or, map, refl, arith}
 use Rattle.proto_text.specs.declared.lexer.Token.{Token}
-use Rattle.proto_text.specs.SourceFacts.{text_at}
-use Rattle.proto_text.specs.Texts.{word_at}
-use Rattle.proto_text.specs.Tokens.{lexeme_at}
+use Rattle.proto_text.proofs.Common.{text_at, word_at, lexeme_at}
 
 pub word_there : (text : List ℕ) (ts : List Token) (i : ℕ) (d : Token) → i < length ts → word_at (map (lexeme_at text) ts) i ≡ text_at text (get_or ts i d).span
 word_there text [] i d h = absurd (omega (arith, h))

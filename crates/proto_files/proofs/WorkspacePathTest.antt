@@ -1,11 +1,6 @@
 -- The test of a workspace path decides its definition.
-use Rattle.std.proofs.Common.{◌≡◌, ℕ, ◌-◌, ◌<◌, Bool, true, false, ◌&&◌, ◌==◌, List, [], ◌∷◌, length, take, refl, sym, ap, ◌∙◌, subst, arith, length-append, ◌↔◌, IsTrue}
-use Rattle.std.specs.Prelude.{codes, nat_le, nat_eq}
-use Rattle.std.specs.List.{All, AllPass, list_all, join_with_byte, slice_split, ends_with}
-use Rattle.std.proofs.lemmas.Bool.{false≢true, leb-true, le-leb}
-use Rattle.std.proofs.lemmas.Bool.Decides.{nat_tests, Decides-eqb}
-use Rattle.std.proofs.lemmas.Slice.Eq.{ends_is}
-use Rattle.std.proofs.lemmas.List.Elements.{All-nil, All-cons, All-head, All-tail}
+use Rattle.std.proofs.Common.{◌≡◌, ℕ, ◌-◌, ◌<◌, Bool, true, false, ◌&&◌, ◌==◌, List, [], ◌∷◌, length, take, refl, sym, ap, ◌∙◌, subst, arith, length-append, ◌↔◌, IsTrue, codes, nat_le, nat_eq, All, leb-true, le-leb}
+use Rattle.proto_faults.proofs.Common.{AllPass, list_all, join_with_byte, slice_split, ends_with, false≢true, nat_tests, Decides-eqb, ends_is, All-nil, All-cons, All-head, All-tail}
 use Rattle.std.proofs.lemmas.List.Splits.{slice_split_at, slice_split_none, join_with_byte-slice_split}
 use Rattle.proto_files.specs.WorkspacePaths.{is_path_byte, is_path_part, IsWorkspacePath, is_workspace_path}
 

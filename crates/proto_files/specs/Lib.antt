@@ -10,3 +10,4 @@ pub mod FileTokens
 pub mod FilesRead
 pub mod StringTokens
 pub mod Laws
+pub mod Common

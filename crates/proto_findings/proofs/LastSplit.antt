@@ -1,12 +1,7 @@
 -- Public lemmas: a text before and behind its last such character (for the crates above).
 use Rattle.std.proofs.Common.{◌≡◌, ℕ, zero, suc, ◌+◌, ◌-◌, ◌≤◌, ◌<◌, eqb, List, ◌∷◌, ◌++◌, length, get_or, take, drop, Some, None, MatchOption, Option, option_map, refl, sym, ap, ◌∙◌, ⊎_elim, arith, Bor, eq-eqb, ne_eqb, eqb-true, length-drop, get_or-drop, take-append-drop}
 use Rattle.std.specs.Str.Pattern.{RFindsChar}
-use Rattle.std.specs.Path.{rfind_below, rsplit_once}
-use Rattle.std.proofs.lemmas.Option.{none-some, same_Some}
-use Rattle.std.proofs.lemmas.List.{drop_more}
-use Rattle.std.proofs.lemmas.Str.Pattern.{NoCharPasses-char}
-use Rattle.std.proofs.lemmas.Bool.{cases_eq, cond_both, cond-true, cond-false}
-use Rattle.std.proofs.lemmas.Str.{len_utf8_ascii}
+use Rattle.proto_faults.proofs.Common.{rfind_below, rsplit_once, none-some, same_Some, drop_more, NoCharPasses-char, cases_eq, cond_both, cond-true, cond-false, len_utf8_ascii}
 
 below-None : (c : ℕ) (text : List ℕ) (n : ℕ) → ((i : ℕ) → i < n → get_or text i 0 ≡ c → ⊥) → rfind_below c text n ≡ None
 below-None c text zero h = refl

@@ -1,3 +1,4 @@
+pub mod Common
 pub mod LastSplit
 mod Listing
 mod Readings

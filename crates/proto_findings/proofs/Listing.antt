@@ -1,22 +1,10 @@
 -- Findings that are sorted, each kept once.
-use Rattle.std.proofs.Common.{◌≡◌, ℕ, zero, suc, ◌<◌, Bool, true, List, [], ◌∷◌, length, map, get_or, refl, sym, ap, ◌∙◌, arith}
-use Rattle.std.specs.Cmp.{IsEquivalence, IsTotalOrder}
-use Rattle.std.specs.Cmp.Lexicographic.{same_text, slice_cmp, texts_ties}
-use Rattle.std.specs.List.{AllPairs, Contains, dedup}
-use Rattle.std.specs.List.Sorted.{IsPermutation, IsSorted, IsStrictlySortedBy}
-use Rattle.std.specs.Ordering.{eq_by_cmp, is_eq, nat_cmp, ordering_then}
-use Rattle.std.specs.String.{string_bytes}
-use Rattle.std.specs.declared.cmp.Ordering.{Ordering}
-use Rattle.std.specs.declared.cmp.Ordering.TheVariants.{Less, Equal, Greater}
-use Rattle.std.proofs.lemmas.Cmp.{eq_by_cmp_equiv}
-use Rattle.std.proofs.lemmas.List.{length-map}
-use Rattle.std.proofs.lemmas.List.Kept.{Any-dedup, Contains-from_dedup, IsStrictlySortedBy-dedup}
-use Rattle.std.proofs.lemmas.List.Sorted.{Contains-permutation, IsPermutation-sym}
+use Rattle.std.proofs.Common.{◌≡◌, ℕ, zero, suc, ◌<◌, Bool, true, List, [], ◌∷◌, length, map, get_or, refl, sym, ap, ◌∙◌, arith, AllPairs, Contains, IsPermutation, IsSorted, is_eq, nat_cmp, string_bytes}
+use Rattle.proto_faults.proofs.Common.{IsEquivalence, IsTotalOrder, same_text, slice_cmp, texts_ties, dedup, IsStrictlySortedBy, eq_by_cmp, ordering_then, Ordering, Less, Equal, Greater, eq_by_cmp_equiv, length-map, Any-dedup, Contains-from_dedup, IsStrictlySortedBy-dedup, Contains-permutation, IsPermutation-sym}
 use Rattle.std.proofs.lemmas.Map.Keys.{Less-from_sorted}
 use Rattle.proto_findings.specs.declared.finding.Finding.{Finding}
-use Rattle.proto_findings.specs.Listings.{FindingOf, IsListingOf, finding_cmp}
+use Rattle.proto_findings.specs.Common.{FindingOf, IsListingOf, finding_cmp, finding_of}
 use Rattle.proto_rules.specs.Rules.{identifier}
-use Rattle.proto_findings.specs.Views.{finding_of}
 use Rattle.proto_findings.specs.contracts.finding.FindingOrd.TheImpl as derived
 use Rattle.proto_rules.proofs.RuleOrder.{derived_is, equal_numbers, same_identifier}
 

@@ -1,18 +1,13 @@
 -- What a reading of the code says is what is read of the file.
-use Rattle.std.proofs.Common.{◌≡◌, ℕ, ◌<◌, Bool, true, false, ◌==◌, List, [], ◌∷◌, length, map, get_or, Option, Some, None, Bor, option_map, refl, ap, ◌∙◌}
-use Rattle.std.specs.List.{find}
-use Rattle.std.specs.Option.{option_and_then, unwrap_or}
+use Rattle.std.proofs.Common.{◌≡◌, ℕ, ◌<◌, Bool, true, false, ◌==◌, List, [], ◌∷◌, length, map, get_or, Option, Some, None, Bor, option_map, refl, ap, ◌∙◌, find, option_and_then, unwrap_or}
 use Rattle.proto_faults.specs.Texts.{or_nothing}
 use Rattle.proto_text.specs.declared.lexer.Token.{Token}
 use Rattle.proto_text.specs.Tokens.{AreTokens, Lexeme, lexeme_at}
 use Rattle.proto_tree.specs.declared.tree.Separated.{Separated}
 use Rattle.proto_tree.specs.References.{first_of}
-use Rattle.proto_files.specs.GivenFiles.{FileOf, file_at}
-use Rattle.proto_files.specs.FilesRead.{ReadOf, AreRead, read_at}
+use Rattle.proto_files.proofs.Common.{FileOf, file_at, ReadOf, AreRead, read_at, tokens_at}
 use Rattle.proto_names.specs.declared.references.Meant.{Meant}
-use Rattle.proto_names.specs.LinkOfFiles.{IsLinkOf, meant_by_link}
-use Rattle.proto_names.specs.Linking.{LinkOf, row_at, text_at}
-use Rattle.proto_files.proofs.ReadOnce.{tokens_at}
+use Rattle.proto_names.proofs.Common.{IsLinkOf, meant_by_link, LinkOf, row_at, text_at}
 use Rattle.proto_findings.specs.Readings.{read_of_file, Reading}
 
 -- ---- what a reference means

@@ -1,3 +1,4 @@
+pub mod Common
 pub mod Listings
 pub mod Placed
 pub mod Readings

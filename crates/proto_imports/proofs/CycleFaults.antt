@@ -1,18 +1,8 @@
 -- The first import on a cycle, by walks back from each file.
-use Rattle.std.proofs.Common.{◌≡◌, ◌↔◌, ℕ, ◌+◌, ◌<◌, ◌≤◌, Bool, true, false, List, [], length, get_or, map, Option, Some, None, refl, sym, ◌∙◌, ap, subst, inl, inr, arith, string_bytes}
-use Rattle.std.specs.List.{Contains}
-use Rattle.std.specs.Option.{option_map_or}
-use Rattle.std.proofs.lemmas.Bool.{cases_lt, true≢false}
-use Rattle.std.proofs.lemmas.List.{get_or_default}
-use Rattle.proto_meaning.specs.Names.{Import}
-use Rattle.proto_meaning.specs.Cycles.{Leads, stop, onward}
-use Rattle.proto_imports.specs.Walks.{Walks, stays, goes, IsMarked}
-use Rattle.proto_meaning.specs.Faults.{Fault, fault, IsLeast, Asked, file_of, imports_of}
-use Rattle.proto_meaning.specs.Grown.{at}
-use Rattle.proto_imports.specs.Importing.{asked_by, all_asked, AreRising}
-use Rattle.proto_imports.specs.ImportSteps.{AreImporters, CycleFault, cycle, MarkedFault}
-use Rattle.proto_imports.specs.declared.import.WrittenImport.{WrittenImport}
-use Rattle.proto_faults.proofs.Lists.{from_map, contains_map}
+use Rattle.std.proofs.Common.{◌≡◌, ◌↔◌, ℕ, ◌+◌, ◌<◌, ◌≤◌, Bool, true, false, List, [], length, get_or, map, Option, Some, None, refl, sym, ◌∙◌, ap, subst, inl, inr, arith, string_bytes, Contains, true≢false}
+use Rattle.proto_faults.proofs.Common.{option_map_or, cases_lt, get_or_default, from_map, contains_map}
+use Rattle.proto_meaning.proofs.Common.{Import, Leads, stop, onward, Fault, fault, IsLeast, Asked, file_of, imports_of, at}
+use Rattle.proto_imports.specs.Common.{Walks, stays, goes, IsMarked, asked_by, all_asked, AreRising, AreImporters, CycleFault, cycle, MarkedFault, WrittenImport}
 use Rattle.proto_imports.proofs.Walks.{walk_on}
 use Rattle.proto_imports.proofs.PathFaults.{Stands, least_at}
 use Rattle.proto_imports.proofs.FilesAsked.{asked_in, asked_of, first_here, none_more}

@@ -1,24 +1,14 @@
 -- Faults of files stand at tokens that are there, and are of one phase each (for the crates above).
-use Rattle.std.proofs.Common.{◌≡◌, ℕ, suc, ◌+◌, ◌<◌, List, [], ◌∷◌, length, map, refl, sym, ap, subst, ◌∙◌, inl, inr, arith}
-use Rattle.std.specs.List.{Contains}
-use Rattle.std.proofs.lemmas.List.Elements.{Contains-append_cases}
+use Rattle.std.proofs.Common.{◌≡◌, ℕ, suc, ◌+◌, ◌<◌, List, [], ◌∷◌, length, map, refl, sym, ap, subst, ◌∙◌, inl, inr, arith, Contains}
+use Rattle.proto_faults.proofs.Common.{Contains-append_cases, number_of, phase_of, from_map}
 use Rattle.proto_faults.specs.declared.fault.FaultKind.{FaultKind}
 use Rattle.proto_faults.specs.declared.fault.FaultKind.TheVariants as kinds
-use Rattle.proto_faults.specs.FaultTable.{number_of, phase_of}
-use Rattle.proto_files.specs.GivenFiles.{FileOf, file_at, paths_of}
+use Rattle.proto_files.proofs.Common.{FileOf, file_at, paths_of, ReadOf, read_at, AreRead}
 use Rattle.proto_files.proofs.OneLeast.{kinds_by_number}
 use Rattle.proto_case.specs.Camel.{entry_name}
-use Rattle.proto_meaning.specs.Faults.{Fault, Asked, ImportFault, unknown, double, cycle, NameFault, earlier, of_package, ReferenceFault, unresolved, wrong_kind, of_entry, place_from, place_of}
-use Rattle.proto_listing.specs.FromTree.{Wanted, imports_in, items_in, file_names}
-use Rattle.proto_meaning.specs.Grown.{At, at, declared_of, file_declared, used_in, file_used, all_declared, all_used}
-use Rattle.proto_files.specs.FilesRead.{ReadOf, read_at, AreRead}
+use Rattle.proto_meaning.proofs.Common.{Fault, Asked, ImportFault, unknown, double, cycle, NameFault, earlier, of_package, ReferenceFault, unresolved, wrong_kind, of_entry, place_from, place_of, At, at, declared_of, file_declared, used_in, file_used, all_declared, all_used, Source, Token, EntryOf, Given, Declared, Used, name_of, shifted_source, shifted_declared, Placed, file_placed, follows_after, follows_second}
+use Rattle.proto_listing.proofs.Common.{Wanted, imports_in, items_in, file_names, whole, import_here, use_here, name_here}
 use Rattle.proto_imports.specs.Links.{text_of, asked_as, all_wanted, names_in, link_skeleton}
-use Rattle.proto_listing.specs.Listing.{whole}
-use Rattle.proto_meaning.specs.Skeleton.{Source, Token, EntryOf, Given, Declared, Used, name_of, shifted_source, shifted_declared}
-use Rattle.proto_meaning.specs.Tree.{Placed, file_placed}
-use Rattle.proto_faults.proofs.Lists.{from_map}
-use Rattle.proto_meaning.proofs.Following.{follows_after, follows_second}
-use Rattle.proto_listing.proofs.InTokens.{import_here, use_here, name_here}
 
 -- ---- phases
 

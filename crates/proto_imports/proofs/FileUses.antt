@@ -1,11 +1,8 @@
 -- The references of files, file after file (for the crates above).
-use Rattle.std.proofs.Common.{◌≡◌, ℕ, zero, suc, ◌+◌, ◌<◌, List, [], ◌∷◌, length, map, ◌∙◌, ap, subst, inl, inr, arith}
-use Rattle.std.specs.List.{Contains}
-use Rattle.std.proofs.lemmas.List.Elements.{Contains-append_left, Contains-append_right, Contains-append_cases}
-use Rattle.proto_faults.proofs.Lists.{contains_map, from_map}
+use Rattle.std.proofs.Common.{◌≡◌, ℕ, zero, suc, ◌+◌, ◌<◌, List, [], ◌∷◌, length, map, ◌∙◌, ap, subst, inl, inr, arith, Contains}
+use Rattle.proto_faults.proofs.Common.{Contains-append_left, Contains-append_right, Contains-append_cases, contains_map, from_map}
 use Rattle.proto_files.specs.FilesRead.{ReadOf, read_at}
-use Rattle.proto_meaning.specs.Grown.{At, all_used, file_used, used_in}
-use Rattle.proto_meaning.specs.Skeleton.{Used}
+use Rattle.proto_meaning.proofs.Common.{At, all_used, file_used, used_in, Used}
 use Rattle.proto_imports.specs.Links.{names_in}
 
 pub use_in : (n k : ℕ) (rs : List ReadOf) (u : Used ℕ) → k < length rs → Contains (names_in (read_at rs k)).used u → Contains (all_used n (map names_in rs)) (used_in (n + k) u)

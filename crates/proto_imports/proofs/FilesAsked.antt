@@ -1,16 +1,10 @@
 -- The imports of many files, file by file.
-use Rattle.std.proofs.Common.{◌≡◌, ◌⊎◌, ℕ, zero, suc, ◌+◌, ◌-◌, ◌<◌, List, [], ◌∷◌, ◌++◌, length, get_or, map, sym, ◌∙◌, ap, subst, inl, inr, arith, length-append}
-use Rattle.std.specs.List.{Contains}
-use Rattle.std.proofs.lemmas.Bool.{cases_lt, cases_eq}
-use Rattle.std.proofs.lemmas.List.{get_or-append-add, get_or_default}
+use Rattle.std.proofs.Common.{◌≡◌, ◌⊎◌, ℕ, zero, suc, ◌+◌, ◌-◌, ◌<◌, List, [], ◌∷◌, ◌++◌, length, get_or, map, sym, ◌∙◌, ap, subst, inl, inr, arith, length-append, Contains, get_or-append-add}
+use Rattle.proto_faults.proofs.Common.{cases_lt, cases_eq, get_or_default, Contains-append_left, Contains-append_right, Contains-append_cases, from_map}
 use Rattle.std.proofs.Math.ListN.{get_or-append}
 use Rattle.std.proofs.Math.Seq.{get_or-append_right}
-use Rattle.std.proofs.lemmas.List.Elements.{Contains-append_left, Contains-append_right, Contains-append_cases}
 use Rattle.proto_meaning.specs.Faults.{Fault, IsLeast, AfterEarlier, Asked}
-use Rattle.proto_imports.specs.Importing.{asked_by, all_asked}
-use Rattle.proto_imports.specs.ImportSteps.{PathFault, unknown, double}
-use Rattle.proto_imports.specs.declared.import.WrittenImport.{WrittenImport}
-use Rattle.proto_faults.proofs.Lists.{from_map}
+use Rattle.proto_imports.specs.Common.{asked_by, all_asked, PathFault, unknown, double, WrittenImport}
 
 -- the same file, and more of them
 abbrev SameFile : (Asked → Asked → Type 0) → Asked → Asked → Type 0

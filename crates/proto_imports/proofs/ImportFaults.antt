@@ -1,7 +1,6 @@
 -- The first fault of imports, of either kind.
 use Rattle.std.proofs.Common.{◌≡◌, ◌⊎◌, ℕ, Option, None, Some, List, refl, sym, subst, inl, inr, arith}
-use Rattle.std.proofs.lemmas.Bool.{cases_eq, cases_lt}
-use Rattle.std.proofs.lemmas.Option.{none-some, same_Some}
+use Rattle.proto_faults.proofs.Common.{cases_eq, cases_lt, none-some, same_Some}
 use Rattle.proto_meaning.specs.Faults as all
 use Rattle.proto_imports.specs.ImportSteps as one
 use Rattle.proto_meaning.specs.Faults.{Fault, IsBefore, Asked, ImportFault}

@@ -1,18 +1,8 @@
 -- The imports of files as lists of files, file by file (for the crates above).
-use Rattle.std.proofs.Common.{◌≡◌, ◌↔◌, ℕ, zero, suc, ◌+◌, ◌<◌, ◌≤◌, List, [], ◌∷◌, length, get_or, map, Option, None, Some, option_map, refl, sym, ◌∙◌, ap, subst, inl, inr, arith}
-use Rattle.std.specs.List.{All, Contains, cons_option, filter_map}
-use Rattle.std.proofs.lemmas.List.{get_or-map, get_or_default, length-map}
-use Rattle.std.proofs.lemmas.List.Elements.{Contains-append_left, Contains-append_right, Contains-append_cases}
-use Rattle.std.specs.Str.{bytes_eq}
-use Rattle.std.proofs.lemmas.Option.{none-some, same_Some}
-use Rattle.std.proofs.lemmas.List.Quantifiers.{position-Some}
-use Rattle.proto_meaning.specs.Names.{Import}
-use Rattle.proto_meaning.specs.Cycles.{Leads, stop, onward}
-use Rattle.proto_meaning.specs.Faults.{Fault, Asked, file_of, import_at, imports_of}
-use Rattle.proto_imports.specs.Importing.{import_from, all_imports}
-use Rattle.proto_imports.specs.ImportSteps.{AreTurned, AreImporters, CycleFault, cycle}
-use Rattle.proto_imports.specs.declared.import.FileImport.{FileImport}
-use Rattle.proto_faults.proofs.Lists.{from_map, contains_map, contains_cases, contains_head, contains_later}
+use Rattle.std.proofs.Common.{◌≡◌, ◌↔◌, ℕ, zero, suc, ◌+◌, ◌<◌, ◌≤◌, List, [], ◌∷◌, length, get_or, map, Option, None, Some, option_map, refl, sym, ◌∙◌, ap, subst, inl, inr, arith, All, Contains, filter_map, bytes_eq}
+use Rattle.proto_faults.proofs.Common.{cons_option, get_or-map, get_or_default, length-map, Contains-append_left, Contains-append_right, Contains-append_cases, none-some, same_Some, position-Some, from_map, contains_map, contains_cases, contains_head, contains_later}
+use Rattle.proto_meaning.proofs.Common.{Import, Leads, stop, onward, Fault, Asked, file_of, import_at, imports_of}
+use Rattle.proto_imports.specs.Common.{import_from, all_imports, AreTurned, AreImporters, CycleFault, cycle, FileImport}
 use Rattle.proto_imports.proofs.Turned.{contains_within}
 
 -- an import stands in its file

@@ -1,27 +1,16 @@
 -- The least fault by file, token and number is the least by phase, path, offset and number (for the crates above).
 use Rattle.std.proofs.Common.{◌≡◌, ℕ, suc, ◌<◌, List, [], length, sym, ap, subst, ◌∙◌, inl, inr, ◌⊎◌, arith}
-use Rattle.std.proofs.lemmas.Bool.{cases_order}
+use Rattle.proto_faults.proofs.Common.{cases_order, number_of, phase_of}
 use Rattle.proto_text.specs.declared.lexer.Token.{Token}
-use Rattle.proto_text.specs.Texts.{offset_at}
-use Rattle.proto_text.specs.Tokens.{AreTokens}
-use Rattle.proto_text.proofs.Order.{tokens_are_in_order}
+use Rattle.proto_text.proofs.Common.{offset_at, AreTokens, tokens_are_in_order}
 use Rattle.proto_faults.specs.declared.fault.FaultKind.{FaultKind}
-use Rattle.proto_faults.specs.FaultTable.{number_of, phase_of}
-use Rattle.proto_files.specs.Faults.{FaultAt, fault_at, ComesBefore, IsLeastFault, HasNoFault}
-use Rattle.proto_files.specs.GivenFiles.{FileOf, file_at, paths_of, AreWorkspaceFiles}
-use Rattle.proto_files.specs.WorkspacePaths.{IsBefore as PathIsBefore}
-use Rattle.proto_files.proofs.FaultOrder.{comes_before_cases}
-use Rattle.proto_files.proofs.PathOrder.{never_before_itself, before_trans}
+use Rattle.proto_files.proofs.Common.{FaultAt, fault_at, ComesBefore, IsLeastFault, HasNoFault, FileOf, file_at, paths_of, AreWorkspaceFiles, IsBefore as PathIsBefore, comes_before_cases, never_before_itself, before_trans, ReadOf, read_at, AreRead, IsAtToken, read_once}
 use Rattle.proto_faults.specs.declared.fault.SchemaFault.{SchemaFault}
 use Rattle.proto_faults.specs.declared.fault.SchemaFault.TheVariants.{Schema, NoMemory}
-use Rattle.proto_meaning.specs.Faults.{Fault, fault, IsBefore, IsLeast, ImportFault, NameFault, ReferenceFault}
-use Rattle.proto_meaning.specs.Grown.{at}
+use Rattle.proto_meaning.proofs.Common.{Fault, fault, IsBefore, IsLeast, ImportFault, NameFault, ReferenceFault, at}
 use Rattle.proto_imports.specs.LinkErrors.{IsLinkError}
-use Rattle.proto_files.specs.FilesRead.{ReadOf, read_at, AreRead}
-use Rattle.proto_files.specs.FileTokens.{IsAtToken}
 use Rattle.proto_imports.specs.Links.{text_of, all_wanted, link_skeleton, StandsAt, LinkFaults, of_import, of_name, of_reference}
 use Rattle.proto_imports.proofs.FaultPlaces.{IsFoundIn, import_found, name_found, reference_found}
-use Rattle.proto_files.proofs.ReadOnce.{read_once}
 
 offset_rises : (text : List ℕ) (tokens : List Token) (i j : ℕ) → AreTokens text tokens → i < j → j < length tokens → offset_at tokens i < offset_at tokens j
 offset_rises text tokens i j lexed lt within =

@@ -1,3 +1,4 @@
+pub mod Common
 mod CycleFaults
 pub mod FaultPlaces
 pub mod FileUses

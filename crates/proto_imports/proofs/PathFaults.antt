@@ -1,17 +1,8 @@
 -- The first import of a file whose path no file has, or an earlier import.
-use Rattle.std.proofs.Common.{◌≡◌, ◌⊎◌, ℕ, ◌+◌, ◌<◌, ◌≤◌, Bool, true, false, List, [], ◌∷◌, length, get_or, map, Option, Some, None, refl, sym, ◌∙◌, ap, subst, inl, inr, arith, string_bytes}
-use Rattle.std.specs.List.{Contains}
-use Rattle.std.specs.Str.{bytes_eq}
-use Rattle.std.proofs.lemmas.Bool.{cases_eq, cases_lt, both_ways}
-use Rattle.std.proofs.lemmas.Option.{none-some, same_Some}
-use Rattle.std.proofs.lemmas.List.{get_or-map, length-map}
-use Rattle.std.proofs.lemmas.List.Quantifiers.{position-Some}
-use Rattle.proto_meaning.specs.Faults.{Fault, fault, IsBefore, IsLeast, AfterEarlier, Asked, file_of}
-use Rattle.proto_meaning.specs.Grown.{at}
-use Rattle.proto_imports.specs.Importing.{asked_by, AreRising}
-use Rattle.proto_imports.specs.ImportSteps.{PathFault, unknown, double}
-use Rattle.proto_imports.specs.declared.import.WrittenImport.{WrittenImport}
-use Rattle.proto_faults.proofs.Lists.{word_from_same}
+use Rattle.std.proofs.Common.{◌≡◌, ◌⊎◌, ℕ, ◌+◌, ◌<◌, ◌≤◌, Bool, true, false, List, [], ◌∷◌, length, get_or, map, Option, Some, None, refl, sym, ◌∙◌, ap, subst, inl, inr, arith, string_bytes, Contains, bytes_eq}
+use Rattle.proto_faults.proofs.Common.{cases_eq, cases_lt, both_ways, none-some, same_Some, get_or-map, length-map, position-Some, word_from_same}
+use Rattle.proto_meaning.proofs.Common.{Fault, fault, IsBefore, IsLeast, AfterEarlier, Asked, file_of, at}
+use Rattle.proto_imports.specs.Common.{asked_by, AreRising, PathFault, unknown, double, WrittenImport}
 
 -- two paths of one file are the same
 pub same_path : (paths : List (List ℕ)) (p q : List ℕ) (to : ℕ) → file_of paths p ≡ Some to → file_of paths q ≡ Some to → p ≡ q

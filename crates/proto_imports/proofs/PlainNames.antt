@@ -1,26 +1,13 @@
 -- The full names that files declare are of plain words (for the crates above).
-use Rattle.std.proofs.Common.{◌≡◌, ℕ, zero, suc, ◌+◌, ◌<◌, List, [], ◌∷◌, ◌++◌, length, map, Some, refl, sym, ◌∙◌, ap, subst, inl, inr, arith, length-append}
-use Rattle.std.specs.List.{Contains}
-use Rattle.std.proofs.lemmas.List.Elements.{Contains-append_cases}
-use Rattle.proto_files.specs.GivenFiles.{FileOf, file_at}
+use Rattle.std.proofs.Common.{◌≡◌, ℕ, zero, suc, ◌+◌, ◌<◌, List, [], ◌∷◌, ◌++◌, length, map, Some, refl, sym, ◌∙◌, ap, subst, inl, inr, arith, length-append, Contains}
+use Rattle.proto_faults.proofs.Common.{Contains-append_cases, contains_cases, from_map}
+use Rattle.proto_files.proofs.Common.{FileOf, file_at, ReadOf, AreRead, read_at}
 use Rattle.proto_case.specs.Camel.{entry_name}
-use Rattle.proto_listing.specs.FromTree.{items_in}
-use Rattle.proto_meaning.specs.Grown.{At, at, declared_of, file_declared, all_declared}
-use Rattle.proto_meaning.specs.Joined.{IsPlain, ArePlain}
-use Rattle.proto_files.specs.FilesRead.{ReadOf, AreRead, read_at}
+use Rattle.proto_listing.proofs.Common.{items_in, whole, last_token, token_last, entry_last, placed_plain, entry_plain}
+use Rattle.proto_meaning.proofs.Common.{At, at, declared_of, file_declared, all_declared, IsPlain, ArePlain, Symbol, shifted_source, Source, Token, EntryOf, Given, Declared, name_of, spell, symbol_of, shifted_declared, Member, field, map_field, oneof, message, enum, service, Members, no_members, member, Items, no_items, packaged, item, package_of, Placed, place, placed, all_placed, prefixes, items_placed, file_placed, map_append, file_stands}
 use Rattle.proto_imports.specs.Links.{text_of, names_in, link_skeleton, names_of_files}
-use Rattle.proto_listing.specs.Listing.{whole, last_token}
 use Rattle.proto_meaning.specs.declared.kind.Kind.{Kind}
 use Rattle.proto_meaning.specs.declared.kind.Kind.TheVariants.{Field, Value, Method}
-use Rattle.proto_meaning.specs.Names.{Symbol}
-use Rattle.proto_meaning.specs.Skeleton.{shifted_source, Source, Token, EntryOf, Given, Declared, name_of, spell, symbol_of, shifted_declared}
-use Rattle.proto_meaning.specs.Tree.{Member, field, map_field, oneof, message, enum, service, Members, no_members, member, Items, no_items, packaged, item, package_of, Placed, place, placed, all_placed, prefixes, items_placed, file_placed}
-use Rattle.proto_faults.proofs.Lists.{contains_cases, from_map}
-use Rattle.proto_meaning.proofs.Edited.{map_append}
-use Rattle.proto_listing.proofs.Growing.{token_last, entry_last}
-use Rattle.proto_meaning.proofs.Items.{file_stands}
-use Rattle.proto_listing.proofs.ReadTrees.{placed_plain}
-use Rattle.proto_listing.proofs.PlainEntries.{entry_plain}
 
 -- the name that tokens of one file spell, among those of all files
 pub name_in : (text : At → List ℕ) (n : ℕ) (path : List (Source ℕ))

@@ -1,9 +1,6 @@
 -- Lists of numbers below a number, and ranks that fall along lists.
-use Rattle.std.proofs.Common.{◌≡◌, ℕ, ◌+◌, ◌<◌, List, [], ◌∷◌, ◌++◌, length, get_or, map, sym, ap, ◌∙◌, subst, inl, inr, arith}
-use Rattle.std.specs.List.{All, Contains}
-use Rattle.std.proofs.lemmas.Bool.{cases_eq}
-use Rattle.std.proofs.lemmas.List.{get_or-map}
-use Rattle.std.proofs.lemmas.List.Elements.{All-push}
+use Rattle.std.proofs.Common.{◌≡◌, ℕ, ◌+◌, ◌<◌, List, [], ◌∷◌, ◌++◌, length, get_or, map, sym, ap, ◌∙◌, subst, inl, inr, arith, All, Contains}
+use Rattle.proto_faults.proofs.Common.{cases_eq, get_or-map, All-push}
 
 -- what is below a number is below one that is the same
 pub same_bound : (n m : ℕ) (xs : List ℕ) → n ≡ m → All (λ g. g < n) xs → All (λ g. g < m) xs

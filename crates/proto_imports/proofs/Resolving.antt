@@ -1,18 +1,9 @@
 -- The imports of files that name files (for the crates above).
-use Rattle.std.proofs.Common.{◌≡◌, ℕ, suc, ◌+◌, ◌<◌, Bool, true, false, List, [], ◌∷◌, ◌++◌, length, get_or, map, take, drop, option_map, Option, Some, None, refl, sym, ◌∙◌, ap, inl, inr, arith, string_bytes, cond, not, nat_lt, append_assoc}
-use Rattle.std.specs.List.{cons_option, position, position_or_len}
-use Rattle.std.specs.Str.{bytes_eq}
-use Rattle.std.proofs.lemmas.Bool.{cases_Bool, cases_lt, cond-true, cond-false, false_from_ne_true, both_ways}
-use Rattle.std.proofs.lemmas.Bool.Decides.{nat_tests}
-use Rattle.std.proofs.lemmas.List.{map-append, length-take-le, append-nil}
-use Rattle.std.proofs.lemmas.List.Elements.{filter_map-append}
+use Rattle.std.proofs.Common.{◌≡◌, ℕ, suc, ◌+◌, ◌<◌, Bool, true, false, List, [], ◌∷◌, ◌++◌, length, get_or, map, take, drop, option_map, Option, Some, None, refl, sym, ◌∙◌, ap, inl, inr, arith, string_bytes, cond, not, nat_lt, append_assoc, position, bytes_eq, length-take-le, append-nil}
+use Rattle.proto_faults.proofs.Common.{cons_option, position_or_len, cases_Bool, cases_lt, cond-true, cond-false, false_from_ne_true, both_ways, nat_tests, map-append, filter_map-append, word_from_same, same_from_word}
 use Rattle.std.proofs.Math.Seq.{drop-cons}
-use Rattle.proto_meaning.specs.Names.{Import}
-use Rattle.proto_meaning.specs.Faults.{file_of, import_at, imports_of}
-use Rattle.proto_imports.specs.Importing.{asked_by, all_asked, import_from, all_imports}
-use Rattle.proto_imports.specs.declared.import.WrittenImport.{WrittenImport}
-use Rattle.proto_imports.specs.declared.import.FileImport.{FileImport}
-use Rattle.proto_faults.proofs.Lists.{word_from_same, same_from_word}
+use Rattle.proto_meaning.proofs.Common.{Import, file_of, import_at, imports_of}
+use Rattle.proto_imports.specs.Common.{asked_by, all_asked, import_from, all_imports, WrittenImport, FileImport}
 use Rattle.proto_imports.proofs.Turned.{take_more}
 
 -- the first of some paths, or a later one

@@ -1,20 +1,12 @@
 -- What a file sees, as a walk along its own imports and the public ones of the others (for the crates above).
-use Rattle.std.proofs.Common.{◌≡◌, ◌≢◌, ◌⊎◌, ◌↔◌, ℕ, zero, suc, ◌+◌, ◌<◌, Bool, true, false, List, [], ◌∷◌, ◌++◌, length, get_or, map, filter, refl, sym, ◌∙◌, ap, subst, inl, inr, arith, slice_set}
-use Rattle.std.specs.List.{All, Contains}
-use Rattle.std.proofs.lemmas.Bool.{cases_Bool, cases_eq, both_ways, cond-true, cond-false}
-use Rattle.std.proofs.lemmas.List.{get_or-map, get_or-set_same, get_or-set_other, length-map}
+use Rattle.std.proofs.Common.{◌≡◌, ◌≢◌, ◌⊎◌, ◌↔◌, ℕ, zero, suc, ◌+◌, ◌<◌, Bool, true, false, List, [], ◌∷◌, ◌++◌, length, get_or, map, filter, refl, sym, ◌∙◌, ap, subst, inl, inr, arith, slice_set, All, Contains, get_or-set_same, get_or-set_other}
+use Rattle.proto_faults.proofs.Common.{cases_Bool, cases_eq, both_ways, cond-true, cond-false, get_or-map, length-map, from_map, contains_map, contains_cases, contains_head, contains_later}
 use Rattle.std.proofs.Math.ListN.{get_or-append}
 use Rattle.std.proofs.Math.Seq.{get_or-append_seam}
-use Rattle.proto_meaning.specs.Names.{Import, Workspace, Reaches, here, along, Sees, itself, by_import, sees}
-use Rattle.proto_meaning.specs.Linked.{AreFiles}
-use Rattle.proto_meaning.specs.Marks.{MarksSeen}
-use Rattle.proto_imports.specs.Walks.{Walks, stays, goes, IsMarked}
-use Rattle.proto_imports.specs.Importing.{import_from, all_imports}
-use Rattle.proto_imports.specs.declared.import.FileImport.{FileImport}
-use Rattle.proto_faults.proofs.Lists.{from_map, contains_map, contains_cases, contains_head, contains_later}
+use Rattle.proto_meaning.proofs.Common.{Import, Workspace, Reaches, here, along, Sees, itself, by_import, sees, AreFiles, MarksSeen, sees_is}
+use Rattle.proto_imports.specs.Common.{Walks, stays, goes, IsMarked, import_from, all_imports, FileImport}
 use Rattle.proto_imports.proofs.Turned.{contains_within}
 use Rattle.proto_imports.proofs.ImportGraph.{import_in, import_of_file, graph_of, targets_twice, within_map}
-use Rattle.proto_meaning.proofs.Seeing.{sees_is}
 
 abbrev pub own_of : List FileImport → List ℕ
 own_of is = map (λ i. i.to) is

@@ -1,11 +1,7 @@
 -- Lists of numbers turned round, number by number (for the crates above).
-use Rattle.std.proofs.Common.{◌≡◌, ◌≢◌, ◌⊎◌, ◌↔◌, ℕ, zero, suc, ◌+◌, ◌<◌, List, [], ◌∷◌, ◌++◌, length, get_or, take, refl, sym, ◌∙◌, ap, subst, inl, inr, arith, replicate, slice_set}
-use Rattle.std.specs.List.{Contains}
-use Rattle.std.proofs.lemmas.Bool.{cases_eq}
-use Rattle.std.proofs.lemmas.List.{get_or-set_same, get_or-set_other}
-use Rattle.std.proofs.lemmas.List.Elements.{Contains-append_left, Contains-append_cases}
+use Rattle.std.proofs.Common.{◌≡◌, ◌≢◌, ◌⊎◌, ◌↔◌, ℕ, zero, suc, ◌+◌, ◌<◌, List, [], ◌∷◌, ◌++◌, length, get_or, take, refl, sym, ◌∙◌, ap, subst, inl, inr, arith, replicate, slice_set, Contains, get_or-set_same, get_or-set_other}
+use Rattle.proto_faults.proofs.Common.{cases_eq, Contains-append_left, Contains-append_cases, contains_cases}
 use Rattle.std.proofs.Math.Seq.{take-suc}
-use Rattle.proto_faults.proofs.Lists.{contains_cases}
 use Rattle.proto_imports.proofs.Walks.{last_in}
 
 pub contains_within : (ls : List (List ℕ)) (a b : ℕ) → Contains (get_or ls a []) b → a < length ls

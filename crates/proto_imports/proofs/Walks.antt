@@ -1,12 +1,8 @@
 -- One number more is visited (for the crates above).
-use Rattle.std.proofs.Common.{◌≡◌, ◌≢◌, ◌⊎◌, ℕ, zero, suc, ◌+◌, ◌<◌, Bool, true, false, List, [], ◌∷◌, ◌++◌, length, get_or, take, refl, sym, ◌∙◌, ap, subst, inl, inr, arith, length-append, replicate, slice_set}
-use Rattle.std.specs.List.{Contains}
-use Rattle.std.proofs.lemmas.Bool.{cases_Bool, cases_eq, both_ways, true≢false}
-use Rattle.std.proofs.lemmas.List.{get_or-set_same, get_or-set_other, length-set}
-use Rattle.std.proofs.lemmas.List.Elements.{Contains-append_left, Contains-append_right, Contains-append_cases}
+use Rattle.std.proofs.Common.{◌≡◌, ◌≢◌, ◌⊎◌, ℕ, zero, suc, ◌+◌, ◌<◌, Bool, true, false, List, [], ◌∷◌, ◌++◌, length, get_or, take, refl, sym, ◌∙◌, ap, subst, inl, inr, arith, length-append, replicate, slice_set, Contains, true≢false, get_or-set_same, get_or-set_other, length-set}
+use Rattle.proto_faults.proofs.Common.{cases_Bool, cases_eq, both_ways, Contains-append_left, Contains-append_right, Contains-append_cases, contains_head, contains_cases}
 use Rattle.std.proofs.Math.Seq.{take-suc}
 use Rattle.proto_imports.specs.Walks.{Walks, stays, goes, unseen, IsMarked, Visits}
-use Rattle.proto_faults.proofs.Lists.{contains_head, contains_cases}
 
 -- where none is visited, all is as it was
 pub visits_none : (seen : List Bool) (todo : List ℕ) → Visits [] seen todo seen todo

@@ -1,3 +1,4 @@
+pub mod Common
 pub mod ImportSteps
 pub mod Importing
 pub mod LinkErrors

@@ -1,11 +1,7 @@
 -- Files of which the first ones are as after and the others as before.
-use Rattle.std.proofs.Common.{arith, ◌≡◌, ◌⊎◌, inl, inr, ℕ, zero, suc, ◌<◌, Bool, true, false, cond, List, [], ◌∷◌, length, Some, refl, sym, ap, ◌∙◌, subst}
-use Rattle.std.specs.Prelude.{AllPairs, IsSome, is_some}
-use Rattle.std.specs.Str.{bytes_eq}
+use Rattle.std.proofs.Common.{arith, ◌≡◌, ◌⊎◌, inl, inr, ℕ, zero, suc, ◌<◌, Bool, true, false, cond, List, [], ◌∷◌, length, Some, refl, sym, ap, ◌∙◌, subst, AllPairs, IsSome, is_some, bytes_eq}
 use Rattle.std.proofs.lemmas.Slice.Eq.{bytes_eq-Decides}
-use Rattle.proto_files.specs.GivenFiles.{FileOf, file_at, paths_of}
-use Rattle.proto_files.specs.WorkspacePaths.{IsBefore}
-use Rattle.proto_files.proofs.PathOrder.{never_before_itself}
+use Rattle.proto_files.proofs.Common.{FileOf, file_at, paths_of, IsBefore, never_before_itself}
 use Rattle.proto_entries.proofs.Puts.{same_file}
 use Rattle.proto_store.specs.Stores.{bytes_at, with_bytes}
 use Rattle.proto_records.specs.Torn.{IsBetween}

@@ -1,6 +1,5 @@
 -- What a commit answers, from what it read, made and wrote.
-use Rattle.std.proofs.Common.{◌≡◌, ◌⊎◌, inl, inr, ℕ, ◌<◌, List, [], ◌∷◌, ◌++◌, length, Option, Some, None, Err, refl, sym, ap, ◌∙◌, subst}
-use Rattle.std.specs.Prelude.{option_map}
+use Rattle.std.proofs.Common.{◌≡◌, ◌⊎◌, inl, inr, ℕ, ◌<◌, List, [], ◌∷◌, ◌++◌, length, Option, Some, None, Err, refl, sym, ap, ◌∙◌, subst, option_map}
 use Rattle.proto_files.specs.GivenFiles.{FileOf}
 use Rattle.proto_entries.specs.Entries.{ChangeOf}
 use Rattle.proto_entries.specs.declared.refusal.Refusal.{Refusal}
@@ -9,16 +8,9 @@ use Rattle.proto_edit.specs.Workspaces.{Asked, IsMappedStep, IsRefusal}
 use Rattle.proto_records.specs.declared.fault.JournalFault.{JournalFault}
 use Rattle.proto_records.specs.declared.fault.JournalFault.TheVariants as fault
 use Rattle.proto_records.specs.declared.record.Record.{Record}
-use Rattle.proto_records.specs.FaultTable.{fault_of}
-use Rattle.proto_records.specs.RecordText.{record_text}
-use Rattle.proto_records.specs.Journals.{IsJournal, done, journal_limit, opened, journal_text}
+use Rattle.proto_records.proofs.Common.{fault_of, record_text, IsJournal, done, journal_limit, opened, journal_text, IsReady, IsReadyWith, CountsFault, Over, OverBoth, IsBetween, IsTornBetween, Keeps}
 use Rattle.proto_store.specs.Stores.{Held, HoldsJournal}
-use Rattle.proto_journal.specs.Commits.{IsCommitted, IsCommitCut, CommitOutcome, Stays}
-use Rattle.proto_records.specs.ReadJournals.{IsReady, IsReadyWith}
-use Rattle.proto_records.specs.Known.{CountsFault, Over, OverBoth}
-use Rattle.proto_journal.specs.Loads.{IsUnready}
-use Rattle.proto_records.specs.Torn.{IsBetween, IsTornBetween, Keeps}
-use Rattle.proto_journal.specs.Written.{AddsTo, IsUnprepared, IsUnwritten, Passes, held}
+use Rattle.proto_journal.specs.Common.{IsCommitted, IsCommitCut, CommitOutcome, Stays, IsUnready, AddsTo, IsUnprepared, IsUnwritten, Passes, held}
 use Rattle.proto_journal.proofs.Recorded.{text_more}
 
 pub stays : (from : List FileOf) (old new : Option Held) → new ≡ old → Stays from from old new

@@ -1,24 +1,16 @@
 -- A commit or an undo that was cut off, and then recovered, is made wholly or not at all.
-use Rattle.std.proofs.Common.{◌≡◌, inl, inr, ℕ, Bool, false, List, [], ◌∷◌, ◌++◌, Option, Some, Result, Ok, refl, sym, ap, ◌∙◌, subst}
-use Rattle.std.specs.List.Sorted.{IsStrictlySortedBy}
-use Rattle.std.specs.Cmp.Lexicographic.{slice_cmp}
-use Rattle.std.specs.Ordering.{nat_cmp}
+use Rattle.std.proofs.Common.{◌≡◌, inl, inr, ℕ, Bool, false, List, [], ◌∷◌, ◌++◌, Option, Some, Result, Ok, refl, sym, ap, ◌∙◌, subst, nat_cmp}
+use Rattle.proto_faults.proofs.Common.{IsStrictlySortedBy, slice_cmp}
 use Rattle.proto_files.specs.GivenFiles.{FileOf, paths_of}
 use Rattle.proto_entries.specs.Entries.{ChangeOf, IsEntry}
 use Rattle.proto_records.specs.declared.fault.JournalFault.{JournalFault}
 use Rattle.proto_records.specs.declared.record.Record.{Record}
-use Rattle.proto_records.specs.Journals.{IsJournal, done, opened}
-use Rattle.proto_records.specs.Laws.{JournalsShrink}
+use Rattle.proto_records.proofs.Common.{IsJournal, done, opened, JournalsShrink, IsSettled, IsReady, Keeps}
 use Rattle.proto_store.specs.Stores.{AreInPathOrder, Held}
-use Rattle.proto_records.specs.Known.{IsSettled}
 use Rattle.proto_records.specs.RecoveryLaws.{RecoveriesAreOne, TornComesBack}
-use Rattle.proto_records.specs.ReadJournals.{IsReady}
 use Rattle.proto_records.specs.Recovery.{RecoverOutcome}
-use Rattle.proto_records.specs.Torn.{Keeps}
 use Rattle.proto_records.proofs.TornStores.{leads_forth}
-use Rattle.proto_journal.specs.Commits.{IsCommitted}
-use Rattle.proto_journal.specs.Laws.{CutCommitsComeBack, CutUndosComeBack}
-use Rattle.proto_journal.specs.Undoing.{IsUndone}
+use Rattle.proto_journal.specs.Common.{IsCommitted, CutCommitsComeBack, CutUndosComeBack, IsUndone}
 use Rattle.proto_journal.proofs.Grown.{last_record}
 use Rattle.proto_journal.proofs.PutPaths.{put_paths, undo_paths}
 use Rattle.proto_journal.proofs.Recorded.{last_of}

@@ -1,13 +1,9 @@
 -- Journals that are made of a journal: with a record more, with one less, and with the last entry open.
-use Rattle.std.proofs.Common.{arith, ◌≡◌, ℕ, ◌≤◌, List, [], ◌∷◌, ◌++◌, length, sym, ap, ◌∙◌, subst}
-use Rattle.std.specs.Prelude.{All, Err, IfOk, Ok, OnOk, Result}
-use Rattle.std.proofs.lemmas.List.{length-append}
+use Rattle.std.proofs.Common.{arith, ◌≡◌, ℕ, ◌≤◌, List, [], ◌∷◌, ◌++◌, length, sym, ap, ◌∙◌, subst, All, Err, IfOk, Ok, OnOk, Result, length-append}
 use Rattle.std.proofs.lemmas.List.Elements.{All-head, All-tail}
 use Rattle.proto_entries.specs.Entries.{ChangeOf}
 use Rattle.proto_records.specs.declared.record.Record.{Record}
-use Rattle.proto_records.specs.RecordText.{record_text}
-use Rattle.proto_records.specs.Journals.{IsJournal, IsRecord, done, journal_limit, opened, journal_text}
-use Rattle.proto_records.specs.Laws.{JournalsGrow, JournalsShrink, StatesKeepLength}
+use Rattle.proto_records.proofs.Common.{record_text, IsJournal, IsRecord, done, journal_limit, opened, journal_text, JournalsGrow, JournalsShrink, StatesKeepLength}
 use Rattle.proto_journal.specs.Written.{AddsTo, Reopens, Shortens}
 use Rattle.proto_journal.proofs.Recorded.{text_more}
 

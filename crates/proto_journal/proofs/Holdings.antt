@@ -1,6 +1,5 @@
 -- What a store holds after writes, told by what it held before them.
-use Rattle.std.proofs.Common.{◌≡◌, ◌⊎◌, inl, inr, ℕ, List, Option, Some, None, refl, sym, ap, ◌∙◌, subst}
-use Rattle.std.specs.Prelude.{IsSome, option_map}
+use Rattle.std.proofs.Common.{◌≡◌, ◌⊎◌, inl, inr, ℕ, List, Option, Some, None, refl, sym, ap, ◌∙◌, subst, IsSome, option_map}
 use Rattle.proto_files.specs.GivenFiles.{FileOf, paths_of}
 use Rattle.proto_store.specs.Stores.{Held, HoldsFiles, IsListed, bytes_at, with_bytes, with_file, with_journal}
 use Rattle.proto_records.specs.Torn.{IsBetween}

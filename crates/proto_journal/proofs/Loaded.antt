@@ -1,15 +1,8 @@
 -- Workspaces that are loaded of a store.
-use Rattle.std.proofs.Common.{arith, ◌≡◌, ℕ, zero, suc, ◌<◌, ◌≤◌, List, [], ◌∷◌, length, get_or, Option, Some, None, Ok, Err, sym, ◌∙◌, subst}
-use Rattle.std.specs.List.{AllByRecursion}
-use Rattle.std.specs.List.Sorted.{IsStrictlySortedBy}
-use Rattle.std.specs.Cmp.Lexicographic.{slice_cmp}
-use Rattle.std.specs.Ordering.{nat_cmp}
-use Rattle.std.specs.declared.cmp.Ordering.TheVariants.{Less}
-use Rattle.std.proofs.lemmas.List.Sorted.{All-permutation, IsPermutation-sym, length_permutation}
+use Rattle.std.proofs.Common.{arith, ◌≡◌, ℕ, zero, suc, ◌<◌, ◌≤◌, List, [], ◌∷◌, length, get_or, Option, Some, None, Ok, Err, sym, ◌∙◌, subst, nat_cmp}
+use Rattle.proto_faults.proofs.Common.{AllByRecursion, IsStrictlySortedBy, slice_cmp, Less, All-permutation, IsPermutation-sym, length_permutation}
 use Rattle.proto_faults.specs.declared.fault.Fault.{Fault}
-use Rattle.proto_files.specs.Faults.{IsLeastFault, fault_at}
-use Rattle.proto_files.specs.GivenFiles.{AreWorkspaceFiles, FileOf, paths_of}
-use Rattle.proto_files.specs.WorkspacePaths.{IsBefore, IsWorkspacePath}
+use Rattle.proto_files.proofs.Common.{IsLeastFault, fault_at, AreWorkspaceFiles, FileOf, paths_of, IsBefore, IsWorkspacePath}
 use Rattle.proto_desc.specs.Whole.{IsSortedOf, WorkspaceFaults}
 use Rattle.proto_edit.specs.Compiled.{AreCompiled}
 use Rattle.proto_edit.proofs.GivenAgain.{sorted_again}

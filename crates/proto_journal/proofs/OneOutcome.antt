@@ -1,31 +1,20 @@
 -- What a commit and an undo answer and leave is decided by the store and the workspace, where no call fails and memory is there.
-use Rattle.std.proofs.Common.{arith, ◌≡◌, ℕ, ◌≤◌, ◌<◌, ◌==◌, Bool, true, false, List, [], ◌∷◌, ◌++◌, length, Option, Some, None, Result, Ok, Err, refl, sym, ap, ◌∙◌, subst}
-use Rattle.std.specs.Prelude.{String, if◌then◌else◌}
-use Rattle.std.specs.Global.{Global}
-use Rattle.std.specs.String.{string_bytes}
+use Rattle.std.proofs.Common.{arith, ◌≡◌, ℕ, ◌≤◌, ◌<◌, ◌==◌, Bool, true, false, List, [], ◌∷◌, ◌++◌, length, Option, Some, None, Result, Ok, Err, refl, sym, ap, ◌∙◌, subst, String, if◌then◌else◌, Global, string_bytes}
 use Rattle.std.proofs.lemmas.List.Elements.{All-nil}
 use Rattle.proto_files.specs.GivenFiles.{FileOf}
 use Rattle.proto_entries.specs.Entries.{ChangeOf}
 use Rattle.proto_entries.specs.declared.refusal.Refusal.{Refusal}
 use Rattle.proto_entries.specs.declared.refusal.Refusal.TheVariants as refusal
 use Rattle.proto_entries.specs.RefusalTable.{number_of}
-use Rattle.proto_edit.specs.Compiled.{AreCompiled}
+use Rattle.proto_edit.proofs.Common.{AreCompiled, Asked, IsLeastCase, IsMappedStep, IsPlaceOf, IsUndo, undo_once}
 use Rattle.proto_edit.specs.Laws.{RefusedOnce, StepsOnce}
-use Rattle.proto_edit.specs.Workspaces.{Asked, IsLeastCase, IsMappedStep, IsPlaceOf, IsUndo}
 use Rattle.proto_edit.proofs.OneAnswer.{least_once}
-use Rattle.proto_edit.proofs.Steps.{undo_once}
 use Rattle.proto_records.specs.declared.fault.JournalFault.{JournalFault}
 use Rattle.proto_records.specs.declared.fault.JournalFault.TheVariants as fault
 use Rattle.proto_records.specs.declared.record.Record.{Record}
-use Rattle.proto_records.specs.Journals.{IsJournal, IsRecord, is_last_open, done, journal_text, journal_limit}
-use Rattle.proto_records.specs.Laws.{IsReadInOneWay}
+use Rattle.proto_records.proofs.Common.{IsJournal, IsRecord, is_last_open, done, journal_text, journal_limit, IsReadInOneWay, HasOpenEntry, IsReady, IsUnreadable, IsSettled, Keeps}
 use Rattle.proto_store.specs.Stores.{Held}
-use Rattle.proto_journal.specs.Commits.{CommitOutcome, IsCommitted, IsFull, Stays}
-use Rattle.proto_records.specs.ReadJournals.{HasOpenEntry, IsReady, IsUnreadable}
-use Rattle.proto_journal.specs.Laws.{CommitsAreOne, IsSameAnswer, IsSameRefusal, UndosAreOne}
-use Rattle.proto_records.specs.Known.{IsSettled}
-use Rattle.proto_records.specs.Torn.{Keeps}
-use Rattle.proto_journal.specs.Undoing.{EndsIn, IsStale, IsUndone, UndoOutcome}
+use Rattle.proto_journal.specs.Common.{CommitOutcome, IsCommitted, IsFull, Stays, CommitsAreOne, IsSameAnswer, IsSameRefusal, UndosAreOne, EndsIn, IsStale, IsUndone, UndoOutcome}
 use Rattle.proto_journal.proofs.Recorded.{last_of}
 
 -- ---- refusals

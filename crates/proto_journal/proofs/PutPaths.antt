@@ -1,8 +1,7 @@
 -- What is put has the paths of the files before.
 use Rattle.std.proofs.Common.{◌≡◌, List, [], ◌∷◌, refl}
 use Rattle.proto_files.specs.GivenFiles.{FileOf, paths_of}
-use Rattle.proto_entries.specs.Entries.{ChangeOf, inverted}
-use Rattle.proto_entries.specs.Putting.{EachPuts, IsPut}
+use Rattle.proto_entries.proofs.Common.{ChangeOf, inverted, EachPuts, IsPut}
 use Rattle.proto_edit.specs.Workspaces.{Asked, IsMappedStep, IsUndo}
 
 each_path : (cs : List ChangeOf) (w after : List FileOf) → EachPuts cs w after → paths_of after ≡ paths_of w

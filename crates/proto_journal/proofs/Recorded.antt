@@ -5,13 +5,9 @@ use Rattle.proto_records.specs.declared.fault.JournalFault.TheVariants.{BadJourn
 use Rattle.proto_records.specs.declared.record.Record.{Record}
 use Rattle.proto_records.specs.declared.record.State.{State}
 use Rattle.proto_records.specs.declared.record.State.TheVariants as state
-use Rattle.proto_records.specs.RecordText.{record_text}
-use Rattle.proto_records.specs.Journals.{IsJournal, is_last_open, is_open, done, journal_text}
+use Rattle.proto_records.proofs.Common.{record_text, IsJournal, is_last_open, is_open, done, journal_text, HasOpenEntry, IsReady, IsUnreadable, CountsFault, Over}
 use Rattle.proto_store.specs.Stores.{Held, HoldsJournal}
-use Rattle.proto_records.specs.ReadJournals.{HasOpenEntry, IsReady, IsUnreadable}
-use Rattle.proto_records.specs.Known.{CountsFault, Over}
-use Rattle.proto_journal.specs.Loads.{IsUnready}
-use Rattle.proto_journal.specs.Written.{LastOutcome}
+use Rattle.proto_journal.specs.Common.{IsUnready, LastOutcome}
 
 -- ---- texts
 

@@ -1,6 +1,5 @@
 -- Replacing the files that differ, one after the other.
-use Rattle.std.proofs.Common.{arith, ◌≡◌, ◌⊎◌, inl, inr, ℕ, suc, ◌+◌, ◌<◌, List, length, Option, Result, Ok, Err, sym, ap, ◌∙◌, subst}
-use Rattle.std.specs.Prelude.{OnErr, OnOk, option_map}
+use Rattle.std.proofs.Common.{arith, ◌≡◌, ◌⊎◌, inl, inr, ℕ, suc, ◌+◌, ◌<◌, List, length, Option, Result, Ok, Err, sym, ap, ◌∙◌, subst, OnErr, OnOk, option_map}
 use Rattle.proto_files.specs.GivenFiles.{FileOf, file_at, paths_of}
 use Rattle.proto_store.specs.Stores.{Held, HoldsFiles, IsListed, with_bytes, with_file}
 use Rattle.proto_journal.specs.Written.{AreBetween, IsHalfReplaced, IsReplaced, with_files}

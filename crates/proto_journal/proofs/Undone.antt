@@ -1,6 +1,5 @@
 -- What an undo answers, from what it read, made and wrote.
-use Rattle.std.proofs.Common.{◌≡◌, ◌⊎◌, inl, inr, ℕ, List, [], ◌∷◌, ◌++◌, Option, Some, None, Ok, Err, refl, sym, ◌∙◌, subst}
-use Rattle.std.specs.Prelude.{option_map}
+use Rattle.std.proofs.Common.{◌≡◌, ◌⊎◌, inl, inr, ℕ, List, [], ◌∷◌, ◌++◌, Option, Some, None, Ok, Err, refl, sym, ◌∙◌, subst, option_map}
 use Rattle.proto_files.specs.GivenFiles.{FileOf, paths_of}
 use Rattle.proto_entries.specs.Entries.{ChangeOf}
 use Rattle.proto_entries.specs.declared.refusal.Refusal.{Refusal}
@@ -10,13 +9,9 @@ use Rattle.proto_edit.specs.Workspaces.{IsUndo}
 use Rattle.proto_records.specs.declared.fault.JournalFault.{JournalFault}
 use Rattle.proto_records.specs.declared.fault.JournalFault.TheVariants as fault
 use Rattle.proto_records.specs.declared.record.Record.{Record}
-use Rattle.proto_records.specs.FaultTable.{fault_of}
-use Rattle.proto_records.specs.Journals.{IsJournal, done, opened}
+use Rattle.proto_records.proofs.Common.{fault_of, IsJournal, done, opened, CountsFault, Over, OverBoth, IsBetween, IsTornBetween, Keeps}
 use Rattle.proto_store.specs.Stores.{Held, HoldsJournal}
-use Rattle.proto_records.specs.Known.{CountsFault, Over, OverBoth}
-use Rattle.proto_records.specs.Torn.{IsBetween, IsTornBetween, Keeps}
-use Rattle.proto_journal.specs.Undoing.{EndsIn, IsUndone, IsUndoCut, UndoOutcome}
-use Rattle.proto_journal.specs.Written.{LastOutcome, Passes, Reopens, Shortens, held}
+use Rattle.proto_journal.specs.Common.{EndsIn, IsUndone, IsUndoCut, UndoOutcome, LastOutcome, Passes, Reopens, Shortens, held}
 use Rattle.proto_journal.proofs.Committed.{stays}
 use Rattle.proto_journal.proofs.Recorded.{last_open_there, over_journal, unreadable}
 

@@ -1,11 +1,8 @@
 -- Messages with those nested in them, level by level.
-use Rattle.std.proofs.Common.{◌≡◌, ℕ, ◌+◌, ◌<◌, ◌≤◌, List, [], ◌∷◌, ◌++◌, None, refl, sym, ap, ◌∙◌, subst, map, take, get_or, length}
-use Rattle.std.proofs.lemmas.List.{take_all, take_more}
-use Rattle.std.specs.Prelude.{codes}
-use Rattle.proto_json.specs.DescriptorText.{message_texts}
-use Rattle.proto_json.specs.JsonText.{array_if_any}
+use Rattle.std.proofs.Common.{◌≡◌, ℕ, ◌+◌, ◌<◌, ◌≤◌, List, [], ◌∷◌, ◌++◌, None, refl, sym, ap, ◌∙◌, subst, map, take, get_or, length, take_all, codes}
+use Rattle.std.proofs.lemmas.List.{take_more}
+use Rattle.proto_json.specs.Common.{message_texts, array_if_any, PutsValue, PutsMember, PutsMembers, PutsValues}
 use Rattle.proto_json.specs.MessageText.{tree_text, level_text, before_nested, after_nested}
-use Rattle.proto_json.specs.Written.{PutsValue, PutsMember, PutsMembers, PutsValues}
 use Rattle.proto_json.proofs.Sending.{value_more, any_sent, object_sent, both, more}
 use Rattle.serde.specs.Event.{Log, Logs, seq_begins, seq_ends, map_begins, map_ends, field_key}
 use Rattle.serde.specs.declared.name.Case.TheVariants.{AsIs}

@@ -1,7 +1,5 @@
 -- The text between quotes is what `serde_json` writes.
-use Rattle.std.proofs.Common.{◌≡◌, ℕ, Bool, true, false, List, [], ◌∷◌, ◌++◌, refl, sym, ap, ◌∙◌, subst}
-use Rattle.std.proofs.lemmas.Bool.{eqb-true}
-use Rattle.std.specs.Prelude.{◌==◌, flat_map}
+use Rattle.std.proofs.Common.{◌≡◌, ℕ, Bool, true, false, List, [], ◌∷◌, ◌++◌, refl, sym, ap, ◌∙◌, subst, eqb-true, ◌==◌, flat_map}
 use Rattle.json.specs.Print.{escape_byte}
 use Rattle.json.specs.Print as json
 use Rattle.proto_json.specs.JsonText.{escaped, quoted}

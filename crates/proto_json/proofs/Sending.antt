@@ -1,14 +1,10 @@
 -- What is put behind the text by the events of values, members and objects.
-use Rattle.std.proofs.Common.{◌≡◌, ℕ, List, [], ◌∷◌, ◌++◌, Bool, true, false, Option, Some, None, option_map, map, refl, sym, ap, ◌∙◌, subst, append_assoc, decimal, length, take, get_or, ◌+◌, ◌<◌, ◌≤◌}
-use Rattle.proto_faults.proofs.Turns.{taken_more}
-use Rattle.std.proofs.lemmas.List.{append-nil, take_all}
-use Rattle.std.specs.Prelude.{option_and_then, flat_map, if◌then◌else◌, codes, cond, ◌&&◌, ℤ}
-use Rattle.std.specs.Fmt.{signed_decimal}
+use Rattle.std.proofs.Common.{◌≡◌, ℕ, List, [], ◌∷◌, ◌++◌, Bool, true, false, Option, Some, None, option_map, map, refl, sym, ap, ◌∙◌, subst, append_assoc, decimal, length, take, get_or, ◌+◌, ◌<◌, ◌≤◌, append-nil, take_all, option_and_then, flat_map, if◌then◌else◌, codes, cond, ◌&&◌, ℤ}
+use Rattle.proto_faults.proofs.Common.{taken_more, signed_decimal}
 use Rattle.json.specs.Token.{Token, begin_object, end_object, begin_array, end_array, key, string, number}
 use Rattle.json.specs.Token as json
 use Rattle.json.specs.Print.{quoted as quoted_there}
-use Rattle.proto_json.specs.JsonText.{Slot, quoted, boolean_text, separated, member_texts, array_text, object_text, array_if_any, object_if_any, mark}
-use Rattle.proto_json.specs.Written.{Written, nothing_written, token_of, token_put, events_put, written_by, Leads, comma, value_put, key_put, slot_put, slots_put, options_put, options_slot, PutsValue, PutsMember, PutsMembers, PutsValues, EndsOptions, Opens, PutsOption, values_put}
+use Rattle.proto_json.specs.Common.{Slot, quoted, boolean_text, separated, member_texts, array_text, object_text, array_if_any, object_if_any, mark, Written, nothing_written, token_of, token_put, events_put, written_by, Leads, comma, value_put, key_put, slot_put, slots_put, options_put, options_slot, PutsValue, PutsMember, PutsMembers, PutsValues, EndsOptions, Opens, PutsOption, values_put}
 use Rattle.proto_json.proofs.Quoting.{quoted-is}
 use Rattle.serde.specs.Event.{Event, Log, Logs, boolean, signed, unsigned, text, seq_begins, seq_ends, map_begins, map_ends, field_key}
 use Rattle.serde.specs.declared.name.Case.TheVariants.{AsIs}

@@ -1,9 +1,6 @@
 -- The text that `serde_json` gives for events that are known.
-use Rattle.std.proofs.Common.{◌≡◌, ℕ, List, [], ◌∷◌, ◌++◌, false, Option, Some, None, refl, sym, ap, ◌∙◌, append_assoc, arith, inl, inr}
-use Rattle.std.proofs.lemmas.Grind.{common_steps}
-use Rattle.std.proofs.lemmas.List.{append-nil}
-use Rattle.std.specs.Prelude.{option_and_then, decimal}
-use Rattle.std.specs.Fmt.{signed_decimal}
+use Rattle.std.proofs.Common.{◌≡◌, ℕ, List, [], ◌∷◌, ◌++◌, false, Option, Some, None, refl, sym, ap, ◌∙◌, append_assoc, arith, inl, inr, append-nil, option_and_then, decimal}
+use Rattle.proto_faults.proofs.Common.{common_steps, signed_decimal}
 use Rattle.serde.specs.Spelling.{spelled}
 use Rattle.serde.specs.declared.name.NameKind.TheVariants.{Field}
 use Rattle.json.specs.Lex.{tokens}

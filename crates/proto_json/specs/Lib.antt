@@ -1,3 +1,4 @@
+pub mod Common
 pub mod DescriptorText
 pub mod JsonText
 pub mod KeyOrder

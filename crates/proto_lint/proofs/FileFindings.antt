@@ -1,8 +1,7 @@
 -- What is found file by file, one more file at a time.
 use Rattle.std.proofs.Common.{◌≡◌, ℕ, suc, ◌+◌, ◌<◌, Bool, List, [], ◌++◌, length, map, drop, drop-cons, sym, ap, ◌∙◌, append_assoc, arith}
 use Rattle.proto_tree.specs.Tree.{End}
-use Rattle.proto_files.specs.GivenFiles.{FileOf, file_at}
-use Rattle.proto_files.specs.FilesRead.{ReadOf, AreRead}
+use Rattle.proto_files.proofs.Common.{FileOf, file_at, ReadOf, AreRead}
 use Rattle.proto_findings.specs.Listings.{FindingOf, found_in}
 use Rattle.proto_lint.specs.Findings.{file_finds, findings_from}
 

@@ -1,9 +1,7 @@
 -- The heads of files, one for each.
 use Rattle.std.proofs.Common.{◌≡◌, ℕ, zero, suc, ◌+◌, ◌<◌, List, [], ◌∷◌, length, get_or, refl, ◌∙◌, ap, arith}
-use Rattle.proto_files.specs.GivenFiles.{FileOf}
-use Rattle.proto_files.specs.FilesRead.{ReadOf}
-use Rattle.proto_lint.specs.Heads.{head_of_file, heads, heads_from}
-use Rattle.proto_lint.specs.Packages.{Head}
+use Rattle.proto_files.proofs.Common.{FileOf, ReadOf}
+use Rattle.proto_lint.specs.Common.{head_of_file, heads, heads_from, Head}
 
 heads_are : (files : List FileOf) (reads : List ReadOf) (n : ℕ) (rs : List ReadOf) → (length (heads_from files reads n rs) ≡ length rs) × ((k : ℕ) (d : Head) → k < length rs → get_or (heads_from files reads n rs) k d ≡ head_of_file files reads (n + k))
 heads_are files reads n [] = (refl, λ k d l. absurd (omega (arith, l)))

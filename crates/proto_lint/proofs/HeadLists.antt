@@ -1,28 +1,14 @@
 -- Heads, and the parts of what they say.
-use Rattle.std.proofs.Common.{◌≡◌, ℕ, zero, suc, ◌+◌, ◌<◌, ◌≤◌, ◌&&◌, Bool, true, false, not, List, [], ◌∷◌, ◌++◌, length, get_or, map, drop, cond, nat_lt, find, Option, Some, None, IfSome, MatchOption, option_map, Bor, refl, sym, ◌∙◌, ap, inl, inr, arith}
-use Rattle.std.specs.Prelude.{◌==◌, codes, slice_get, is_some}
-use Rattle.std.specs.List.{list_all, list_any, position_or_len}
-use Rattle.std.specs.Option.{option_and_then}
-use Rattle.std.specs.Path.{rsplit_once}
-use Rattle.std.specs.Str.{bytes_eq}
-use Rattle.std.proofs.lemmas.Bool.{cases_Bool, cases_lt, cond-true, cond-false, both_ways, false_from_ne_true, or_right}
-use Rattle.std.proofs.lemmas.Bool.Decides.{nat_tests}
-use Rattle.std.proofs.lemmas.List.{length-map}
-use Rattle.std.proofs.lemmas.List.Folds.{find_at}
+use Rattle.std.proofs.Common.{◌≡◌, ℕ, zero, suc, ◌+◌, ◌<◌, ◌≤◌, ◌&&◌, Bool, true, false, not, List, [], ◌∷◌, ◌++◌, length, get_or, map, drop, cond, nat_lt, find, Option, Some, None, IfSome, MatchOption, option_map, Bor, refl, sym, ◌∙◌, ap, inl, inr, arith, ◌==◌, codes, slice_get, is_some, option_and_then, bytes_eq}
+use Rattle.proto_faults.proofs.Common.{list_all, list_any, position_or_len, rsplit_once, cases_Bool, cases_lt, cond-true, cond-false, both_ways, false_from_ne_true, or_right, nat_tests, length-map, find_at, same_from_word, word_from_same}
 use Rattle.proto_text.specs.declared.lexer.Token.{Token}
-use Rattle.proto_text.specs.Tokens.{AreTokens, lexeme_at}
-use Rattle.proto_text.proofs.Once.{one_token_list}
-use Rattle.proto_faults.proofs.Lists.{same_from_word, word_from_same}
+use Rattle.proto_text.proofs.Common.{AreTokens, lexeme_at, one_token_list}
 use Rattle.proto_tree.specs.Tree.{Tree}
-use Rattle.proto_files.specs.GivenFiles.{FileOf, file_at}
+use Rattle.proto_files.proofs.Common.{FileOf, file_at, ReadOf, AreRead, read_at, IsTreeOf, same_tree}
 use Rattle.proto_meaning.specs.Faults.{file_of}
-use Rattle.proto_files.specs.FilesRead.{ReadOf, AreRead, read_at}
-use Rattle.proto_files.proofs.OneReading.{IsTreeOf, same_tree}
 use Rattle.proto_findings.proofs.LastSplit.{split_whole}
-use Rattle.proto_findings.specs.Placed.{back_or, behind_last}
-use Rattle.proto_findings.specs.Readings.{Reading}
-use Rattle.proto_lint.specs.Heads.{head_of, head_of_file, is_there, IsProtoPath}
-use Rattle.proto_lint.specs.Packages.{Head}
+use Rattle.proto_findings.proofs.Common.{back_or, behind_last, Reading}
+use Rattle.proto_lint.specs.Common.{head_of, head_of_file, is_there, IsProtoPath, Head}
 
 -- ---- names
 

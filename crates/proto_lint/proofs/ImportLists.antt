@@ -1,24 +1,16 @@
 -- The import statements of trees.
-use Rattle.std.proofs.Common.{◌≡◌, ℕ, ◌+◌, ◌<◌, List, [], ◌∷◌, ◌++◌, Bor, length, get_or, map, take, refl, sym, ◌∙◌, ap, subst}
-use Rattle.std.specs.Prelude.{is_some}
-use Rattle.std.specs.List.{Contains, flat_map}
-use Rattle.std.proofs.lemmas.Grind.{flat_map-append}
-use Rattle.std.proofs.lemmas.List.{append-nil, map-append}
+use Rattle.std.proofs.Common.{◌≡◌, ℕ, ◌+◌, ◌<◌, List, [], ◌∷◌, ◌++◌, Bor, length, get_or, map, take, refl, sym, ◌∙◌, ap, subst, is_some, Contains, flat_map, append-nil}
+use Rattle.proto_faults.proofs.Common.{flat_map-append, map-append, contains_map}
 use Rattle.proto_text.specs.declared.lexer.Token.{Token}
-use Rattle.proto_text.specs.Strings.{IsString}
-use Rattle.proto_text.specs.Texts.{words}
-use Rattle.proto_faults.proofs.Lists.{contains_map}
+use Rattle.proto_text.proofs.Common.{IsString, words}
 use Rattle.proto_tree.specs.declared.piece.Statement.{Statement}
 use Rattle.proto_tree.specs.declared.piece.Statement.TheVariants as statement
 use Rattle.proto_tree.specs.declared.tree.Import.{Import}
-use Rattle.proto_tree.specs.Reads.{Reads}
-use Rattle.proto_tree.specs.Tree.{Tree, End, Leaf, Block, joined}
-use Rattle.proto_listing.specs.FromTree.{Wanted}
+use Rattle.proto_tree.proofs.Common.{Reads, Tree, End, Leaf, Block, joined}
+use Rattle.proto_listing.proofs.Common.{Wanted, imports_are_strings}
 use Rattle.proto_listing.specs.FromTree as names
-use Rattle.proto_listing.proofs.ReadTrees.{imports_are_strings}
 use Rattle.proto_imports.proofs.Turned.{take_more}
-use Rattle.proto_parts.specs.Parts.{statements}
-use Rattle.proto_parts.proofs.JoinedTrees.{statements_joined}
+use Rattle.proto_parts.proofs.Common.{statements, statements_joined}
 use Rattle.proto_lint.specs.Imports.{imports_in, statement_imports}
 
 pub imports_joined : (t u : Tree) → imports_in (joined t u) ≡ imports_in t ++ imports_in u

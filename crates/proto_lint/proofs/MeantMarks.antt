@@ -1,12 +1,7 @@
 -- Marks of what references mean.
-use Rattle.std.proofs.Common.{◌≡◌, ◌⊎◌, ◌↔◌, ℕ, ◌+◌, ◌<◌, Bool, true, false, List, [], ◌∷◌, ◌++◌, length, get_or, take, Option, None, Some, refl, sym, ◌∙◌, ap, subst, inl, inr, arith, slice_set}
-use Rattle.std.proofs.lemmas.Bool.{cases_eq}
-use Rattle.std.proofs.lemmas.List.{get_or-set_same, get_or-set_other, length-set}
-use Rattle.std.proofs.lemmas.List.Elements.{Contains-append_left, Contains-append_right, Contains-append_cases}
-use Rattle.std.proofs.lemmas.Option.{none-some, same_Some}
-use Rattle.proto_faults.proofs.Lists.{contains_cases, contains_head}
-use Rattle.proto_imports.specs.Walks.{IsMarked}
-use Rattle.proto_imports.proofs.Turned.{take_more}
+use Rattle.std.proofs.Common.{◌≡◌, ◌⊎◌, ◌↔◌, ℕ, ◌+◌, ◌<◌, Bool, true, false, List, [], ◌∷◌, ◌++◌, length, get_or, take, Option, None, Some, refl, sym, ◌∙◌, ap, subst, inl, inr, arith, slice_set, get_or-set_same, get_or-set_other, length-set}
+use Rattle.proto_faults.proofs.Common.{cases_eq, Contains-append_left, Contains-append_right, Contains-append_cases, none-some, same_Some, contains_cases, contains_head}
+use Rattle.proto_imports.proofs.Common.{IsMarked, take_more}
 use Rattle.proto_names.specs.Linking.{LinkOf, file_at}
 use Rattle.proto_names.specs.declared.references.Meant.{Meant}
 use Rattle.proto_lint.specs.ImportTables.{MarksMeant, MeansIn, with_mark}

@@ -1,26 +1,12 @@
 -- The lists of the files that are imported publicly are those of the link's imports.
-use Rattle.std.proofs.Common.{◌≡◌, ℕ, zero, suc, ◌+◌, ◌<◌, Bool, true, false, List, [], ◌∷◌, ◌++◌, length, get_or, map, take, option_map, Option, None, Some, refl, sym, ◌∙◌, ap, subst, inl, inr, arith}
-use Rattle.std.specs.Prelude.{if◌then◌else◌, option_to_list}
-use Rattle.std.specs.List.{All, Contains, cons_option, filter_map}
-use Rattle.std.proofs.lemmas.List.Elements.{Contains-append_left, Contains-append_right, Contains-append_cases, Contains-get_or, filter_map-append}
-use Rattle.std.proofs.lemmas.List.{map-append}
-use Rattle.std.proofs.lemmas.List.Quantifiers.{position-Some}
-use Rattle.std.specs.Str.{bytes_eq}
-use Rattle.std.proofs.lemmas.Option.{none-some, same_Some}
-use Rattle.proto_faults.specs.Texts.{or_nothing}
+use Rattle.std.proofs.Common.{◌≡◌, ℕ, zero, suc, ◌+◌, ◌<◌, Bool, true, false, List, [], ◌∷◌, ◌++◌, length, get_or, map, take, option_map, Option, None, Some, refl, sym, ◌∙◌, ap, subst, inl, inr, arith, if◌then◌else◌, option_to_list, All, Contains, filter_map, bytes_eq}
+use Rattle.proto_faults.proofs.Common.{cons_option, Contains-append_left, Contains-append_right, Contains-append_cases, Contains-get_or, filter_map-append, map-append, position-Some, none-some, same_Some, or_nothing, contains_cases, contains_head, contains_later, contains_map, from_map}
 use Rattle.proto_text.specs.Values.{value_of}
-use Rattle.proto_faults.proofs.Lists.{contains_cases, contains_head, contains_later, contains_map, from_map}
-use Rattle.proto_files.specs.GivenFiles.{FileOf, paths_of}
-use Rattle.proto_meaning.specs.Faults.{Asked, file_of, import_at}
-use Rattle.proto_meaning.specs.Grown.{At, at}
-use Rattle.proto_meaning.specs.Names.{Import}
-use Rattle.proto_listing.specs.FromTree.{Wanted, imports_in}
-use Rattle.proto_listing.specs.Listing.{wanted_of}
+use Rattle.proto_files.proofs.Common.{FileOf, paths_of, ReadOf, AreRead, read_at}
+use Rattle.proto_meaning.proofs.Common.{Asked, file_of, import_at, At, at, Import}
+use Rattle.proto_listing.proofs.Common.{Wanted, imports_in, wanted_of}
 use Rattle.proto_listing.specs.declared.wanted.Wanted.{Wanted as WantedAt}
-use Rattle.proto_files.specs.FilesRead.{ReadOf, AreRead, read_at}
-use Rattle.proto_imports.specs.Links.{all_wanted, asked_as, link_imports, text_of}
-use Rattle.proto_imports.proofs.ImportGraph.{contains_filtered}
-use Rattle.proto_imports.proofs.Turned.{contains_within, take_more}
+use Rattle.proto_imports.proofs.Common.{all_wanted, asked_as, link_imports, text_of, contains_filtered, contains_within, take_more}
 use Rattle.proto_lint.specs.ImportTables.{ArePublic, public_target, public_targets}
 
 -- ---- what a list keeps

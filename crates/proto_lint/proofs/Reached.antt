@@ -1,7 +1,6 @@
 -- What is reached by public imports: the relation, and walks along the lists of files.
 use Rattle.std.proofs.Common.{ℕ, ◌<◌, List, refl, sym, subst}
-use Rattle.proto_meaning.specs.Names.{Import, Workspace, Reaches, here, along}
-use Rattle.proto_meaning.specs.Linked.{AreFiles}
+use Rattle.proto_meaning.proofs.Common.{Import, Workspace, Reaches, here, along, AreFiles}
 use Rattle.proto_imports.specs.Walks.{Walks, stays, goes}
 use Rattle.proto_lint.specs.ImportTables.{ArePublic}
 

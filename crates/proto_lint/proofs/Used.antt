@@ -1,39 +1,14 @@
 -- An import is used where the files that declare what references mean are reached from its file.
-use Rattle.std.proofs.Common.{◌≡◌, ◌≢◌, ◌↔◌, ℕ, suc, ◌+◌, ◌<◌, Bool, true, false, ◌&&◌, if◌then◌else◌, List, [], ◌∷◌, length, get_or, map, option_map, Option, None, Some, refl, sym, ◌∙◌, ap, subst, inl, inr, arith}
-use Rattle.std.specs.Prelude.{◌==◌}
-use Rattle.std.specs.List.{Contains}
-use Rattle.std.specs.Option.{option_and_then}
-use Rattle.std.proofs.lemmas.Bool.{true≢false, and_parts, and_from, eqb-true, eq-eqb}
-use Rattle.std.proofs.lemmas.List.{length-map}
-use Rattle.std.proofs.lemmas.List.Elements.{Contains-append_cases, Contains-get_or}
-use Rattle.std.proofs.lemmas.Option.{none-some, same_Some}
-use Rattle.proto_faults.proofs.Lists.{any_from, any_to, contains_map, from_map}
-use Rattle.proto_files.specs.GivenFiles.{FileOf}
-use Rattle.proto_meaning.specs.Faults.{place_from, place_of}
-use Rattle.proto_meaning.specs.Grown.{At, at, FileNames, all_declared, all_used, declared_of, file_declared, used_in}
-use Rattle.proto_meaning.specs.Joined.{ArePlain, joined}
-use Rattle.proto_meaning.specs.Linked.{is_package}
-use Rattle.proto_meaning.specs.Names.{Symbol, Reference, Workspace, Reaches, is_type, meaning, reaches, same_name}
-use Rattle.proto_meaning.specs.Skeleton.{Source, Token, EntryOf, Given, Declared, Used, name_of, reference_of, shifted_declared, shifted_source, symbol_of}
-use Rattle.proto_meaning.specs.Tree.{Placed, file_placed}
+use Rattle.std.proofs.Common.{◌≡◌, ◌≢◌, ◌↔◌, ℕ, suc, ◌+◌, ◌<◌, Bool, true, false, ◌&&◌, if◌then◌else◌, List, [], ◌∷◌, length, get_or, map, option_map, Option, None, Some, refl, sym, ◌∙◌, ap, subst, inl, inr, arith, ◌==◌, Contains, option_and_then, true≢false, eqb-true, eq-eqb}
+use Rattle.proto_faults.proofs.Common.{and_parts, and_from, length-map, Contains-append_cases, Contains-get_or, none-some, same_Some, any_from, any_to, contains_map, from_map}
+use Rattle.proto_files.proofs.Common.{FileOf, ReadOf, AreRead}
+use Rattle.proto_meaning.proofs.Common.{place_from, place_of, At, at, FileNames, all_declared, all_used, declared_of, file_declared, used_in, ArePlain, joined, is_package, Symbol, Reference, Workspace, Reaches, is_type, meaning, reaches, same_name, Source, Token, EntryOf, Given, Declared, Used, name_of, reference_of, shifted_declared, shifted_source, symbol_of, Placed, file_placed, name_from_same, same_from_name, joined_apart, meant as meant_type, reaches_all, reaches_only}
 use Rattle.proto_meaning.specs.declared.kind.Kind.{Kind}
 use Rattle.proto_meaning.specs.declared.kind.Kind.TheVariants.{Package, Message, Entry, Enum, Service, Field, EntryField, Oneof, Value, Method}
-use Rattle.proto_meaning.proofs.Basics.{name_from_same, same_from_name}
-use Rattle.proto_meaning.proofs.Joined.{joined_apart}
-use Rattle.proto_meaning.proofs.Renamed.{meant as meant_type}
-use Rattle.proto_meaning.proofs.Seeing.{reaches_all, reaches_only}
-use Rattle.proto_files.specs.FilesRead.{ReadOf, AreRead}
-use Rattle.proto_imports.specs.Links.{link_skeleton, names_in, names_of_files, text_of}
-use Rattle.proto_imports.proofs.FileUses.{use_from, use_in}
-use Rattle.proto_imports.proofs.Walks.{marked_within}
-use Rattle.proto_imports.specs.Links.{used_named}
-use Rattle.proto_imports.specs.Links.{uses_of}
-use Rattle.proto_names.specs.LinkOfFiles.{IsLinkRead, TextMeant, meant_by_link, meant_by_use}
-use Rattle.proto_names.specs.Linking.{LinkOf, NameOf, file_at, name_at, own_file}
-use Rattle.proto_names.proofs.MeantNames.{declared_as}
+use Rattle.proto_imports.proofs.Common.{link_skeleton, names_in, names_of_files, text_of, use_from, use_in, marked_within, used_named, uses_of}
+use Rattle.proto_names.proofs.Common.{IsLinkRead, TextMeant, meant_by_link, meant_by_use, LinkOf, NameOf, file_at, name_at, own_file, declared_as}
 use Rattle.proto_case.specs.Camel.{entry_name}
-use Rattle.proto_lint.specs.Imports.{is_reached, is_used}
-use Rattle.proto_lint.specs.ImportTables.{LeadsToMarked, MarksMeant}
+use Rattle.proto_lint.specs.Common.{is_reached, is_used, LeadsToMarked, MarksMeant}
 use Rattle.proto_lint.proofs.Reached.{reached_within}
 
 -- ---- the declarations of files, file after file

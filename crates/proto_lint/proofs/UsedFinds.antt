@@ -1,21 +1,14 @@
 -- What is found of an import that leads to no file that a reference needs.
-use Rattle.std.proofs.Common.{◌≡◌, ◌↔◌, ◌||◌, ℕ, ◌<◌, Bool, true, false, List, [], ◌++◌, length, map, Option, None, Some, refl, sym, ◌∙◌, ap, arith}
-use Rattle.std.specs.Prelude.{is_some, if◌then◌else◌}
-use Rattle.std.specs.Str.{bytes_eq}
-use Rattle.std.proofs.lemmas.List.{length-map}
-use Rattle.std.proofs.lemmas.List.Quantifiers.{position-Some}
+use Rattle.std.proofs.Common.{◌≡◌, ◌↔◌, ◌||◌, ℕ, ◌<◌, Bool, true, false, List, [], ◌++◌, length, map, Option, None, Some, refl, sym, ◌∙◌, ap, arith, is_some, if◌then◌else◌, bytes_eq}
+use Rattle.proto_faults.proofs.Common.{length-map, position-Some}
 use Rattle.proto_tree.specs.declared.tree.Import.{Import}
-use Rattle.proto_files.specs.GivenFiles.{FileOf, paths_of}
-use Rattle.proto_meaning.specs.Faults.{file_of}
-use Rattle.proto_meaning.specs.Names.{Workspace}
-use Rattle.proto_files.specs.FilesRead.{ReadOf, AreRead}
+use Rattle.proto_files.proofs.Common.{FileOf, paths_of, ReadOf, AreRead}
+use Rattle.proto_meaning.proofs.Common.{file_of, Workspace}
 use Rattle.proto_imports.specs.Links.{link_imports, names_of_files}
 use Rattle.proto_rules.specs.declared.rule.Rule.TheVariants as rule
-use Rattle.proto_findings.specs.Placed.{Found, found_at, found_by, unless}
-use Rattle.proto_findings.specs.Readings.{Reading}
+use Rattle.proto_findings.proofs.Common.{Found, found_at, found_by, unless, Reading}
 use Rattle.proto_rules.specs.Rules.{is_chosen}
-use Rattle.proto_lint.specs.Imports.{import_used, is_used, path_of}
-use Rattle.proto_lint.specs.ImportTables.{LeadsToMarked, MarksUsed}
+use Rattle.proto_lint.specs.Common.{import_used, is_used, path_of, LeadsToMarked, MarksUsed}
 
 same_truth : (a b : Bool) → (a ≡ true) ↔ (b ≡ true) → a ≡ b
 same_truth true b h = sym (h.0 refl)

@@ -1,3 +1,4 @@
+pub mod Common
 pub mod Findings
 pub mod Heads
 pub mod ImportTables

@@ -5,10 +5,8 @@ use Rattle.proto_tree.specs.declared.piece.Statement.TheVariants as statement
 use Rattle.proto_tree.specs.declared.piece.Header.{Header}
 use Rattle.proto_tree.specs.declared.piece.Header.TheVariants as header
 use Rattle.proto_tree.specs.Tree.{Tree, End, Leaf, Block, joined}
-use Rattle.proto_meaning.specs.Skeleton.{Source, Used}
-use Rattle.proto_meaning.specs.Tree.{Member, field, map_field, oneof, message, enum, service, Members, member, Items, item, Placed, placed, all_placed, package_of}
-use Rattle.proto_listing.specs.Listing.{items_below}
-use Rattle.proto_listing.specs.FromTree.{field_names, value_names, method_names, no_names, block_names, picked, members_in, statement_imports, imports_in, file_block, items_in, statement_uses, header_uses, flat_uses, block_uses, scope_in, member_uses, item_uses}
+use Rattle.proto_meaning.proofs.Common.{Source, Used, Member, field, map_field, oneof, message, enum, service, Members, member, Items, item, Placed, placed, all_placed, package_of}
+use Rattle.proto_listing.specs.Common.{items_below, field_names, value_names, method_names, no_names, block_names, picked, members_in, statement_imports, imports_in, file_block, items_in, statement_uses, header_uses, flat_uses, block_uses, scope_in, member_uses, item_uses}
 
 pub imports_joined : (t u : Tree) → imports_in (joined t u) ≡ imports_in t ++ imports_in u
 imports_joined End u = refl

@@ -1,8 +1,6 @@
 -- The tokens of a tree stand in order, so what it declares is spread over them, and each reference stands in a declaration (for the crates above).
-use Rattle.std.proofs.Common.{◌≡◌, ◌≢◌, ℕ, suc, get_or, ◌+◌, ◌<◌, ◌≤◌, true, false, List, [], ◌∷◌, ◌++◌, length, refl, sym, ◌∙◌, ap, subst, inl, inr, ◌⊎◌, arith, map, length-append}
-use Rattle.std.specs.List.{Contains, All}
-use Rattle.std.proofs.lemmas.Bool.{true≢false}
-use Rattle.std.proofs.lemmas.List.Elements.{Contains-append_left, Contains-append_right, Contains-append_cases, Contains-get_or}
+use Rattle.std.proofs.Common.{◌≡◌, ◌≢◌, ℕ, suc, get_or, ◌+◌, ◌<◌, ◌≤◌, true, false, List, [], ◌∷◌, ◌++◌, length, refl, sym, ◌∙◌, ap, subst, inl, inr, ◌⊎◌, arith, map, length-append, Contains, All, true≢false}
+use Rattle.proto_faults.proofs.Common.{Contains-append_left, Contains-append_right, Contains-append_cases, Contains-get_or, contains_head, contains_later, contains_cases}
 use Rattle.proto_tree.specs.declared.class.Class.{Class}
 use Rattle.proto_tree.specs.declared.class.Class.TheVariants as class
 use Rattle.proto_tree.specs.declared.class.Want.TheVariants as want
@@ -24,17 +22,10 @@ use Rattle.proto_tree.specs.declared.context.Context.{Context}
 use Rattle.proto_tree.specs.declared.context.Context.TheVariants as context
 use Rattle.proto_tree.specs.declared.context.Kind.TheVariants as kind
 use Rattle.proto_text.specs.Tokens.{Lexeme}
-use Rattle.proto_tree.specs.Words.{classes}
-use Rattle.proto_tree.specs.Flat.{Mark, Fit, mark, one, name, only, flat_option, flat_all, flat_behind, flat_type, flat_settings, flat_separated, flat_package, flat_field, flat_map_field, flat_value, flat_signed, flat_method_type, flat_signature, flat_statement, flat_heading, flat_header}
-use Rattle.proto_tree.specs.Tree.{Tree, End, Leaf, Block, flat, allows, after, statement_kind, header_kind, IsWellFormed, Spells}
+use Rattle.proto_tree.proofs.Common.{classes, Mark, Fit, mark, one, name, only, flat_option, flat_all, flat_behind, flat_type, flat_settings, flat_separated, flat_package, flat_field, flat_map_field, flat_value, flat_signed, flat_method_type, flat_signature, flat_statement, flat_heading, flat_header, Tree, End, Leaf, Block, flat, allows, after, statement_kind, header_kind, IsWellFormed, Spells, dotted}
 use Rattle.proto_meaning.specs.declared.kind.Kind.TheVariants.{Message, Service, Method}
-use Rattle.proto_meaning.specs.Skeleton.{Source, Token, Used}
-use Rattle.proto_meaning.specs.Tree.{Member, field, map_field, oneof, message, enum, service, Members, no_members, member, Items, no_items, packaged, item, Placed, place, placed, all_placed, package_of, prefixes, items_placed, file_placed, Spans, AllSpan, Rises, ItemsSpan}
-use Rattle.proto_meaning.specs.Grown.{IsGrown}
-use Rattle.proto_tree.specs.References.{dotted}
+use Rattle.proto_meaning.proofs.Common.{Source, Token, Used, Member, field, map_field, oneof, message, enum, service, Members, no_members, member, Items, no_items, packaged, item, Placed, place, placed, all_placed, package_of, prefixes, items_placed, file_placed, Spans, AllSpan, Rises, ItemsSpan, IsGrown, prefix_whole, package_within}
 use Rattle.proto_listing.specs.FromTree.{field_names, value_names, method_names, no_names, block_names, picked, add_statement, add_block, members_in, file_statement, file_block, items_in, statement_uses, type_uses, used_as, signature_uses, header_uses, flat_uses, member_uses, item_uses, file_names}
-use Rattle.proto_faults.proofs.Lists.{contains_head, contains_later, contains_cases}
-use Rattle.proto_meaning.proofs.Items.{prefix_whole, package_within}
 
 -- the indices of the marks are those from n on, in order
 abbrev pub IsNumbered : ℕ → List Mark → Type 0

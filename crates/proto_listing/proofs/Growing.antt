@@ -1,21 +1,12 @@
 -- Lists of declarations and references, as they grow (for the crates above).
-use Rattle.std.proofs.Common.{◌≡◌, ℕ, suc, ◌+◌, ◌<◌, ◌≤◌, List, [], ◌∷◌, ◌++◌, length, get_or, map, refl, sym, ◌∙◌, ap, subst, arith, append_assoc, length-append, inl, inr, drop, Option, Some}
-use Rattle.std.specs.List.{All}
-use Rattle.std.proofs.lemmas.Bool.{cases_lt}
-use Rattle.std.proofs.lemmas.List.{map-append, length-map, get_or_append_left, append-nil, at_drop_more, at_drop_all}
+use Rattle.std.proofs.Common.{◌≡◌, ℕ, suc, ◌+◌, ◌<◌, ◌≤◌, List, [], ◌∷◌, ◌++◌, length, get_or, map, refl, sym, ◌∙◌, ap, subst, arith, append_assoc, length-append, inl, inr, drop, Option, Some, All, append-nil}
+use Rattle.proto_faults.proofs.Common.{cases_lt, map-append, length-map, get_or_append_left, at_drop_more, at_drop_all}
 use Rattle.std.proofs.Math.Seq.{get_or-append_seam}
-use Rattle.proto_tree.specs.Tree.{Tree, End, joined}
-use Rattle.proto_tree.specs.File.{trees}
+use Rattle.proto_tree.proofs.Common.{Tree, End, joined, trees}
 use Rattle.proto_meaning.specs.declared.kind.Kind.{Kind}
-use Rattle.proto_listing.specs.FromTree.{used_as}
-use Rattle.proto_meaning.specs.Skeleton.{Source, Token, EntryOf, Given, Used}
-use Rattle.proto_meaning.specs.Tree.{Placed, place, token_of}
-use Rattle.proto_listing.specs.declared.listing.Above.{Above}
-use Rattle.proto_listing.specs.declared.listing.Above.TheVariants.{Outermost, Below}
-use Rattle.proto_listing.specs.declared.listing.Listed.{Listed}
+use Rattle.proto_listing.specs.Common.{used_as, Above, Outermost, Below, Listed, Listing, whole, path_of, path_at, seen, read_on, read, needs, used_by, uses_in, Adds, later, last_token}
+use Rattle.proto_meaning.proofs.Common.{Source, Token, EntryOf, Given, Used, Placed, place, token_of}
 use Rattle.proto_listing.specs.declared.listing.Use.{Use}
-use Rattle.proto_listing.specs.declared.listing.Listing.{Listing}
-use Rattle.proto_listing.specs.Listing.{whole, path_of, path_at, seen, read_on, read, needs, used_by, uses_in, Adds, later, last_token}
 
 -- ---- reading
 

@@ -1,27 +1,16 @@
 -- What a tree that was read imports, declares and refers to stands at tokens that are there (for the crates above).
-use Rattle.std.proofs.Common.{◌≡◌, ℕ, suc, ◌+◌, ◌<◌, ◌≤◌, List, [], ◌∷◌, ◌++◌, length, map, Option, Some, None, refl, ap, subst, ◌∙◌, arith}
-use Rattle.std.specs.List.{AllByRecursion, Contains}
-use Rattle.std.proofs.lemmas.List.Elements.{All-contains, All-from_recursion}
+use Rattle.std.proofs.Common.{◌≡◌, ℕ, suc, ◌+◌, ◌<◌, ◌≤◌, List, [], ◌∷◌, ◌++◌, length, map, Option, Some, None, refl, ap, subst, ◌∙◌, arith, Contains}
+use Rattle.proto_faults.proofs.Common.{AllByRecursion, All-contains, All-from_recursion}
 use Rattle.proto_text.specs.declared.lexer.Token.{Token as TextToken}
-use Rattle.proto_text.specs.Tokens.{Lexeme, lexeme_at}
-use Rattle.proto_text.proofs.OneEdit.{length_map}
+use Rattle.proto_text.proofs.Common.{Lexeme, lexeme_at, length_map}
 use Rattle.proto_tree.specs.declared.class.Class.TheVariants as class
 use Rattle.proto_tree.specs.declared.class.Want.{Want}
 use Rattle.proto_tree.specs.declared.class.Want.TheVariants as want
-use Rattle.proto_tree.specs.Flat.{Mark, Fit}
-use Rattle.proto_tree.specs.Laws.{Numbered}
-use Rattle.proto_tree.specs.Reads.{Reads}
-use Rattle.proto_tree.specs.Tree.{Tree, flat}
-use Rattle.proto_tree.specs.Words.{classes}
-use Rattle.proto_tree.proofs.MarkLaws.{trees_are_numbered}
-use Rattle.proto_meaning.specs.Skeleton.{Source, Token, EntryOf, Given, Used}
-use Rattle.proto_meaning.specs.Tree.{Member, field, map_field, oneof, message, enum, service, Members, no_members, member, Items, no_items, packaged, item, Placed, place, placed, all_placed, prefixes, items_placed, package_of, file_placed, key_word, value_word}
+use Rattle.proto_tree.proofs.Common.{Mark, Fit, Numbered, Reads, Tree, flat, classes, trees_are_numbered}
+use Rattle.proto_meaning.proofs.Common.{Source, Token, EntryOf, Given, Used, Member, field, map_field, oneof, message, enum, service, Members, no_members, member, Items, no_items, packaged, item, Placed, place, placed, all_placed, prefixes, items_placed, package_of, file_placed, key_word, value_word, place_from, rising_each}
 use Rattle.proto_meaning.specs.declared.kind.Kind.{Kind}
-use Rattle.proto_meaning.specs.Faults.{place_from}
-use Rattle.proto_listing.specs.FromTree.{Wanted, imports_in, items_in, file_names}
-use Rattle.proto_listing.specs.Listing.{whole, last_token, later}
+use Rattle.proto_listing.specs.Common.{Wanted, imports_in, items_in, file_names, whole, last_token, later}
 use Rattle.proto_listing.proofs.Growing.{token_last, entry_last, given_last}
-use Rattle.proto_meaning.proofs.RisingLists.{rising_each}
 use Rattle.proto_listing.proofs.MarkedTokens.{Are, Known}
 use Rattle.proto_listing.proofs.MarkedNames.{declared_worded}
 use Rattle.proto_listing.proofs.MarkedUses.{Uses, items_rise, imports_rise, words_past}

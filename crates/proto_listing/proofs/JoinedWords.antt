@@ -1,8 +1,6 @@
 -- Words joined by dots, one behind another (for the crates above).
 use lib.Utf8.{encode}
-use Rattle.std.proofs.Common.{◌≡◌, ℕ, List, [], ◌∷◌, ◌++◌, sym, ◌∙◌, ap, append_assoc, arith}
-use Rattle.std.specs.List.{flat_map}
-use Rattle.std.proofs.lemmas.List.{append-nil}
+use Rattle.std.proofs.Common.{◌≡◌, ℕ, List, [], ◌∷◌, ◌++◌, sym, ◌∙◌, ap, append_assoc, arith, flat_map, append-nil}
 use Rattle.std.proofs.lemmas.Str.{encode_ascii}
 use Rattle.proto_meaning.specs.Joined.{joined}
 

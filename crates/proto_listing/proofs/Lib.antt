@@ -1,4 +1,5 @@
 mod Behind
+pub mod Common
 pub mod FromTree
 pub mod Growing
 pub mod InTokens

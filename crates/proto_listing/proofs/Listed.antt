@@ -1,23 +1,16 @@
 -- What the items of a block add to a list.
-use Rattle.std.proofs.Common.{◌≡◌, ℕ, List, [], ◌∷◌, ◌++◌, length, map, refl, sym, ap, ◌∙◌, arith, Some, subst}
-use Rattle.std.proofs.lemmas.List.{map-append, append-nil}
+use Rattle.std.proofs.Common.{◌≡◌, ℕ, List, [], ◌∷◌, ◌++◌, length, map, refl, sym, ap, ◌∙◌, arith, Some, subst, append-nil}
+use Rattle.std.proofs.lemmas.List.{map-append}
 use Rattle.proto_tree.specs.declared.tree.Signature.{Signature}
 use Rattle.proto_tree.specs.declared.tree.MethodEnd.{MethodEnd}
 use Rattle.proto_tree.specs.declared.tree.MethodEnd.TheVariants as method_end
 use Rattle.proto_tree.specs.declared.piece.Statement.{Statement}
 use Rattle.proto_tree.specs.declared.piece.Header.{Header}
-use Rattle.proto_tree.specs.Tree.{Tree, joined}
-use Rattle.proto_tree.specs.File.{method_by}
+use Rattle.proto_tree.proofs.Common.{Tree, joined, method_by}
 use Rattle.proto_meaning.specs.declared.kind.Kind.{Kind}
 use Rattle.proto_meaning.specs.declared.kind.Kind.TheVariants.{Field, Value, Method}
-use Rattle.proto_meaning.specs.Skeleton.{Source, Token, Used}
-use Rattle.proto_meaning.specs.Tree.{Placed, place, all_placed, package_of, prefixes}
-use Rattle.proto_listing.specs.FromTree.{field_names, value_names, method_names, no_names, block_names, picked, members_in, items_in, signature_uses, flat_uses, member_uses, item_uses, file_names}
-use Rattle.proto_listing.specs.declared.listing.Above.{Above}
-use Rattle.proto_listing.specs.declared.listing.Above.TheVariants.{Outermost}
-use Rattle.proto_listing.specs.declared.listing.Listed.{Listed}
-use Rattle.proto_listing.specs.declared.listing.Listing.{Listing}
-use Rattle.proto_listing.specs.Listing.{Adds, IsSound, items_below, package_first, path_at, read, used_by, uses_in, last_token, whole}
+use Rattle.proto_meaning.proofs.Common.{Source, Token, Used, Placed, place, all_placed, package_of, prefixes}
+use Rattle.proto_listing.specs.Common.{field_names, value_names, method_names, no_names, block_names, picked, members_in, items_in, signature_uses, flat_uses, member_uses, item_uses, file_names, Above, Outermost, Listed, Listing, Adds, IsSound, items_below, package_first, path_at, read, used_by, uses_in, last_token, whole}
 use Rattle.proto_listing.proofs.Behind.{picked_joined, members_joined, items_joined, flat_joined, member_uses_joined, item_uses_joined}
 use Rattle.proto_listing.proofs.Growing.{IsParted}
 

@@ -1,10 +1,6 @@
 -- What a tree declares, by the tokens of its names: these rise, and each is what its place wants.
-use Rattle.std.proofs.Common.{◌≡◌, ◌≢◌, ℕ, ◌+◌, ◌<◌, ◌≤◌, false, List, [], ◌∷◌, ◌++◌, length, Some, refl, sym, ◌∙◌, ap, subst, inl, inr, arith, map}
-use Rattle.std.specs.List.{All, AllByRecursion, AllPairs, Contains}
-use Rattle.std.proofs.lemmas.Bool.{true≢false}
-use Rattle.std.proofs.lemmas.Option.{same_Some}
-use Rattle.std.proofs.lemmas.List.Elements.{All-nil, All-cons, All-weaker, All-contains, All-from_recursion, Contains-append_left, Contains-append_right, Contains-append_cases}
-use Rattle.std.proofs.lemmas.List.Kept.{AllPairs-cons}
+use Rattle.std.proofs.Common.{◌≡◌, ◌≢◌, ℕ, ◌+◌, ◌<◌, ◌≤◌, false, List, [], ◌∷◌, ◌++◌, length, Some, refl, sym, ◌∙◌, ap, subst, inl, inr, arith, map, All, AllPairs, Contains, true≢false}
+use Rattle.proto_faults.proofs.Common.{AllByRecursion, same_Some, All-nil, All-cons, All-weaker, All-contains, All-from_recursion, Contains-append_left, Contains-append_right, Contains-append_cases, AllPairs-cons}
 use Rattle.proto_tree.specs.declared.class.Class.TheVariants as class
 use Rattle.proto_tree.specs.declared.class.Want.TheVariants as want
 use Rattle.proto_tree.specs.declared.tree.Behind.{Behind}
@@ -16,18 +12,12 @@ use Rattle.proto_tree.specs.declared.piece.Statement.{Statement}
 use Rattle.proto_tree.specs.declared.piece.Statement.TheVariants as statement
 use Rattle.proto_tree.specs.declared.piece.Header.{Header}
 use Rattle.proto_tree.specs.declared.piece.Header.TheVariants as header
-use Rattle.proto_tree.specs.Flat.{Mark, mark, only, one, word, name, flat_option, flat_separated, flat_all, flat_behind, flat_type, flat_settings, flat_dotted, flat_field, flat_map_field, flat_value, flat_signature, flat_statement, flat_header}
-use Rattle.proto_tree.specs.Tree.{Tree, End, Leaf, Block, flat}
+use Rattle.proto_tree.proofs.Common.{Mark, mark, only, one, word, name, flat_option, flat_separated, flat_all, flat_behind, flat_type, flat_settings, flat_dotted, flat_field, flat_map_field, flat_value, flat_signature, flat_statement, flat_header, Tree, End, Leaf, Block, flat, dotted}
 use Rattle.proto_meaning.specs.declared.kind.Kind.{Kind}
 use Rattle.proto_meaning.specs.declared.kind.Kind.TheVariants.{Package, Message, Enum, Service, Field, Oneof, Value, Method}
-use Rattle.proto_meaning.specs.Linked.{is_package}
-use Rattle.proto_meaning.specs.Skeleton.{Source, Token, EntryOf}
-use Rattle.proto_meaning.specs.Tree.{Members, Items, field, map_field, Placed, place, key_word, value_word, placed, all_placed, prefixes, package_of}
-use Rattle.proto_listing.specs.Listing.{whole, last_token, items_below, package_first}
-use Rattle.proto_tree.specs.References.{dotted}
-use Rattle.proto_listing.specs.FromTree.{field_names, value_names, method_names, no_names, block_names, picked, add_statement, members_in, file_statement, items_in, file_block}
+use Rattle.proto_meaning.proofs.Common.{is_package, Source, Token, EntryOf, Members, Items, field, map_field, Placed, place, key_word, value_word, placed, all_placed, prefixes, package_of, Rising, rising_spreads, Spreads, pairs_append}
+use Rattle.proto_listing.specs.Common.{whole, last_token, items_below, package_first, field_names, value_names, method_names, no_names, block_names, picked, add_statement, members_in, file_statement, items_in, file_block}
 use Rattle.proto_listing.proofs.Growing.{token_last, entry_last, given_last}
-use Rattle.proto_meaning.proofs.RisingLists.{Rising, rising_spreads, Spreads, pairs_append}
 use Rattle.proto_listing.proofs.MarkedTokens.{Are, are_left, are_right, are_at, heading_at, leaf_step, block_step}
 
 module _ (W R S : ℕ → Type 0) where

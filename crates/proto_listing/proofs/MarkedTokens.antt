@@ -1,6 +1,5 @@
 -- The tokens of a stretch of marks: they are numbered in order, and each is what its place wants.
-use Rattle.std.proofs.Common.{◌≡◌, ℕ, suc, ◌+◌, ◌<◌, ◌≤◌, List, [], ◌∷◌, ◌++◌, length, refl, ap, subst, inl, inr, arith, length-append}
-use Rattle.std.specs.List.{Contains}
+use Rattle.std.proofs.Common.{◌≡◌, ℕ, suc, ◌+◌, ◌<◌, ◌≤◌, List, [], ◌∷◌, ◌++◌, length, refl, ap, subst, inl, inr, arith, length-append, Contains}
 use Rattle.proto_tree.specs.declared.class.Class.{Class}
 use Rattle.proto_tree.specs.declared.class.Class.TheVariants as class
 use Rattle.proto_tree.specs.declared.class.Want.{Want}
@@ -8,9 +7,7 @@ use Rattle.proto_tree.specs.declared.class.Want.TheVariants as want
 use Rattle.proto_tree.specs.declared.piece.Statement.{Statement}
 use Rattle.proto_tree.specs.declared.piece.Heading.{Heading}
 use Rattle.proto_tree.specs.declared.piece.Header.{Header}
-use Rattle.proto_tree.specs.Flat.{Mark, mark, one, flat_statement, flat_heading, flat_header}
-use Rattle.proto_tree.specs.Laws.{Numbered}
-use Rattle.proto_tree.specs.Tree.{Tree, Leaf, Block, flat}
+use Rattle.proto_tree.proofs.Common.{Mark, mark, one, flat_statement, flat_heading, flat_header, Numbered, Tree, Leaf, Block, flat}
 use Rattle.proto_faults.proofs.Lists.{contains_head, contains_later, contains_cases}
 use Rattle.proto_meaning.proofs.RisingLists.{Spreads}
 

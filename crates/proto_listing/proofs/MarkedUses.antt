@@ -1,9 +1,6 @@
 -- The references and imports of a tree, by their tokens: these rise, and each is what its place wants.
-use Rattle.std.proofs.Common.{◌≡◌, ℕ, ◌+◌, ◌<◌, ◌≤◌, Bool, true, false, List, [], ◌∷◌, ◌++◌, length, get_or, map, Option, Some, None, is_some, refl, sym, ap, subst, ◌∙◌, inl, inr, arith, length-append}
-use Rattle.std.specs.List.{All, AllByRecursion, AllPairs, Contains}
-use Rattle.std.proofs.lemmas.List.Elements.{All-nil, All-cons, All-weaker, Contains-append_right}
-use Rattle.std.proofs.lemmas.List.Kept.{AllPairs-cons}
-use Rattle.proto_faults.proofs.Lists.{contains_cases, contains_head}
+use Rattle.std.proofs.Common.{◌≡◌, ℕ, ◌+◌, ◌<◌, ◌≤◌, Bool, true, false, List, [], ◌∷◌, ◌++◌, length, get_or, map, Option, Some, None, is_some, refl, sym, ap, subst, ◌∙◌, inl, inr, arith, length-append, All, AllPairs, Contains}
+use Rattle.proto_faults.proofs.Common.{AllByRecursion, All-nil, All-cons, All-weaker, Contains-append_right, AllPairs-cons, contains_cases, contains_head}
 use Rattle.proto_tree.specs.declared.class.Class.TheVariants as class
 use Rattle.proto_tree.specs.declared.class.Want.TheVariants as want
 use Rattle.proto_tree.specs.declared.tree.Behind.{Behind}
@@ -17,13 +14,10 @@ use Rattle.proto_tree.specs.declared.piece.Statement.{Statement}
 use Rattle.proto_tree.specs.declared.piece.Statement.TheVariants as statement
 use Rattle.proto_tree.specs.declared.piece.Header.{Header}
 use Rattle.proto_tree.specs.declared.piece.Header.TheVariants as header
-use Rattle.proto_tree.specs.Flat.{mark, only, one, word, name, text, flat_all, flat_behind, flat_option, flat_words, flat_reference, flat_type, flat_settings, flat_import, flat_field, flat_map_field, flat_method_type, flat_signature, flat_statement, flat_header}
-use Rattle.proto_tree.specs.Tree.{Tree, End, Leaf, Block, flat}
-use Rattle.proto_meaning.specs.Skeleton.{Source, Token, Used}
-use Rattle.proto_tree.specs.References.{dotted, first_of, word_token}
+use Rattle.proto_tree.proofs.Common.{mark, only, one, word, name, text, flat_all, flat_behind, flat_option, flat_words, flat_reference, flat_type, flat_settings, flat_import, flat_field, flat_map_field, flat_method_type, flat_signature, flat_statement, flat_header, Tree, End, Leaf, Block, flat, dotted, first_of, word_token}
+use Rattle.proto_meaning.proofs.Common.{Source, Token, Used, Rising, rising_spreads, Spreads}
 use Rattle.proto_tree.proofs.SpacedWords.{words_stand_apart}
 use Rattle.proto_listing.specs.FromTree.{used_as, type_uses, signature_uses, statement_uses, header_uses, flat_uses, member_uses, item_uses, Wanted, statement_imports, imports_in}
-use Rattle.proto_meaning.proofs.RisingLists.{Rising, rising_spreads, Spreads}
 use Rattle.proto_listing.proofs.MarkedTokens.{Are, are_numbered, are_left, are_right, are_at, leaf_step, block_step}
 
 module _ (W R S : ℕ → Type 0) where

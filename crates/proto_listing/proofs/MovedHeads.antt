@@ -7,9 +7,7 @@ use Rattle.proto_tree.specs.declared.piece.Statement.{Statement}
 use Rattle.proto_tree.specs.declared.piece.Statement.TheVariants as statement
 use Rattle.proto_tree.specs.declared.tree.Behind.{Behind}
 use Rattle.proto_tree.specs.declared.tree.Separated.{Separated}
-use Rattle.proto_tree.specs.Moved.{Move, move_behind, move_header, move_option, move_separated, move_statement, move_tree}
-use Rattle.proto_tree.specs.References.{dotted}
-use Rattle.proto_tree.specs.Tree.{Tree, End, Leaf, Block}
+use Rattle.proto_tree.proofs.Common.{Move, move_behind, move_header, move_option, move_separated, move_statement, move_tree, dotted, Tree, End, Leaf, Block}
 use Rattle.proto_meaning.specs.Tree.{package_of}
 use Rattle.proto_listing.specs.FromTree.{Wanted, imports_in, items_in, statement_imports}
 use Rattle.proto_listing.specs.Moved.{move_wanted}

@@ -1,9 +1,7 @@
 -- A file declares the same with its package first (for the crates above).
-use Rattle.std.proofs.Common.{◌≡◌, ◌↔◌, ℕ, List, [], ◌++◌, refl, sym, ◌∙◌, ap, subst, inl, inr, map}
-use Rattle.std.specs.List.{Contains}
+use Rattle.std.proofs.Common.{◌≡◌, ◌↔◌, ℕ, List, [], ◌++◌, refl, sym, ◌∙◌, ap, subst, inl, inr, map, Contains}
 use Rattle.std.proofs.lemmas.List.Elements.{Contains-append_left, Contains-append_right, Contains-append_cases}
-use Rattle.proto_meaning.specs.Skeleton.{Source, Token}
-use Rattle.proto_meaning.specs.Tree.{Items, no_items, packaged, item, Placed, placed, prefixes, package_of, items_placed, file_placed, ItemsSpan}
+use Rattle.proto_meaning.proofs.Common.{Source, Token, Items, no_items, packaged, item, Placed, placed, prefixes, package_of, items_placed, file_placed, ItemsSpan}
 use Rattle.proto_listing.specs.Listing.{items_below, package_first}
 
 -- without a package

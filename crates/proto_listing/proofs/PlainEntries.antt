@@ -1,10 +1,6 @@
 -- The name of an entry is a plain word where that of its field is (for the crates above).
-use Rattle.std.proofs.Common.{◌≡◌, ◌≢◌, ℕ, ◌-◌, Bool, true, false, ◌||◌, List, [], ◌∷◌, ◌++◌, refl, sym, ◌∙◌, ap, inl, inr, arith, if◌then◌else◌}
-use Rattle.std.specs.Prelude.{◌==◌, codes}
-use Rattle.std.specs.Char.{to_ascii_uppercase}
-use Rattle.std.specs.List.{list_any}
-use Rattle.std.proofs.lemmas.Bool.{cases_Bool, cond-true, cond-false, or_parts}
-use Rattle.std.proofs.lemmas.List.Folds.{list_any-append}
+use Rattle.std.proofs.Common.{◌≡◌, ◌≢◌, ℕ, ◌-◌, Bool, true, false, ◌||◌, List, [], ◌∷◌, ◌++◌, refl, sym, ◌∙◌, ap, inl, inr, arith, if◌then◌else◌, ◌==◌, codes}
+use Rattle.proto_faults.proofs.Common.{to_ascii_uppercase, list_any, cases_Bool, cond-true, cond-false, or_parts, list_any-append}
 use Rattle.proto_case.specs.Camel.{camel_from, entry_name}
 use Rattle.proto_case.proofs.Camel.{no_upper}
 use Rattle.proto_meaning.specs.Joined.{IsPlain}

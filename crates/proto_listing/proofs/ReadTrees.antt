@@ -1,43 +1,25 @@
 -- What is known of the tokens of a tree that was read from a text (for the crates above).
-use Rattle.std.proofs.Common.{◌≡◌, ◌≢◌, ℕ, zero, suc, ◌<◌, ◌≤◌, Bool, true, false, ◌||◌, ◌==◌, List, [], ◌∷◌, length, get_or, map, Some, refl, sym, ap, subst, ◌∙◌, inl, inr, arith, cond}
-use Rattle.std.specs.List.{list_any, AllByRecursion, AllPairs, Contains}
-use Rattle.std.specs.Str.{bytes_eq}
-use Rattle.std.proofs.lemmas.Bool.{cases_Bool, eqb-true}
+use Rattle.std.proofs.Common.{◌≡◌, ◌≢◌, ℕ, zero, suc, ◌<◌, ◌≤◌, Bool, true, false, ◌||◌, ◌==◌, List, [], ◌∷◌, length, get_or, map, Some, refl, sym, ap, subst, ◌∙◌, inl, inr, arith, cond, AllPairs, Contains, bytes_eq, eqb-true}
+use Rattle.proto_faults.proofs.Common.{list_any, AllByRecursion, cases_Bool}
 use Rattle.proto_text.specs.declared.class.Class.TheVariants.{Letter}
 use Rattle.proto_text.specs.declared.kind.PieceKind.TheVariants.{Solid}
 use Rattle.proto_text.specs.declared.kind.TokenKind.{TokenKind}
 use Rattle.proto_text.specs.declared.kind.TokenKind.TheVariants.{Word, Number, Text, Punctuation}
 use Rattle.proto_text.specs.declared.lexer.Token.{Token}
-use Rattle.proto_text.specs.Bytes.{Each}
-use Rattle.proto_text.specs.Classes.{class_of, extends_word, is_identifier}
-use Rattle.proto_text.specs.Pieces.{IsRun, IsLexeme}
-use Rattle.proto_text.specs.Strings.{IsString}
-use Rattle.proto_text.specs.Texts.{word_at, words}
-use Rattle.proto_text.specs.Tokens.{Lexeme, lexeme_at}
-use Rattle.proto_text.proofs.Order.{tokens_are_lexemes}
+use Rattle.proto_text.proofs.Common.{Each, class_of, extends_word, is_identifier, IsRun, IsLexeme, IsString, word_at, words, Lexeme, lexeme_at, tokens_are_lexemes}
 use Rattle.proto_tree.specs.declared.class.Class.{Class}
 use Rattle.proto_tree.specs.declared.class.Class.TheVariants as class
 use Rattle.proto_tree.specs.declared.class.Want.{Want}
 use Rattle.proto_tree.specs.declared.class.Want.TheVariants as want
-use Rattle.proto_tree.specs.Classes.{is_word, is_text, fits}
-use Rattle.proto_tree.specs.Flat.{Mark}
-use Rattle.proto_tree.specs.Reads.{Reads}
-use Rattle.proto_tree.specs.Tree.{Tree, flat}
-use Rattle.proto_tree.specs.Words.{Listed, class_in, marks, class_by}
-use Rattle.proto_tree.proofs.MarkLaws.{trees_are_numbered, marks_fit}
-use Rattle.proto_tree.proofs.WordLaws.{word_is_word, words_only, place_of_word}
-use Rattle.proto_listing.specs.FromTree.{Wanted, items_in, imports_in, file_names}
-use Rattle.proto_meaning.specs.Joined.{IsPlain, ArePlain}
-use Rattle.proto_listing.specs.Listing.{whole, last_token, package_first}
+use Rattle.proto_tree.proofs.Common.{is_word, is_text, fits, Mark, Reads, Tree, flat, Listed, class_in, marks, class_by, trees_are_numbered, marks_fit, word_is_word, words_only, place_of_word}
+use Rattle.proto_listing.specs.Common.{Wanted, items_in, imports_in, file_names, whole, last_token, package_first}
+use Rattle.proto_meaning.proofs.Common.{IsPlain, ArePlain, Token as TokenOf, Used, Placed, ItemsSpan, package_of, file_placed, rising_each, rising_pairs}
 use Rattle.proto_meaning.specs.declared.kind.Kind.TheVariants.{Package}
-use Rattle.proto_meaning.specs.Skeleton.{Token as TokenOf, Used}
-use Rattle.proto_meaning.specs.Tree.{Placed, ItemsSpan, package_of, file_placed}
 use Rattle.proto_listing.proofs.FromTree.{tree_grown}
 use Rattle.proto_listing.proofs.MarkedNames.{declared_worded, declared_ascend, packages_before}
 use Rattle.proto_listing.proofs.MarkedTokens.{Are, are_from, Known}
 use Rattle.proto_listing.proofs.MarkedUses.{Uses, items_rise, Imports, imports_rise, uses_each, uses_firsts}
 use Rattle.proto_listing.proofs.PackageFirst.{same_declared}
-use Rattle.proto_meaning.proofs.RisingLists.{rising_each, rising_pairs}
 
 -- ---- words hold no point
 

@@ -1,19 +1,12 @@
 -- A token that names a declaration is no word of a reference, and a token is one word of one reference (for the crates above).
-use Rattle.std.proofs.Common.{◌≡◌, ℕ, List, length, map, refl, ap, arith}
-use Rattle.std.specs.List.{Contains}
+use Rattle.std.proofs.Common.{◌≡◌, ℕ, List, length, map, refl, ap, arith, Contains}
 use Rattle.std.proofs.lemmas.List.Elements.{All-contains, All-from_recursion}
 use Rattle.proto_text.specs.Tokens.{Lexeme}
 use Rattle.proto_tree.specs.declared.class.Class.TheVariants as class
 use Rattle.proto_tree.specs.declared.class.Want.{Want}
 use Rattle.proto_tree.specs.declared.class.Want.TheVariants as want
-use Rattle.proto_tree.specs.Flat.{Mark}
-use Rattle.proto_tree.specs.Roles.{HasRole, Role, names, refers, role_of}
-use Rattle.proto_tree.specs.Tree.{Tree, Spells, flat}
-use Rattle.proto_tree.specs.Words.{classes}
-use Rattle.proto_tree.proofs.MarkLaws.{trees_are_numbered}
-use Rattle.proto_tree.proofs.Roles.{roles_are_one}
-use Rattle.proto_meaning.specs.Skeleton.{Token}
-use Rattle.proto_meaning.specs.Tree.{package_of}
+use Rattle.proto_tree.proofs.Common.{Mark, HasRole, Role, names, refers, role_of, Tree, Spells, flat, classes, trees_are_numbered, roles_are_one}
+use Rattle.proto_meaning.proofs.Common.{Token, package_of}
 use Rattle.proto_listing.specs.FromTree.{file_names, items_in}
 use Rattle.proto_listing.specs.Roles.{DeclaredTokensAreNames, NamesAreNoUses, TokensAreUsedOnce, UsedTokensRefer, UsedWordsStandApart}
 use Rattle.proto_listing.proofs.FromTree.{tree_grown}

@@ -1,3 +1,4 @@
+pub mod Common
 pub mod FromTree
 pub mod Listing
 pub mod Moved

@@ -1,8 +1,6 @@
 -- Names that are the same, and the greatest number that passes (for the crates above).
 use Rattle.std.proofs.Common.{◌≡◌, ℕ, zero, suc, ◌<◌, ◌≤◌, Bool, true, false, List, Option, Some, None, refl, sym, ◌∙◌, ap, subst, inl, inr, arith}
-use Rattle.std.proofs.lemmas.Slice.Eq.{bytes_eq-Decides, slice_eq-Decides}
-use Rattle.std.proofs.lemmas.Bool.{cases_Bool, cases_eq, cases_lt, cond-true, cond-false, false_from_ne_true, both_ways}
-use Rattle.std.proofs.lemmas.Option.{none-some, same_Some}
+use Rattle.proto_faults.proofs.Common.{bytes_eq-Decides, slice_eq-Decides, cases_Bool, cases_eq, cases_lt, cond-true, cond-false, false_from_ne_true, both_ways, none-some, same_Some}
 use Rattle.proto_meaning.specs.Names.{same_name, greatest}
 
 pub name_from_same : (x y : List (List ℕ)) → same_name x y ≡ true → x ≡ y

@@ -1,8 +1,7 @@
 -- An added import closes no cycle where its file isn't reached from what it imports.
 use Rattle.std.proofs.Common.{◌≡◌, ℕ, List, [], ◌∷◌, ◌++◌, refl, sym, ◌∙◌, ap, subst, inl, inr, ◌⊎◌}
 use Rattle.std.proofs.lemmas.List.Elements.{Contains-push_cases}
-use Rattle.proto_meaning.specs.Names.{Import}
-use Rattle.proto_meaning.specs.Edits.{import_of}
+use Rattle.proto_meaning.specs.Common.{Import, import_of}
 use Rattle.proto_meaning.specs.Cycles.{Leads, stop, onward, IsAcyclic}
 
 join : (a : List Import) {f g h : ℕ} → Leads a f g → Leads a g h → Leads a f h

@@ -1,13 +1,7 @@
 -- The tests of a collision and a capture, and that a collision is a fault of the edited names.
-use Rattle.std.proofs.Common.{◌≡◌, ◌↔◌, ℕ, zero, suc, ◌<◌, ◌≤◌, Bool, true, ◌&&◌, not, ◌++◌, length, get_or, take, map, Option, Some, None, refl, sym, ◌∙◌, ap, subst, inl, inr, arith}
-use Rattle.std.specs.Prelude.{nat_lt}
-use Rattle.std.specs.List.{list_any, AllPairs}
-use Rattle.std.proofs.lemmas.Bool.{cases_eq, cases_order, true≢false, both_ways, and_parts, and_from, or_cases, or_left, or_right, ltb-true, lt-ltb, not-true, not_from_false}
-use Rattle.std.proofs.lemmas.List.{get_or-map, length-map, get_or_default}
-use Rattle.proto_meaning.specs.Names.{Package, Symbol, Reference, Workspace, same_name, fits, hit}
-use Rattle.proto_meaning.specs.Edits.{Renaming, ren, turned, moves, in_domain, rewritten, Collides, collides, collides_with, IsCaptured, is_captured, captured_from, any_above, shows_mapped, renamed, renamed_symbol}
-use Rattle.proto_meaning.specs.Linked.{AreApart, IsLinked, IsRenaming}
-use Rattle.proto_faults.proofs.Lists.{any_from, any_to}
+use Rattle.std.proofs.Common.{◌≡◌, ◌↔◌, ℕ, zero, suc, ◌<◌, ◌≤◌, Bool, true, ◌&&◌, not, ◌++◌, length, get_or, take, map, Option, Some, None, refl, sym, ◌∙◌, ap, subst, inl, inr, arith, nat_lt, AllPairs, true≢false, ltb-true, lt-ltb}
+use Rattle.proto_faults.proofs.Common.{list_any, cases_eq, cases_order, both_ways, and_parts, and_from, or_cases, or_left, or_right, not-true, not_from_false, get_or-map, length-map, get_or_default, any_from, any_to}
+use Rattle.proto_meaning.specs.Common.{Package, Symbol, Reference, Workspace, same_name, fits, hit, Renaming, ren, turned, moves, in_domain, rewritten, Collides, collides, collides_with, IsCaptured, is_captured, captured_from, any_above, shows_mapped, renamed, renamed_symbol, AreApart, IsLinked, IsRenaming}
 use Rattle.proto_meaning.proofs.Basics.{name_from_same, same_from_name}
 use Rattle.proto_meaning.proofs.Symbols.{package_out, stays}
 use Rattle.proto_meaning.proofs.Ren.{turn_below_outside}

@@ -1,15 +1,7 @@
 -- A field less: nothing that is meant, or stands before it, goes.
-use Rattle.std.proofs.Common.{◌≡◌, ◌≢◌, ℕ, zero, suc, ◌<◌, Bool, true, false, ◌&&◌, not, cond, List, [], ◌∷◌, ◌++◌, length, get_or, take, Some, sym, ◌∙◌, ap, subst, inl, inr, ◌⊎◌, arith, append_assoc, length-append}
-use Rattle.std.specs.List.{Contains, AllPairs, filter}
-use Rattle.std.specs.Str.{bytes_eq}
-use Rattle.std.proofs.lemmas.Bool.{true≢false, false_from_ne_true, both_ways, and_parts, and_from, not_from_false, not-true}
-use Rattle.std.proofs.lemmas.Option.{none-some}
-use Rattle.std.proofs.lemmas.List.{append-nil}
-use Rattle.std.proofs.lemmas.List.Elements.{Contains-get_or}
-use Rattle.proto_meaning.specs.Names.{Kind, Package, Entry, Field, Symbol, Reference, Workspace, same_name, is_type, fits, sees, shows, hits_at, meaning, meaning_at}
-use Rattle.proto_meaning.specs.Edits.{Renaming, moves, is_below, in_domain, deleted}
-use Rattle.proto_meaning.specs.Linked.{is_leaf, AreApart, IsLinked, EntryStands, IsDeletion}
-use Rattle.proto_faults.proofs.Lists.{any_from, contains_filter, from_filter}
+use Rattle.std.proofs.Common.{◌≡◌, ◌≢◌, ℕ, zero, suc, ◌<◌, Bool, true, false, ◌&&◌, not, cond, List, [], ◌∷◌, ◌++◌, length, get_or, take, Some, sym, ◌∙◌, ap, subst, inl, inr, ◌⊎◌, arith, append_assoc, length-append, Contains, AllPairs, filter, bytes_eq, true≢false, append-nil}
+use Rattle.proto_faults.proofs.Common.{false_from_ne_true, both_ways, and_parts, and_from, not_from_false, not-true, none-some, Contains-get_or, any_from, contains_filter, from_filter}
+use Rattle.proto_meaning.specs.Common.{Kind, Package, Entry, Field, Symbol, Reference, Workspace, same_name, is_type, fits, sees, shows, hits_at, meaning, meaning_at, Renaming, moves, is_below, in_domain, deleted, is_leaf, AreApart, IsLinked, EntryStands, IsDeletion}
 use Rattle.proto_meaning.proofs.Basics.{same_from_name}
 use Rattle.proto_meaning.proofs.Rename.{hit_relative, typed_is, first_and_rest}
 use Rattle.proto_meaning.proofs.Symbols.{type_not_leaf, one_symbol, shown, front_of, below_split, moved}

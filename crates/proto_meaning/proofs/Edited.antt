@@ -1,15 +1,8 @@
 -- The edited text spells the renamed workspace (for the crates above).
-use Rattle.std.proofs.Common.{◌≡◌, ◌≢◌, ◌↔◌, ℕ, zero, suc, ◌<◌, Bool, true, false, cond, List, [], ◌∷◌, ◌++◌, length, get_or, Option, Some, None, refl, sym, ◌∙◌, ap, subst, inl, inr, ◌⊎◌, arith, map, if◌then◌else◌, length-append}
-use Rattle.std.specs.List.{Contains}
-use Rattle.std.specs.Str.{bytes_eq}
-use Rattle.std.proofs.lemmas.Bool.{cases_Bool, cases_order, cond-true, cond-false, false_from_ne_true}
-use Rattle.std.proofs.lemmas.List.{get_or-map, length-map, get_or_default}
-use Rattle.proto_meaning.specs.Names.{Package, Entry, Reference, Workspace, same_name, meaning}
-use Rattle.proto_meaning.specs.Edits.{Renaming, turned, turned_by, moves, ren, renamed, renamed_symbol, renamed_reference}
-use Rattle.proto_meaning.specs.Linked.{IsLinked, EntryFits, IsRenaming, IsFree}
-use Rattle.proto_meaning.specs.Skeleton.{Source, Token, EntryOf, Given, Declared, Used, Skeleton, spell, name_of, symbol_of, reference_of, workspace_of, IsWoven, IsAim, IsAimEntry, renaming_of, IsRespelled, Means}
+use Rattle.std.proofs.Common.{◌≡◌, ◌≢◌, ◌↔◌, ℕ, zero, suc, ◌<◌, Bool, true, false, cond, List, [], ◌∷◌, ◌++◌, length, get_or, Option, Some, None, refl, sym, ◌∙◌, ap, subst, inl, inr, ◌⊎◌, arith, map, if◌then◌else◌, length-append, Contains, bytes_eq}
+use Rattle.proto_faults.proofs.Common.{cases_Bool, cases_order, cond-true, cond-false, false_from_ne_true, get_or-map, length-map, get_or_default, same_from_word, word_from_same, contains_head, contains_later, contains_map}
+use Rattle.proto_meaning.specs.Common.{Package, Entry, Reference, Workspace, same_name, meaning, Renaming, turned, turned_by, moves, ren, renamed, renamed_symbol, renamed_reference, IsLinked, EntryFits, IsRenaming, IsFree, Source, Token, EntryOf, Given, Declared, Used, Skeleton, spell, name_of, symbol_of, reference_of, workspace_of, IsWoven, IsAim, IsAimEntry, renaming_of, IsRespelled, Means}
 use Rattle.proto_meaning.proofs.Basics.{name_from_same, same_from_name}
-use Rattle.proto_faults.proofs.Lists.{same_from_word, word_from_same, contains_head, contains_later, contains_map}
 use Rattle.proto_meaning.proofs.Ren.{turn_below-more, turn_below-nil}
 use Rattle.proto_meaning.proofs.Symbols.{moved, stays, ren_apart}
 use Rattle.proto_meaning.proofs.Renamed.{renamed_linked, each_means, has_meaning, meant}

@@ -1,7 +1,6 @@
 -- Small workspaces, computed.
 use Rattle.std.proofs.Common.{◌≡◌, ℕ, true, false, List, [], ◌∷◌, Some, None, refl}
-use Rattle.proto_meaning.specs.Names.{Kind, Package, Message, Entry, Service, Field, EntryField, Symbol, Import, Reference, Workspace, meaning, hit, hits_at, sees}
-use Rattle.proto_meaning.specs.Edits.{Renaming, renamed, renamed_reference, is_captured, collides, ren, with_imports, import_of}
+use Rattle.proto_meaning.specs.Common.{Kind, Package, Message, Entry, Service, Field, EntryField, Symbol, Import, Reference, Workspace, meaning, hit, hits_at, sees, Renaming, renamed, renamed_reference, is_captured, collides, ren, with_imports, import_of}
 
 abbrev sym_of : List (List ℕ) → Kind → ℕ → Symbol
 sym_of name kind file = record { name = name; kind = kind; file = file }

@@ -1,13 +1,7 @@
 -- The names of many files nest, and their declarations are woven; a declaration and a reference by the file that they are from (for the crates above).
-use Rattle.std.proofs.Common.{◌≡◌, ℕ, suc, ◌≤◌, List, [], ◌∷◌, ◌++◌, length, Some, refl, sym, ◌∙◌, ap, subst, inl, inr, ◌⊎◌, arith, map}
-use Rattle.std.specs.List.{Contains, All}
-use Rattle.std.proofs.lemmas.List.Elements.{Contains-append_left, Contains-append_right, Contains-append_cases, All-contains}
-use Rattle.proto_meaning.specs.Names.{Import}
-use Rattle.proto_meaning.specs.Linked.{holds, IsNested}
-use Rattle.proto_meaning.specs.Skeleton.{Source, Token, EntryOf, Given, Declared, Used, spell, name_of, symbol_of, shifted_source, shifted_declared, IsWoven}
-use Rattle.proto_meaning.specs.Tree.{Placed, file_placed, token_of}
-use Rattle.proto_meaning.specs.Grown.{FileNames, IsGrown, At, at, declared_of, used_in, file_declared, file_used, all_declared, all_used, skeleton_of_files}
-use Rattle.proto_faults.proofs.Lists.{contains_map, contains_head, contains_later, from_map}
+use Rattle.std.proofs.Common.{◌≡◌, ℕ, suc, ◌≤◌, List, [], ◌∷◌, ◌++◌, length, Some, refl, sym, ◌∙◌, ap, subst, inl, inr, ◌⊎◌, arith, map, Contains, All}
+use Rattle.proto_faults.proofs.Common.{Contains-append_left, Contains-append_right, Contains-append_cases, All-contains, contains_map, contains_head, contains_later, from_map}
+use Rattle.proto_meaning.specs.Common.{Import, holds, IsNested, Source, Token, EntryOf, Given, Declared, Used, spell, name_of, symbol_of, shifted_source, shifted_declared, IsWoven, Placed, file_placed, token_of, FileNames, IsGrown, At, at, declared_of, used_in, file_declared, file_used, all_declared, all_used, skeleton_of_files}
 use Rattle.proto_meaning.proofs.Ren.{last_parts}
 use Rattle.proto_meaning.proofs.Edited.{map_append}
 use Rattle.proto_meaning.proofs.Grown.{snoc_parts}

@@ -1,10 +1,7 @@
 -- One element of a list behind another, as lists are mapped, and as they lose elements (for the crates above).
-use Rattle.std.proofs.Common.{◌≡◌, ◌⊎◌, ℕ, zero, suc, ◌<◌, Bool, true, false, cond, List, [], ◌∷◌, length, get_or, map, refl, sym, ◌∙◌, ap, subst, inl, inr, arith}
-use Rattle.std.specs.List.{Contains, filter}
-use Rattle.std.proofs.lemmas.Bool.{cond-true}
-use Rattle.std.proofs.lemmas.List.Elements.{Contains-get_or}
+use Rattle.std.proofs.Common.{◌≡◌, ◌⊎◌, ℕ, zero, suc, ◌<◌, Bool, true, false, cond, List, [], ◌∷◌, length, get_or, map, refl, sym, ◌∙◌, ap, subst, inl, inr, arith, Contains, filter}
+use Rattle.proto_faults.proofs.Common.{cond-true, Contains-get_or, contains_filter, contains_head, contains_later, contains_map, from_filter, from_map}
 use Rattle.proto_meaning.specs.Faults.{AfterEarlier}
-use Rattle.proto_faults.proofs.Lists.{contains_filter, contains_head, contains_later, contains_map, from_filter, from_map}
 
 -- the second stands behind the first
 abbrev pub Follows : {A : Type 0} → List A → A → A → Type 0

@@ -1,10 +1,6 @@
 -- A tree's names nest, and its declarations are woven: the premises above hold of what trees give (for the crates above).
-use Rattle.std.proofs.Common.{◌≡◌, ℕ, List, [], ◌∷◌, ◌++◌, length, Some, refl, sym, ◌∙◌, ap, inl, inr, arith, map}
-use Rattle.std.specs.List.{Contains}
-use Rattle.proto_meaning.specs.Linked.{holds, IsNested}
-use Rattle.proto_meaning.specs.Skeleton.{Source, Token, EntryOf, Declared, spell, name_of, symbol_of, IsWoven}
-use Rattle.proto_meaning.specs.Tree.{Members, all_placed, AllSpan, token_of}
-use Rattle.proto_meaning.specs.Grown.{declared_of, skeleton_of}
+use Rattle.std.proofs.Common.{◌≡◌, ℕ, List, [], ◌∷◌, ◌++◌, length, Some, refl, sym, ◌∙◌, ap, inl, inr, arith, map, Contains}
+use Rattle.proto_meaning.specs.Common.{holds, IsNested, Source, Token, EntryOf, Declared, spell, name_of, symbol_of, IsWoven, Members, all_placed, AllSpan, token_of, declared_of, skeleton_of}
 use Rattle.proto_faults.proofs.Lists.{contains_map, from_map}
 use Rattle.proto_meaning.proofs.Ren.{last_parts}
 use Rattle.proto_meaning.proofs.Edited.{map_append}

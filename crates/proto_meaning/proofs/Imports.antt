@@ -1,14 +1,7 @@
 -- An import more, an import less.
-use Rattle.std.proofs.Common.{◌⊎◌, ◌≡◌, ◌≢◌, ℕ, zero, suc, ◌<◌, ◌≤◌, Bool, true, ◌&&◌, List, [], ◌∷◌, ◌++◌, length, take, Option, Some, None, refl, sym, ◌∙◌, ap, subst, inl, inr, arith, append_assoc, length-append}
-use Rattle.std.specs.Prelude.{◌==◌}
-use Rattle.std.specs.List.{list_any, Contains}
-use Rattle.std.proofs.lemmas.Bool.{cases_Bool, cond-true, cond-false, true≢false, false_from_ne_true, both_ways, and_parts, and_from, or_cases, or_left, or_right, eqb-true, true_from_ne_false}
-use Rattle.std.proofs.lemmas.Option.{none-some, same_Some}
-use Rattle.std.proofs.lemmas.List.{length-take-le}
-use Rattle.proto_meaning.specs.Names.{Kind, Symbol, Import, Reference, Workspace, same_name, is_type, is_outer, fits, reaches, sees, shows, greatest, hit, hits_at, meaning, meaning_at, typed}
-use Rattle.proto_meaning.specs.Edits.{with_imports, import_of, IsAddition, IsOvertaken, IsNeeded}
-use Rattle.proto_meaning.specs.Linked.{IsNested, IsLinked}
-use Rattle.proto_faults.proofs.Lists.{any_from, any_to}
+use Rattle.std.proofs.Common.{◌⊎◌, ◌≡◌, ◌≢◌, ℕ, zero, suc, ◌<◌, ◌≤◌, Bool, true, ◌&&◌, List, [], ◌∷◌, ◌++◌, length, take, Option, Some, None, refl, sym, ◌∙◌, ap, subst, inl, inr, arith, append_assoc, length-append, ◌==◌, Contains, true≢false, eqb-true, length-take-le}
+use Rattle.proto_faults.proofs.Common.{list_any, cases_Bool, cond-true, cond-false, false_from_ne_true, both_ways, and_parts, and_from, or_cases, or_left, or_right, true_from_ne_false, none-some, same_Some, any_from, any_to}
+use Rattle.proto_meaning.specs.Common.{Kind, Symbol, Import, Reference, Workspace, same_name, is_type, is_outer, fits, reaches, sees, shows, greatest, hit, hits_at, meaning, meaning_at, typed, with_imports, import_of, IsAddition, IsOvertaken, IsNeeded, IsNested, IsLinked}
 use Rattle.proto_meaning.proofs.Basics.{same_from_name, IsGreatest, greatest_is, greatest_above}
 use Rattle.proto_meaning.proofs.Rename.{hit_relative, hit_from, typed_is, typed_from}
 use Rattle.proto_meaning.proofs.Symbols.{one_symbol, shown, fronts}

@@ -1,12 +1,7 @@
 -- A file's declarations nest, and its tokens declare one symbol each, its package's words among them (for the crates above).
-use Rattle.std.proofs.Common.{◌≡◌, ℕ, ◌+◌, ◌<◌, ◌≤◌, true, List, [], ◌∷◌, ◌++◌, Some, refl, sym, ◌∙◌, ap, subst, inl, inr, ◌⊎◌, arith, map, append_assoc}
-use Rattle.std.specs.List.{Contains}
-use Rattle.std.proofs.lemmas.List.Elements.{Contains-append_left, Contains-append_right, Contains-append_cases}
-use Rattle.proto_meaning.specs.Names.{Package}
-use Rattle.proto_meaning.specs.Linked.{holds}
-use Rattle.proto_meaning.specs.Skeleton.{Source, Token}
-use Rattle.proto_meaning.specs.Tree.{Items, no_items, packaged, item, Placed, place, placed, prefixes, package_of, items_placed, file_placed, Rises, ItemsSpan, token_of}
-use Rattle.proto_faults.proofs.Lists.{contains_head, contains_later, contains_cases}
+use Rattle.std.proofs.Common.{◌≡◌, ℕ, ◌+◌, ◌<◌, ◌≤◌, true, List, [], ◌∷◌, ◌++◌, Some, refl, sym, ◌∙◌, ap, subst, inl, inr, ◌⊎◌, arith, map, append_assoc, Contains}
+use Rattle.proto_faults.proofs.Common.{Contains-append_left, Contains-append_right, Contains-append_cases, contains_head, contains_later, contains_cases}
+use Rattle.proto_meaning.specs.Common.{Package, holds, Source, Token, Items, no_items, packaged, item, Placed, place, placed, prefixes, package_of, items_placed, file_placed, Rises, ItemsSpan, token_of}
 use Rattle.proto_meaning.proofs.Tree.{none_left, token_is, in_span, one_place, stands}
 
 -- a declaration stands right in another one

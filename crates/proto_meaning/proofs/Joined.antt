@@ -1,8 +1,6 @@
 -- Plain words joined by points are read back in one way (for the crates above).
-use Rattle.std.proofs.Common.{◌≡◌, ℕ, false, List, [], ◌∷◌, ◌++◌, refl, sym, ◌∙◌, ap}
-use Rattle.std.specs.Prelude.{◌==◌}
-use Rattle.std.specs.List.{list_any}
-use Rattle.std.proofs.lemmas.Bool.{or_parts, both_ways, eq-eqb}
+use Rattle.std.proofs.Common.{◌≡◌, ℕ, false, List, [], ◌∷◌, ◌++◌, refl, sym, ◌∙◌, ap, ◌==◌, eq-eqb}
+use Rattle.proto_faults.proofs.Common.{list_any, or_parts, both_ways}
 use Rattle.proto_meaning.specs.Joined.{joined, ArePlain}
 
 pub no_point : (b : ℕ) (v : List ℕ) → list_any (λ x. x == 46) (b ∷ v) ≡ false → b ≡ 46 → ⊥

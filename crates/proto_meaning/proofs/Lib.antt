@@ -1,4 +1,5 @@
 pub mod Basics
+pub mod Common
 mod Cycles
 mod Decided
 mod Deleted

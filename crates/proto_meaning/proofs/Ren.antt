@@ -1,12 +1,8 @@
 -- The name map goes with fronts and with the rewritten words (for the crates above).
-use Rattle.std.proofs.Common.{◌≡◌, ℕ, zero, suc, Bool, true, false, ◌&&◌, cond, List, [], ◌∷◌, ◌++◌, length, take, Option, Some, None, refl, sym, ◌∙◌, ap, inl, inr, if◌then◌else◌, append_assoc}
-use Rattle.std.proofs.lemmas.List.{append-nil}
-use Rattle.std.specs.Str.{bytes_eq}
-use Rattle.std.proofs.lemmas.Bool.{cases_Bool, cond-true, cond-false, true≢false, false_from_ne_true, both_ways, and_parts}
-use Rattle.proto_meaning.specs.Names.{same_name}
-use Rattle.proto_meaning.specs.Edits.{Renaming, target, turned_by, turned, turn_below, ren, is_below, rewritten, is_entry, is_entry_by, IsClear}
+use Rattle.std.proofs.Common.{◌≡◌, ℕ, zero, suc, Bool, true, false, ◌&&◌, cond, List, [], ◌∷◌, ◌++◌, length, take, Option, Some, None, refl, sym, ◌∙◌, ap, inl, inr, if◌then◌else◌, append_assoc, append-nil, bytes_eq, true≢false}
+use Rattle.proto_faults.proofs.Common.{cases_Bool, cond-true, cond-false, false_from_ne_true, both_ways, and_parts, word_from_same, same_from_word}
+use Rattle.proto_meaning.specs.Common.{same_name, Renaming, target, turned_by, turned, turn_below, ren, is_below, rewritten, is_entry, is_entry_by, IsClear}
 use Rattle.proto_meaning.proofs.Basics.{name_from_same, same_from_name}
-use Rattle.proto_faults.proofs.Lists.{word_from_same, same_from_word}
 
 pub turn_below-take : (ps : List (List ℕ)) (f : List ℕ → List ℕ) (k : ℕ) (x : List (List ℕ)) → turn_below ps f (take k x) ≡ take k (turn_below ps f x)
 turn_below-take [] f zero [] = refl

@@ -1,11 +1,7 @@
 -- A rename: the rewritten reference means the mapped name, exactly where it isn't captured (for the crates above).
-use Rattle.std.proofs.Common.{◌≡◌, ℕ, suc, ◌≤◌, Bool, true, false, ◌&&◌, List, [], ◌∷◌, ◌++◌, length, take, Option, Some, None, refl, sym, ◌∙◌, ap, subst, inl, inr, arith, append_assoc, length-append}
-use Rattle.std.proofs.lemmas.Bool.{cases_Bool, cond-true, cond-false, false_from_ne_true, and_parts, and_from}
-use Rattle.std.proofs.lemmas.Option.{none-some, cond_some}
-use Rattle.std.proofs.lemmas.List.{length-take-le}
-use Rattle.proto_meaning.specs.Names.{Kind, Reference, Workspace, same_name, is_type, fits, shows, sees, greatest, hit, hits_at, meaning, meaning_at, typed}
-use Rattle.proto_meaning.specs.Edits.{Renaming, turned, ren, rewritten, IsClear, renamed_symbol, renamed_at, renamed_reference, renamed, shows_mapped, IsCaptured}
-use Rattle.proto_faults.proofs.Lists.{any_from, any_to, any_map}
+use Rattle.std.proofs.Common.{◌≡◌, ℕ, suc, ◌≤◌, Bool, true, false, ◌&&◌, List, [], ◌∷◌, ◌++◌, length, take, Option, Some, None, refl, sym, ◌∙◌, ap, subst, inl, inr, arith, append_assoc, length-append, length-take-le}
+use Rattle.proto_faults.proofs.Common.{cases_Bool, cond-true, cond-false, false_from_ne_true, and_parts, and_from, none-some, cond_some, any_from, any_to, any_map}
+use Rattle.proto_meaning.specs.Common.{Kind, Reference, Workspace, same_name, is_type, fits, shows, sees, greatest, hit, hits_at, meaning, meaning_at, typed, Renaming, turned, ren, rewritten, IsClear, renamed_symbol, renamed_at, renamed_reference, renamed, shows_mapped, IsCaptured}
 use Rattle.proto_meaning.proofs.Basics.{name_from_same, same_from_name, IsGreatest, greatest_is, greatest_from, greatest_above}
 use Rattle.proto_meaning.proofs.Ren.{turn_below-take, turn_below-length, turn_below-nil, ren-rewritten}
 

@@ -1,14 +1,7 @@
 -- A free rename keeps a workspace linked (for the crates above).
-use Rattle.std.proofs.Common.{◌≡◌, ◌≢◌, ℕ, ◌<◌, true, List, [], ◌∷◌, ◌++◌, length, get_or, take, Option, Some, None, refl, sym, ◌∙◌, ap, subst, inl, inr, arith, map, if◌then◌else◌, length-append}
-use Rattle.std.specs.List.{Contains, AllPairs}
-use Rattle.std.proofs.lemmas.Bool.{cases_Bool, cond-true, cond-false}
-use Rattle.std.proofs.lemmas.Option.{none-some, same_Some}
-use Rattle.std.proofs.lemmas.List.{get_or-map, length-map}
-use Rattle.std.proofs.lemmas.List.Elements.{Contains-get_or}
-use Rattle.proto_meaning.specs.Names.{Symbol, Reference, Workspace, same_name, is_type, meaning, meaning_at, typed, hit, sees}
-use Rattle.proto_meaning.specs.Edits.{Renaming, turned, ren, IsClear, Collides, IsCaptured, renamed, renamed_symbol, renamed_reference}
-use Rattle.proto_meaning.specs.Linked.{holds, IsNested, AreApart, IsLinked, IsRenaming, IsFree}
-use Rattle.proto_faults.proofs.Lists.{contains_map, from_map}
+use Rattle.std.proofs.Common.{◌≡◌, ◌≢◌, ℕ, ◌<◌, true, List, [], ◌∷◌, ◌++◌, length, get_or, take, Option, Some, None, refl, sym, ◌∙◌, ap, subst, inl, inr, arith, map, if◌then◌else◌, length-append, Contains, AllPairs}
+use Rattle.proto_faults.proofs.Common.{cases_Bool, cond-true, cond-false, none-some, same_Some, get_or-map, length-map, Contains-get_or, contains_map, from_map}
+use Rattle.proto_meaning.specs.Common.{Symbol, Reference, Workspace, same_name, is_type, meaning, meaning_at, typed, hit, sees, Renaming, turned, ren, IsClear, Collides, IsCaptured, renamed, renamed_symbol, renamed_reference, holds, IsNested, AreApart, IsLinked, IsRenaming, IsFree}
 use Rattle.proto_meaning.proofs.Ren.{last_parts, turn_below-more, turn_below-length}
 use Rattle.proto_meaning.proofs.Rename.{rename_means, captured_means_else, typed_is}
 use Rattle.proto_meaning.proofs.Symbols.{split_last, ren_apart, type_clear, shown}

@@ -1,8 +1,6 @@
 -- Lists whose elements stand at rising places (for the crates above).
-use Rattle.std.proofs.Common.{ℕ, ◌+◌, ◌<◌, ◌≤◌, List, [], ◌∷◌, ◌++◌, get_or, arith}
-use Rattle.std.specs.List.{All, AllByRecursion, AllPairs, Contains}
-use Rattle.std.proofs.lemmas.List.Elements.{All-nil, All-cons, All-weaker, All-contains}
-use Rattle.std.proofs.lemmas.List.Kept.{AllPairs-cons}
+use Rattle.std.proofs.Common.{ℕ, ◌+◌, ◌<◌, ◌≤◌, List, [], ◌∷◌, ◌++◌, get_or, arith, All, AllPairs, Contains}
+use Rattle.proto_faults.proofs.Common.{AllByRecursion, All-nil, All-cons, All-weaker, All-contains, AllPairs-cons}
 
 -- the elements stand at places from lo on and before hi, each behind the one before it, and have Q
 abbrev pub Rising : {X : Type 0} → (X → ℕ) → (X → Type 0) → ℕ → ℕ → List X → Type 0

@@ -1,12 +1,8 @@
 -- A search of as many steps as there are files finds all that is seen (for the crates above).
-use Rattle.std.proofs.Common.{◌≡◌, ◌↔◌, ℕ, zero, suc, ◌<◌, ◌≤◌, true, false, ◌&&◌, eqb, List, [], ◌∷◌, length, refl, sym, ◌∙◌, subst, inl, inr, arith}
-use Rattle.std.specs.Prelude.{◌==◌}
-use Rattle.std.specs.List.{list_any, Contains, IsDistinct, AllByRecursion}
-use Rattle.std.proofs.lemmas.Bool.{cases_Bool, true≢false, and_parts, and_from, or_cases, or_left, or_right, or_parts, eqb-true, eq-eqb}
+use Rattle.std.proofs.Common.{◌≡◌, ◌↔◌, ℕ, zero, suc, ◌<◌, ◌≤◌, true, false, ◌&&◌, eqb, List, [], ◌∷◌, length, refl, sym, ◌∙◌, subst, inl, inr, arith, ◌==◌, Contains, true≢false, eqb-true, eq-eqb}
+use Rattle.proto_faults.proofs.Common.{list_any, IsDistinct, AllByRecursion, cases_Bool, and_parts, and_from, or_cases, or_left, or_right, or_parts, any_from, any_to}
 use Rattle.std.proofs.lemmas.Map.Steps.{length-le_from_distinct_below}
-use Rattle.proto_meaning.specs.Names.{Import, Workspace, Reaches, here, along, Sees, itself, by_import, reaches, sees}
-use Rattle.proto_meaning.specs.Linked.{AreFiles}
-use Rattle.proto_faults.proofs.Lists.{any_from, any_to}
+use Rattle.proto_meaning.specs.Common.{Import, Workspace, Reaches, here, along, Sees, itself, by_import, reaches, sees, AreFiles}
 
 -- no number stands twice
 abbrev Apart : List ℕ → Type 0

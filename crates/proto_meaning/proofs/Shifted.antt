@@ -1,8 +1,6 @@
 -- Where tokens come in or go, names and references are spelled as before (for the crates above).
 use Rattle.std.proofs.Common.{◌≡◌, ℕ, List, refl, ◌∙◌, ap, map}
-use Rattle.proto_meaning.specs.Names.{Import}
-use Rattle.proto_meaning.specs.Edits.{with_imports}
-use Rattle.proto_meaning.specs.Skeleton.{Source, Token, EntryOf, Given, Skeleton, spell, name_of, symbol_of, reference_of, workspace_of, shifted_source, shifted_declared, shifted_used, shifted}
+use Rattle.proto_meaning.specs.Common.{Import, with_imports, Source, Token, EntryOf, Given, Skeleton, spell, name_of, symbol_of, reference_of, workspace_of, shifted_source, shifted_declared, shifted_used, shifted}
 use Rattle.proto_meaning.proofs.Edited.{map_agree, map_map}
 
 module _ {X Y : Type 0} (f : X → Y) (text : X → List ℕ) (text_after : Y → List ℕ) (entry : List ℕ → List ℕ) (same : (i : X) → text_after (f i) ≡ text i) where

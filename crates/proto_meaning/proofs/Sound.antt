@@ -1,15 +1,9 @@
 -- Without faults of names and references a workspace is linked, and the other way round (for the crates above).
-use Rattle.std.proofs.Common.{◌≡◌, ◌≢◌, ◌⊎◌, ℕ, ◌<◌, true, List, [], length, get_or, refl, sym, ◌∙◌, ap, inl, inr, arith}
-use Rattle.std.proofs.lemmas.Bool.{true≢false, cases_Bool, both_ways}
-use Rattle.std.proofs.lemmas.List.{get_or-map, length-map}
-use Rattle.std.proofs.lemmas.List.Elements.{Contains-get_or}
-use Rattle.proto_meaning.specs.Names.{Kind, Package, Message, Entry, Enum, Service, Field, EntryField, Oneof, Value, Method, Symbol, Workspace, meaning}
+use Rattle.std.proofs.Common.{◌≡◌, ◌≢◌, ◌⊎◌, ℕ, ◌<◌, true, List, [], length, get_or, refl, sym, ◌∙◌, ap, inl, inr, arith, true≢false}
+use Rattle.proto_faults.proofs.Common.{cases_Bool, both_ways, get_or-map, length-map, Contains-get_or, contains_map, from_map}
+use Rattle.proto_meaning.specs.Common.{Kind, Package, Message, Entry, Enum, Service, Field, EntryField, Oneof, Value, Method, Symbol, Workspace, meaning, Declared, Skeleton, name_of, symbol_of, reference_of, workspace_of, At, is_package, IsNested, IsLinked}
 use Rattle.proto_case.specs.Camel.{entry_name}
-use Rattle.proto_meaning.specs.Skeleton.{Declared, Skeleton, name_of, symbol_of, reference_of, workspace_of}
-use Rattle.proto_meaning.specs.Grown.{At}
-use Rattle.proto_meaning.specs.Linked.{is_package, IsNested, IsLinked}
 use Rattle.proto_meaning.specs.Faults.{Fault, fault, NameFault, earlier, of_package, ReferenceFault, unresolved, wrong_kind, of_entry, place_of}
-use Rattle.proto_faults.proofs.Lists.{contains_map, from_map}
 use Rattle.proto_meaning.proofs.Symbols.{one_symbol}
 
 pub package_from : (k : Kind) → is_package k ≡ true → k ≡ Package

@@ -1,14 +1,7 @@
 -- What nesting and unique names give (for the crates above).
-use Rattle.std.proofs.Common.{◌≡◌, ◌≢◌, ℕ, zero, suc, ◌<◌, Bool, true, false, ◌&&◌, List, [], ◌∷◌, ◌++◌, length, get_or, Option, Some, None, refl, sym, ◌∙◌, ap, subst, inl, inr, ◌⊎◌, arith, append_assoc, length-append}
-use Rattle.std.specs.List.{Contains, AllPairs}
-use Rattle.std.specs.Str.{bytes_eq}
-use Rattle.std.proofs.lemmas.Bool.{cases_Bool, cases_order, cond-true, cond-false, true≢false, false_from_ne_true, both_ways, and_parts, or_cases, or_parts}
-use Rattle.std.proofs.lemmas.Option.{same_Some}
-use Rattle.std.proofs.lemmas.List.{append-nil, get_or_default}
-use Rattle.proto_meaning.specs.Names.{Kind, Package, Message, Entry, Enum, Service, Field, EntryField, Oneof, Value, Method, Symbol, Workspace, same_name, is_type, is_outer, shows, sees}
-use Rattle.proto_meaning.specs.Edits.{Renaming, turned, turned_by, moves, moves_by, ren, is_below, in_domain, is_entry, is_entry_by, IsClear, Collides}
-use Rattle.proto_meaning.specs.Linked.{is_leaf, holds, IsNested, AreApart, IsLinked, EntryFits, IsRenaming}
-use Rattle.proto_faults.proofs.Lists.{any_to, word_from_same}
+use Rattle.std.proofs.Common.{◌≡◌, ◌≢◌, ℕ, zero, suc, ◌<◌, Bool, true, false, ◌&&◌, List, [], ◌∷◌, ◌++◌, length, get_or, Option, Some, None, refl, sym, ◌∙◌, ap, subst, inl, inr, ◌⊎◌, arith, append_assoc, length-append, Contains, AllPairs, bytes_eq, true≢false, append-nil}
+use Rattle.proto_faults.proofs.Common.{cases_Bool, cases_order, cond-true, cond-false, false_from_ne_true, both_ways, and_parts, or_cases, or_parts, same_Some, get_or_default, any_to, word_from_same}
+use Rattle.proto_meaning.specs.Common.{Kind, Package, Message, Entry, Enum, Service, Field, EntryField, Oneof, Value, Method, Symbol, Workspace, same_name, is_type, is_outer, shows, sees, Renaming, turned, turned_by, moves, moves_by, ren, is_below, in_domain, is_entry, is_entry_by, IsClear, Collides, is_leaf, holds, IsNested, AreApart, IsLinked, EntryFits, IsRenaming}
 use Rattle.proto_meaning.proofs.Basics.{name_from_same}
 use Rattle.proto_meaning.proofs.Ren.{turn_below_outside, turn_below_apart}
 

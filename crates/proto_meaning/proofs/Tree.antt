@@ -1,13 +1,7 @@
 -- A tree's declarations nest, and its tokens declare one symbol each (for the crates above).
-use Rattle.std.proofs.Common.{◌≡◌, ℕ, ◌+◌, ◌<◌, ◌≤◌, true, false, not, List, [], ◌∷◌, ◌++◌, Some, None, refl, sym, ◌∙◌, ap, inl, inr, ◌⊎◌, arith, map}
-use Rattle.std.specs.List.{Contains, All}
-use Rattle.std.proofs.lemmas.Option.{none-some, same_Some}
-use Rattle.std.proofs.lemmas.List.Elements.{Contains-append_left, Contains-append_right, Contains-append_cases, All-contains}
-use Rattle.proto_meaning.specs.Names.{Kind, Message, Entry, Enum, Service, Field, EntryField, Oneof, Value, Method}
-use Rattle.proto_meaning.specs.Linked.{holds, is_package, is_leaf}
-use Rattle.proto_meaning.specs.Skeleton.{Source, Token, EntryOf, Given}
-use Rattle.proto_meaning.specs.Tree.{Member, field, map_field, oneof, message, enum, service, Members, no_members, member, Placed, place, beside, key_word, value_word, placed, all_placed, Spans, AllSpan, token_of}
-use Rattle.proto_faults.proofs.Lists.{contains_head, contains_later, contains_cases, from_map}
+use Rattle.std.proofs.Common.{◌≡◌, ℕ, ◌+◌, ◌<◌, ◌≤◌, true, false, not, List, [], ◌∷◌, ◌++◌, Some, None, refl, sym, ◌∙◌, ap, inl, inr, ◌⊎◌, arith, map, Contains, All}
+use Rattle.proto_faults.proofs.Common.{none-some, same_Some, Contains-append_left, Contains-append_right, Contains-append_cases, All-contains, contains_head, contains_later, contains_cases, from_map}
+use Rattle.proto_meaning.specs.Common.{Kind, Message, Entry, Enum, Service, Field, EntryField, Oneof, Value, Method, holds, is_package, is_leaf, Source, Token, EntryOf, Given, Member, field, map_field, oneof, message, enum, service, Members, no_members, member, Placed, place, beside, key_word, value_word, placed, all_placed, Spans, AllSpan, token_of}
 
 pub none_left : {P : Type 0} (p : Placed) → Contains [] p → P
 none_left p c = absurd (omega (arith, c.1))

@@ -1,3 +1,4 @@
+pub mod Common
 pub mod Cycles
 pub mod Edits
 pub mod Faults

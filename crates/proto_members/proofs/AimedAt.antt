@@ -1,11 +1,8 @@
 -- A target stands in one of the files (for the crates above).
 use Rattle.std.proofs.Common.{◌<◌, List, length, sym, ap, subst, inl}
-use Rattle.proto_files.specs.GivenFiles.{FileOf}
-use Rattle.proto_files.specs.FilesRead.{AreRead, ReadOf}
+use Rattle.proto_files.proofs.Common.{FileOf, AreRead, ReadOf}
 use Rattle.proto_meaning.specs.Grown.{At}
-use Rattle.proto_captures.specs.Targets.{Target}
-use Rattle.proto_captures.proofs.Inside.{tokens_are_inside}
-use Rattle.proto_captures.specs.Aims.{IsAimedAt}
+use Rattle.proto_captures.proofs.Common.{Target, tokens_are_inside, IsAimedAt}
 use Rattle.proto_captures.specs.declared.aim.Aim.{Aim}
 
 pub aim_inside : (files : List FileOf) (reads : List ReadOf) → AreRead files reads → (a : Aim) (t : Target) → IsAimedAt files reads a t → a.file < length files

@@ -7,12 +7,9 @@ use Rattle.proto_tree.specs.declared.tree.Field.{Field}
 use Rattle.proto_tree.specs.declared.tree.Member.{Member}
 use Rattle.proto_tree.specs.declared.tree.ServiceItem.{ServiceItem}
 use Rattle.proto_tree.specs.File.{enum_item_tree, enum_tree, field_tree, member_tree, message_tree, oneof_tree, service_tree, trees}
-use Rattle.proto_parts.specs.Parts.{BlockOf, fields_in, reserved_names_in}
-use Rattle.proto_parts.specs.Scenes.{Scene}
-use Rattle.proto_parts.proofs.ItemBlocks.{no_block_in_enum, no_method_within, none_within, wanted_within}
+use Rattle.proto_parts.proofs.Common.{BlockOf, fields_in, reserved_names_in, Scene, no_block_in_enum, no_method_within, none_within, wanted_within}
 use Rattle.proto_captures.specs.Enums.{enum_block}
-use Rattle.proto_members.specs.Blocks.{holders_in, may_hold, message_block, oneof_block}
-use Rattle.proto_members.specs.Members.{has_field, reserves, says}
+use Rattle.proto_members.specs.Common.{holders_in, may_hold, message_block, oneof_block, has_field, reserves, says}
 
 pub enum_alone : (e : Braced EnumItem) → holders_in (enum_tree e) ≡ enum_block e ∷ []
 enum_alone e = ap (λ (bs : List BlockOf). enum_block e ∷ bs) (none_within may_hold enum_item_tree no_block_in_enum e.members.items)

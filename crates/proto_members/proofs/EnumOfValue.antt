@@ -1,45 +1,25 @@
 -- The enum that has a value stands beside it.
-use Rattle.std.proofs.Common.{◌≡◌, ℕ, ◌+◌, ◌<◌, ◌==◌, Bool, true, cond, List, [], ◌∷◌, ◌++◌, length, map, find, Option, Some, None, option_map, refl, sym, ap, ap₂, subst, ◌∙◌, inl, inr, arith}
-use Rattle.std.specs.List.{Contains}
-use Rattle.std.proofs.lemmas.Bool.{cases_Bool, eqb-true, true≢false}
-use Rattle.std.proofs.lemmas.List.{append_cancel_right}
-use Rattle.std.proofs.lemmas.Option.{none-some, same_Some}
+use Rattle.std.proofs.Common.{◌≡◌, ℕ, ◌+◌, ◌<◌, ◌==◌, Bool, true, cond, List, [], ◌∷◌, ◌++◌, length, map, find, Option, Some, None, option_map, refl, sym, ap, ap₂, subst, ◌∙◌, inl, inr, arith, Contains, eqb-true, true≢false}
+use Rattle.proto_faults.proofs.Common.{cases_Bool, append_cancel_right, none-some, same_Some, any_to, contains_cases, from_map}
 use Rattle.proto_case.specs.Camel.{entry_name}
-use Rattle.proto_text.specs.Tokens.{lexeme_at}
-use Rattle.proto_faults.proofs.Lists.{any_to, contains_cases, from_map}
-use Rattle.proto_text.proofs.OneEdit.{length_map}
+use Rattle.proto_text.proofs.Common.{lexeme_at, length_map}
 use Rattle.proto_tree.specs.declared.piece.Header.{Header}
 use Rattle.proto_tree.specs.declared.piece.Header.TheVariants as header
 use Rattle.proto_tree.specs.declared.tree.Value.{Value as ValueParts}
-use Rattle.proto_tree.specs.Laws.{Numbered}
-use Rattle.proto_tree.specs.Tree.{Tree, End, flat}
-use Rattle.proto_tree.proofs.MarkLaws.{trees_are_numbered}
-use Rattle.proto_files.specs.GivenFiles.{FileOf, file_at}
-use Rattle.proto_files.specs.FilesRead.{AreRead, ReadOf, read_at}
-use Rattle.proto_files.proofs.OneReading.{IsTreeOf, same_tree}
+use Rattle.proto_tree.proofs.Common.{Numbered, Tree, End, flat, trees_are_numbered}
+use Rattle.proto_files.proofs.Common.{FileOf, file_at, AreRead, ReadOf, read_at, IsTreeOf, same_tree}
 use Rattle.proto_meaning.specs.declared.kind.Kind.TheVariants.{Enum, Value}
-use Rattle.proto_meaning.specs.Faults.{place_from, place_of}
-use Rattle.proto_meaning.specs.Grown.{At, at, declared_of}
-use Rattle.proto_meaning.specs.Joined.{joined}
-use Rattle.proto_meaning.specs.Skeleton.{Token, name_of, shifted_declared, shifted_source, spell}
-use Rattle.proto_meaning.specs.Tree.{Placed, file_placed, place}
-use Rattle.proto_meaning.proofs.Edited.{map_append}
+use Rattle.proto_meaning.proofs.Common.{place_from, place_of, At, at, declared_of, joined, Token, name_of, shifted_declared, shifted_source, spell, Placed, file_placed, place, map_append}
 use Rattle.proto_listing.specs.FromTree.{items_in}
 use Rattle.proto_imports.specs.Links.{link_skeleton, names_in, text_of}
 use Rattle.proto_parts.specs.Parts.{BlockOf, blocks_in, values_in}
 use Rattle.proto_checks_laws.proofs.Declarations.{values_are_declared}
-use Rattle.proto_captures.specs.SceneOf.{is_enum_at}
-use Rattle.proto_captures.specs.Targets.{HasEnum, IsEnumOf, Target}
+use Rattle.proto_captures.proofs.Common.{is_enum_at, HasEnum, IsEnumOf, Target, declared_there, ends_with_token, is_written, files_are_woven, place_last, IsAimedAt}
 use Rattle.proto_captures.proofs.Blocks.{one_block}
 use Rattle.proto_captures.proofs.JoinedNames.{joined_last, lead}
-use Rattle.proto_captures.proofs.Declarations.{declared_there, ends_with_token, is_written}
-use Rattle.proto_captures.proofs.NoLinkFault.{files_are_woven}
-use Rattle.proto_captures.proofs.OneTarget.{place_last}
 use Rattle.proto_captures.proofs.Scenes.{find_there, index_map}
-use Rattle.proto_captures.specs.Aims.{IsAimedAt}
 use Rattle.proto_captures.specs.declared.aim.Aim.{Aim}
-use Rattle.proto_members.specs.Blocks.{holders_in, may_hold}
-use Rattle.proto_members.specs.Members.{has_value, holds_value, name_token}
+use Rattle.proto_members.specs.Common.{holders_in, may_hold, has_value, holds_value, name_token}
 use Rattle.proto_members.proofs.AimedAt.{aim_inside}
 use Rattle.proto_members.proofs.MemberTests.{from_filter, in_filter, value_there}
 

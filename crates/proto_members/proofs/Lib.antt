@@ -1,5 +1,6 @@
 pub mod AimedAt
 mod BlockTrees
+pub mod Common
 mod EnumOfValue
 pub mod MemberTests
 mod OneScene

@@ -1,23 +1,18 @@
 -- Tests of the blocks that have members, and what they say of all blocks (for the crates above).
-use Rattle.std.proofs.Common.{◌≡◌, ℕ, ◌<◌, ◌==◌, Bool, true, false, cond, List, [], ◌∷◌, length, map, refl, sym, ap, subst, ◌∙◌, inl, inr, arith}
-use Rattle.std.specs.List.{Contains, filter}
-use Rattle.std.proofs.lemmas.Bool.{cond-true, eq-eqb, eqb-true}
+use Rattle.std.proofs.Common.{◌≡◌, ℕ, ◌<◌, ◌==◌, Bool, true, false, cond, List, [], ◌∷◌, length, map, refl, sym, ap, subst, ◌∙◌, inl, inr, arith, Contains, filter, eq-eqb, eqb-true}
+use Rattle.proto_faults.proofs.Common.{cond-true, any_from, any_to, contains_cases, contains_head, contains_later, contains_map, from_map}
 use Rattle.proto_text.specs.Tokens.{lexeme_at}
-use Rattle.proto_faults.proofs.Lists.{any_from, any_to, contains_cases, contains_head, contains_later, contains_map, from_map}
 use Rattle.proto_tree.specs.declared.piece.Header.{Header}
 use Rattle.proto_tree.specs.declared.piece.Header.TheVariants as header
 use Rattle.proto_tree.specs.declared.tree.Value.{Value}
 use Rattle.proto_tree.specs.Tree.{Tree}
-use Rattle.proto_files.specs.GivenFiles.{FileOf, file_at}
-use Rattle.proto_files.specs.FilesRead.{AreRead, ReadOf, read_at}
+use Rattle.proto_files.proofs.Common.{FileOf, file_at, AreRead, ReadOf, read_at}
 use Rattle.proto_meaning.specs.Tree.{Placed, file_placed}
 use Rattle.proto_listing.specs.FromTree.{items_in}
 use Rattle.proto_parts.specs.Parts.{BlockOf, FieldOf, blocks_in, fields_in, values_in}
-use Rattle.proto_checks_laws.specs.Declarations.{IsDeclared}
-use Rattle.proto_checks_laws.proofs.Declarations.{blocks_are_declared}
+use Rattle.proto_checks_laws.proofs.Common.{IsDeclared, blocks_are_declared}
 use Rattle.proto_captures.specs.Cases.{HasMember}
-use Rattle.proto_members.specs.Blocks.{may_hold}
-use Rattle.proto_members.specs.Members.{fields_by, has_field, has_member, has_value}
+use Rattle.proto_members.specs.Common.{may_hold, fields_by, has_field, has_member, has_value}
 
 -- ---- filtered lists
 

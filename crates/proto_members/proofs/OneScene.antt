@@ -3,10 +3,7 @@ use Rattle.std.proofs.Common.{◌≡◌, ℕ, ◌<◌, Bool, List, length, map, 
 use Rattle.proto_text.specs.declared.lexer.Token.{Token}
 use Rattle.proto_text.specs.Tokens.{Lexeme, lexeme_at}
 use Rattle.proto_tree.specs.Tree.{Tree}
-use Rattle.proto_files.specs.GivenFiles.{FileOf, file_at}
-use Rattle.proto_files.specs.FileTokens.{AreTokensOf}
-use Rattle.proto_files.specs.FilesRead.{ReadOf, AreRead, read_at}
-use Rattle.proto_files.proofs.OneReading.{IsTreeOf, same_tree}
+use Rattle.proto_files.proofs.Common.{FileOf, file_at, AreTokensOf, ReadOf, AreRead, read_at, IsTreeOf, same_tree}
 use Rattle.proto_parts.specs.Scenes.{Scene, is_proto3, value_in}
 use Rattle.proto_captures.specs.SceneOf.{lexemes_of}
 use Rattle.proto_members.specs.Members.{IsReadAs}

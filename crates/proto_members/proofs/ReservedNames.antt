@@ -1,23 +1,14 @@
 -- The test of all blocks for a reserved name is that of the file.
-use Rattle.std.proofs.Common.{◌≡◌, ℕ, ◌<◌, true, None, List, length, map, sym, ap, subst, ◌∙◌}
-use Rattle.std.specs.List.{Contains, list_any}
-use Rattle.std.specs.Str.{bytes_eq}
-use Rattle.std.proofs.lemmas.Bool.{and_from, and_parts}
+use Rattle.std.proofs.Common.{◌≡◌, ℕ, ◌<◌, true, None, List, length, map, sym, ap, subst, ◌∙◌, Contains, bytes_eq}
+use Rattle.proto_faults.proofs.Common.{list_any, and_from, and_parts, any_from, any_to, contains_map, from_map, same_from_word, word_from_same}
 use Rattle.proto_text.specs.Tokens.{Lexeme}
-use Rattle.proto_faults.proofs.Lists.{any_from, any_to, contains_map, from_map, same_from_word, word_from_same}
 use Rattle.proto_tree.specs.Tree.{Tree}
-use Rattle.proto_files.specs.GivenFiles.{FileOf, file_at}
-use Rattle.proto_files.specs.FilesRead.{AreRead, ReadOf, read_at}
-use Rattle.proto_files.proofs.OneReading.{IsTreeOf, same_tree}
-use Rattle.proto_meaning.specs.Grown.{at}
-use Rattle.proto_meaning.specs.Tree.{file_placed}
+use Rattle.proto_files.proofs.Common.{FileOf, file_at, AreRead, ReadOf, read_at, IsTreeOf, same_tree}
+use Rattle.proto_meaning.proofs.Common.{at, file_placed}
 use Rattle.proto_listing.specs.FromTree.{items_in}
-use Rattle.proto_parts.specs.Parts.{blocks_in, reserved_names_in}
-use Rattle.proto_parts.specs.Scenes.{Scene, value, value_in}
-use Rattle.proto_captures.specs.SceneOf.{scene_of}
-use Rattle.proto_captures.specs.Cases.{Reserves}
-use Rattle.proto_members.specs.Blocks.{holders_in, may_hold}
-use Rattle.proto_members.specs.Members.{IsReadAs, has_member, reserves, says}
+use Rattle.proto_parts.proofs.Common.{blocks_in, reserved_names_in, Scene, value, value_in}
+use Rattle.proto_captures.proofs.Common.{scene_of, Reserves}
+use Rattle.proto_members.specs.Common.{holders_in, may_hold, IsReadAs, has_member, reserves, says}
 use Rattle.proto_members.proofs.MemberTests.{block_declared, from_filter, in_filter, member_from, member_to}
 
 module _ (files : List FileOf) (reads : List ReadOf) (are : AreRead files reads) (file : ℕ) (within : file < length files) (scene : Scene) (as_read : IsReadAs files reads file scene) (tree : Tree) (of_file : IsTreeOf (file_at files file).bytes tree) (token : ℕ) (word : List ℕ) where

@@ -1,18 +1,11 @@
 -- What is said of each file, and of one file more.
-use Rattle.std.proofs.Common.{◌≡◌, ℕ, suc, ◌+◌, ◌<◌, List, [], ◌∷◌, ◌++◌, length, get_or, map, refl, sym, ◌∙◌, ap, subst, arith}
-use Rattle.std.specs.List.{All}
-use Rattle.std.proofs.lemmas.List.{length-map, get_or-map}
-use Rattle.std.proofs.lemmas.List.Elements.{All-append, All-cons, All-nil}
-use Rattle.proto_meaning.specs.Faults.{Asked}
-use Rattle.proto_listing.specs.FromTree.{imports_in, items_in}
-use Rattle.proto_meaning.specs.Grown.{At, at}
-use Rattle.proto_imports.specs.Importing.{asked_by, all_asked}
-use Rattle.proto_table.specs.LastWords.{named_as}
-use Rattle.proto_imports.specs.Links.{asked_as, all_wanted, names_in}
+use Rattle.std.proofs.Common.{◌≡◌, ℕ, suc, ◌+◌, ◌<◌, List, [], ◌∷◌, ◌++◌, length, get_or, map, refl, sym, ◌∙◌, ap, subst, arith, All}
+use Rattle.proto_faults.proofs.Common.{length-map, get_or-map, All-append, All-cons, All-nil}
+use Rattle.proto_meaning.proofs.Common.{Asked, At, at}
+use Rattle.proto_listing.proofs.Common.{imports_in, items_in, package_first}
+use Rattle.proto_imports.proofs.Common.{asked_by, all_asked, asked_as, all_wanted, names_in}
+use Rattle.proto_table.proofs.Common.{named_as, tree_named, Named, named_in, all_named}
 use Rattle.proto_files.specs.FilesRead.{Each, ReadOf, read_at}
-use Rattle.proto_listing.specs.Listing.{package_first}
-use Rattle.proto_table.specs.Naming.{tree_named}
-use Rattle.proto_table.specs.Spelled.{Named, named_in, all_named}
 use Rattle.proto_imports.specs.declared.import.WrittenImport.{WrittenImport}
 use Rattle.proto_table.specs.declared.spelled.Spelled.{Spelled}
 

@@ -1,40 +1,22 @@
 -- The lists of one file that was read (for the crates above).
-use Rattle.std.proofs.Common.{◌≡◌, ℕ, ◌<◌, false, List, [], ◌∷◌, ◌++◌, length, get_or, map, string_bytes, Some, refl, sym, ◌∙◌, ap, subst, arith, append_assoc}
-use Rattle.std.specs.List.{All, Contains}
-use Rattle.std.proofs.lemmas.List.{map-append, append-nil}
-use Rattle.std.proofs.lemmas.List.Elements.{Contains-get_or}
-use Rattle.proto_faults.specs.Texts.{or_nothing}
+use Rattle.std.proofs.Common.{◌≡◌, ℕ, ◌<◌, false, List, [], ◌∷◌, ◌++◌, length, get_or, map, string_bytes, Some, refl, sym, ◌∙◌, ap, subst, arith, append_assoc, All, Contains, append-nil}
+use Rattle.proto_faults.proofs.Common.{map-append, Contains-get_or, or_nothing, contains_map}
 use Rattle.proto_text.specs.declared.lexer.Token.{Token}
-use Rattle.proto_text.specs.Strings.{IsString}
-use Rattle.proto_text.specs.Texts.{word_at, words}
-use Rattle.proto_text.specs.Tokens.{Lexeme}
-use Rattle.proto_text.specs.Values.{value_of}
-use Rattle.proto_tree.specs.Reads.{Reads}
-use Rattle.proto_tree.specs.Tree.{Tree}
-use Rattle.proto_files.specs.GivenFiles.{FileOf, file_at}
-use Rattle.proto_listing.specs.FromTree.{Wanted, file_names, imports_in, items_in}
-use Rattle.proto_meaning.specs.Grown.{At, at}
-use Rattle.proto_imports.specs.Importing.{asked_by, AreRising}
-use Rattle.proto_files.specs.FilesRead.{ReadOf, AreRead, read_at}
-use Rattle.proto_imports.specs.Links.{IsListing, text_of, asked_as}
-use Rattle.proto_table.specs.LastWords.{AreListed, named_as}
-use Rattle.proto_listing.specs.Listing.{IsSound, last_token, package_first, path_at, read, read_on, seen, uses_in, wanted_of, whole}
+use Rattle.proto_text.proofs.Common.{IsString, word_at, words, Lexeme, value_of}
+use Rattle.proto_tree.proofs.Common.{Reads, Tree}
+use Rattle.proto_files.proofs.Common.{FileOf, file_at, ReadOf, AreRead, read_at, AreWordsAt, IsTreeOf, same_tree, same_words}
+use Rattle.proto_listing.proofs.Common.{Wanted, file_names, imports_in, items_in, IsSound, last_token, package_first, path_at, read, read_on, seen, uses_in, wanted_of, whole, names_plain, declared_rising, packages_first, imports_are_strings, imports_rising}
+use Rattle.proto_meaning.proofs.Common.{At, at, Token as TokenOf, Placed, place, map_map}
+use Rattle.proto_imports.proofs.Common.{asked_by, AreRising, IsListing, text_of, asked_as, AreWritten}
+use Rattle.proto_table.proofs.Common.{AreListed, named_as, named_in}
 use Rattle.proto_meaning.specs.declared.kind.Kind.{Kind}
 use Rattle.proto_meaning.specs.declared.kind.Kind.TheVariants.{Package}
-use Rattle.proto_meaning.specs.Skeleton.{Token as TokenOf}
-use Rattle.proto_table.specs.Spelled.{named_in}
-use Rattle.proto_meaning.specs.Tree.{Placed, place}
-use Rattle.proto_imports.specs.Written.{AreWritten}
 use Rattle.proto_imports.specs.declared.import.WrittenImport.{WrittenImport}
 use Rattle.proto_listing.specs.declared.listing.Listed.{Listed}
 use Rattle.proto_listing.specs.declared.listing.Listing.{Listing}
 use Rattle.proto_table.specs.declared.spelled.Spelled.{Spelled}
 use Rattle.proto_listing.specs.declared.wanted.Wanted.{Wanted as WantedAt}
-use Rattle.proto_faults.proofs.Lists.{contains_map}
 use Rattle.proto_names.proofs.EachFile.{same_at}
-use Rattle.proto_meaning.proofs.Edited.{map_map}
-use Rattle.proto_files.proofs.OneReading.{AreWordsAt, IsTreeOf, same_tree, same_words}
-use Rattle.proto_listing.proofs.ReadTrees.{names_plain, declared_rising, packages_first, imports_are_strings, imports_rising}
 
 -- ---- imports
 

@@ -1,41 +1,22 @@
 -- The references of a file by its listing are those of its tree.
-use Rattle.std.proofs.Common.{◌≡◌, ℕ, ◌<◌, Bool, List, [], ◌∷◌, length, get_or, map, sym, ◌∙◌, ap, subst, arith}
-use Rattle.std.specs.Global.{Vec}
-use Rattle.std.specs.List.{All, Contains}
-use Rattle.std.proofs.lemmas.List.{map-append, get_or-map as get_or-map_within}
-use Rattle.std.proofs.lemmas.List.Elements.{All-map, Contains-get_or}
+use Rattle.std.proofs.Common.{◌≡◌, ℕ, ◌<◌, Bool, List, [], ◌∷◌, length, get_or, map, sym, ◌∙◌, ap, subst, arith, All, Contains}
+use Rattle.proto_faults.proofs.Common.{Vec, map-append, get_or-map as get_or-map_within, All-map, Contains-get_or, contains_map}
 use Rattle.std.proofs.Math.ListN.{get_or-map}
-use Rattle.proto_text.proofs.Once.{one_token_list}
-use Rattle.proto_tree.specs.Reads.{Reads}
+use Rattle.proto_text.proofs.Common.{one_token_list, words, word_at, Lexeme, lexeme_at, AreTokens}
+use Rattle.proto_tree.proofs.Common.{Reads, dotted}
 use Rattle.proto_text.specs.declared.lexer.Token.{Token}
-use Rattle.proto_text.specs.Texts.{words, word_at}
-use Rattle.proto_text.specs.Tokens.{Lexeme, lexeme_at, AreTokens}
-use Rattle.proto_files.specs.GivenFiles.{FileOf, file_at}
+use Rattle.proto_files.proofs.Common.{FileOf, file_at, ReadOf, AreRead, read_at, one_reading}
 use Rattle.proto_case.specs.Camel.{entry_name}
-use Rattle.proto_names.specs.FileReferences.{declared_names, uses_of, AreFileMeant, AreLinked, IsFileLinked, IsFirstFlawed, IsFileError}
-use Rattle.proto_tree.specs.References.{dotted}
-use Rattle.proto_meaning.specs.Grown.{At, at}
-use Rattle.proto_meaning.specs.Joined.{ArePlain}
-use Rattle.proto_files.specs.FilesRead.{ReadOf, AreRead, read_at}
-use Rattle.proto_imports.specs.Links.{text_of, names_of_files, IsListing}
-use Rattle.proto_listing.specs.Listing.{read, whole, path_of, used_by}
-use Rattle.proto_meaning.specs.Names.{Reference, Workspace}
+use Rattle.proto_names.specs.Common.{declared_names, uses_of, AreFileMeant, AreLinked, IsFileLinked, IsFirstFlawed, IsFileError, reference_by, first_token, IsFaultless, IsFlawed, IsFirstBad, IsReferenceError, AreMeant, BadReference, Meant}
+use Rattle.proto_meaning.proofs.Common.{At, at, ArePlain, Reference, Workspace, Source, Used, name_of, shifted_source, Placed, map_agree, map_map}
+use Rattle.proto_imports.proofs.Common.{text_of, names_of_files, IsListing, name_in}
+use Rattle.proto_listing.proofs.Common.{read, whole, path_of, used_by, uses_plain}
 use Rattle.proto_table.specs.Naming.{used_named}
-use Rattle.proto_names.specs.Referring.{reference_by, first_token, IsFaultless, IsFlawed, IsFirstBad, IsReferenceError, AreMeant}
-use Rattle.proto_meaning.specs.Skeleton.{Source, Used, name_of, shifted_source}
-use Rattle.proto_meaning.specs.Tree.{Placed}
 use Rattle.proto_listing.specs.declared.listing.Listing.{Listing}
 use Rattle.proto_listing.specs.declared.listing.Use.{Use}
-use Rattle.proto_names.specs.declared.references.BadReference.{BadReference}
-use Rattle.proto_names.specs.declared.references.Meant.{Meant}
 use Rattle.proto_faults.specs.declared.or_no_memory.OrNoMemory.{OrNoMemory}
 use Rattle.proto_faults.specs.declared.or_no_memory.OrNoMemory.TheVariants as or
 use Rattle.proto_table.specs.declared.table.Table.{Table}
-use Rattle.proto_faults.proofs.Lists.{contains_map}
-use Rattle.proto_meaning.proofs.Edited.{map_agree, map_map}
-use Rattle.proto_files.proofs.ReadOnce.{one_reading}
-use Rattle.proto_listing.proofs.ReadTrees.{uses_plain}
-use Rattle.proto_imports.proofs.PlainNames.{name_in}
 
 -- ---- what is read of a file
 

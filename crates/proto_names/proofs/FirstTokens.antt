@@ -1,19 +1,7 @@
 -- References by their first tokens, which rise: where a search for a token ends.
-use Rattle.std.proofs.Common.{◌≡◌, ℕ, ◌<◌, ◌≤◌, Bool, false, List, length, get_or, option_map, slice_get, Some, None, Result, Ok, Err, sym, ◌∙◌, ap, inl, inr, arith}
-use Rattle.std.specs.Prelude.{◌==◌, MatchResult}
-use Rattle.std.specs.List.{AllPairs, Contains, position_or_len}
-use Rattle.std.specs.List.Sorted.{IsSearchInRange, IsBinarySearchResult, IsNonDecreasingBy}
-use Rattle.std.specs.Ordering.{nat_cmp, ordering_index}
-use Rattle.std.proofs.lemmas.Bool.{cases_order, eq-eqb, ne_eqb}
-use Rattle.std.proofs.lemmas.Bool.Decides.{nat_tests}
-use Rattle.std.proofs.lemmas.Cmp.{ranked}
-use Rattle.std.proofs.lemmas.List.{get_or_default}
-use Rattle.std.proofs.lemmas.List.Folds.{find_at}
-use Rattle.std.proofs.lemmas.List.Sorted.{IsNonDecreasingBy-from_default}
-use Rattle.std.proofs.lemmas.List.Sums.{position_or_len_is}
-use Rattle.std.proofs.lemmas.Option.{slice_get-get_or, slice_get_past}
-use Rattle.proto_names.specs.Linking.{row_at}
-use Rattle.proto_names.specs.declared.references.Meant.{Meant}
+use Rattle.std.proofs.Common.{◌≡◌, ℕ, ◌<◌, ◌≤◌, Bool, false, List, length, get_or, option_map, slice_get, Some, None, Result, Ok, Err, sym, ◌∙◌, ap, inl, inr, arith, ◌==◌, MatchResult, AllPairs, Contains, nat_cmp, eq-eqb, ne_eqb}
+use Rattle.proto_faults.proofs.Common.{position_or_len, IsSearchInRange, IsBinarySearchResult, IsNonDecreasingBy, ordering_index, cases_order, nat_tests, ranked, get_or_default, find_at, IsNonDecreasingBy-from_default, position_or_len_is, slice_get-get_or, slice_get_past}
+use Rattle.proto_names.specs.Common.{row_at, Meant}
 
 module _ (ms : List Meant) (rising : AllPairs (λ m n. m.token < n.token) ms) (token : ℕ) where
   abbrev none : Meant

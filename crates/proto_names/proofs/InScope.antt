@@ -1,25 +1,13 @@
 -- What a reference means in a scope, word by word of its tokens.
-use Rattle.std.proofs.Common.{◌≡◌, ◌≢◌, ℕ, zero, suc, ◌+◌, ◌<◌, ◌≤◌, Bool, false, List, [], ◌∷◌, ◌++◌, length, get_or, take, drop, map, Bor, Option, Some, None, IfSome, option_map, if◌then◌else◌, refl, sym, ◌∙◌, ap, subst, inl, inr, arith}
-use Rattle.std.specs.Prelude.{◌==◌}
-use Rattle.std.proofs.lemmas.Bool.{cases_eq, cond-false, false_from_ne_true}
-use Rattle.std.proofs.lemmas.List.{take-append-drop, length-take-le, length-map}
-use Rattle.std.proofs.lemmas.Simd.{map-map}
-use Rattle.proto_text.specs.Texts.{word_at}
-use Rattle.proto_text.specs.Tokens.{Lexeme}
+use Rattle.std.proofs.Common.{◌≡◌, ◌≢◌, ℕ, zero, suc, ◌+◌, ◌<◌, ◌≤◌, Bool, false, List, [], ◌∷◌, ◌++◌, length, get_or, take, drop, map, Bor, Option, Some, None, IfSome, option_map, if◌then◌else◌, refl, sym, ◌∙◌, ap, subst, inl, inr, arith, ◌==◌, take-append-drop, length-take-le}
+use Rattle.proto_faults.proofs.Common.{cases_eq, cond-false, false_from_ne_true, length-map, map-map}
+use Rattle.proto_text.proofs.Common.{word_at, Lexeme}
 use Rattle.proto_tree.specs.declared.tree.Behind.{Behind}
-use Rattle.proto_meaning.specs.Forest.{under, front}
-use Rattle.proto_meaning.specs.Joined.{joined, ArePlain}
-use Rattle.proto_meaning.specs.Names.{Reference, Workspace, fits, greatest, hits_at, hit, shows, meaning, meaning_at, typed}
-use Rattle.proto_table.specs.Resolved.{IsIndexOf, under_all, IsAsked, IsTypeAt}
-use Rattle.proto_meaning.specs.Marks.{MarksSeen}
+use Rattle.proto_meaning.proofs.Common.{under, front, joined, ArePlain, Reference, Workspace, fits, greatest, hits_at, hit, shows, meaning, meaning_at, typed, MarksSeen, greatest_is}
+use Rattle.proto_table.proofs.Common.{IsIndexOf, under_all, IsAsked, IsTypeAt, HitsAt, IsHit, names_of, IsTable, Step, one_step, shows_to, under_all_named, is_empty_list, empty_is, relative_is, relative_none, joined_more, plain_take, outermost}
 use Rattle.proto_names.specs.Scopes.{IsScopeFront}
-use Rattle.proto_table.specs.Search.{HitsAt, IsHit}
-use Rattle.proto_table.specs.Tables.{names_of, IsTable}
 use Rattle.proto_table.specs.declared.table.Table.{Table}
-use Rattle.proto_meaning.proofs.Basics.{greatest_is}
-use Rattle.proto_table.proofs.Resolved.{Step, one_step, shows_to, under_all_named, is_empty_list, empty_is, relative_is, relative_none}
 use Rattle.proto_names.proofs.Scopes.{plain_parts}
-use Rattle.proto_table.proofs.Search.{joined_more, plain_take, outermost}
 
 -- ---- the words behind the first
 

@@ -1,33 +1,18 @@
 -- The least of the faults of references: the first one of the first file that has any.
-use Rattle.std.proofs.Common.{◌≡◌, ◌⊎◌, ℕ, suc, ◌+◌, ◌<◌, List, [], ◌∷◌, ◌++◌, length, get_or, map, Some, refl, sym, ◌∙◌, ap, subst, inl, inr, arith}
-use Rattle.std.specs.List.{All, AllPairs, Contains}
-use Rattle.std.proofs.lemmas.Option.{none-some, same_Some}
-use Rattle.std.proofs.lemmas.List.{get_or-map, get_or-append-add, length-append, length-map}
-use Rattle.std.proofs.lemmas.List.Elements.{All-contains, Contains-append_cases, Contains-append_right}
+use Rattle.std.proofs.Common.{◌≡◌, ◌⊎◌, ℕ, suc, ◌+◌, ◌<◌, List, [], ◌∷◌, ◌++◌, length, get_or, map, Some, refl, sym, ◌∙◌, ap, subst, inl, inr, arith, All, AllPairs, Contains, get_or-append-add, length-append}
+use Rattle.proto_faults.proofs.Common.{none-some, same_Some, get_or-map, length-map, All-contains, Contains-append_cases, Contains-append_right, contains_cases, contains_head, contains_map}
 use Rattle.std.proofs.Math.Seq.{get_or-append_seam}
 use Rattle.proto_tree.specs.Tree.{End}
-use Rattle.proto_files.specs.GivenFiles.{FileOf, file_at}
-use Rattle.proto_meaning.specs.Faults.{Fault, fault, IsBefore, IsLeast, ReferenceFault}
-use Rattle.proto_names.specs.FileReferences.{flaw_number, uses_of, IsFirstFlawed, IsFileError, IsLeastBad}
-use Rattle.proto_meaning.specs.Grown.{FileNames, At, at}
-use Rattle.proto_meaning.specs.Joined.{joined}
-use Rattle.proto_files.specs.FilesRead.{ReadOf, AreRead, read_at}
+use Rattle.proto_files.proofs.Common.{FileOf, file_at, ReadOf, AreRead, read_at}
+use Rattle.proto_meaning.proofs.Common.{Fault, fault, IsBefore, IsLeast, ReferenceFault, FileNames, At, at, joined, Symbol, Reference, Workspace, meaning, Skeleton, Used}
+use Rattle.proto_names.specs.Common.{flaw_number, uses_of, IsFirstFlawed, IsFileError, IsLeastBad, IsFaultless, IsFlawed, BadReference, ReferenceFlaw, Unresolved, WrongKind, MapEntry}
 use Rattle.proto_imports.specs.Links.{text_of, names_in, link_imports, link_skeleton, names_of_files}
 use Rattle.proto_meaning.specs.declared.kind.Kind.TheVariants.{Entry, Enum}
-use Rattle.proto_meaning.specs.Names.{Symbol, Reference, Workspace, meaning}
 use Rattle.proto_table.specs.Naming as by_number
-use Rattle.proto_table.specs.Naming.{used_named}
-use Rattle.proto_names.specs.Referring.{IsFaultless, IsFlawed}
-use Rattle.proto_table.specs.Resolved.{IsIndexOf}
-use Rattle.proto_meaning.specs.Skeleton.{Skeleton, Used}
-use Rattle.proto_table.specs.Tables.{IsTable}
-use Rattle.proto_names.specs.declared.references.BadReference.{BadReference}
+use Rattle.proto_table.proofs.Common.{used_named, IsIndexOf, IsTable}
 use Rattle.proto_faults.specs.declared.or_no_memory.OrNoMemory.{OrNoMemory}
 use Rattle.proto_faults.specs.declared.or_no_memory.OrNoMemory.TheVariants as or
-use Rattle.proto_names.specs.declared.references.ReferenceFlaw.{ReferenceFlaw}
-use Rattle.proto_names.specs.declared.references.ReferenceFlaw.TheVariants.{Unresolved, WrongKind, MapEntry}
 use Rattle.proto_table.specs.declared.table.Table.{Table}
-use Rattle.proto_faults.proofs.Lists.{contains_cases, contains_head, contains_map}
 use Rattle.proto_listing.proofs.ReadTrees.{uses_rising}
 use Rattle.proto_names.proofs.Referring.{row_kind}
 use Rattle.proto_table.proofs.UseFaults.{use_faults}

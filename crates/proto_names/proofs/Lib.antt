@@ -1,3 +1,4 @@
+pub mod Common
 mod EachFile
 pub mod FileLists
 mod FileMeanings

@@ -1,26 +1,14 @@
 -- The errors of the imports and of the references are the least fault of the files; and what references are read by.
-use Rattle.std.proofs.Common.{◌≡◌, ℕ, ◌<◌, Bool, List, [], length, get_or, map, Result, Ok, Err, sym, subst}
-use Rattle.std.specs.Global.{Vec}
-use Rattle.std.specs.Result.{IfErr, IsErrAnd}
+use Rattle.std.proofs.Common.{◌≡◌, ℕ, ◌<◌, Bool, List, [], length, get_or, map, Result, Ok, Err, sym, subst, IfErr, IsErrAnd}
+use Rattle.proto_faults.proofs.Common.{Vec, number_of as number_of_kind}
 use Rattle.proto_faults.specs.declared.fault.FaultKind.{FaultKind}
-use Rattle.proto_faults.specs.FaultTable.{number_of as number_of_kind}
-use Rattle.proto_files.specs.GivenFiles.{FileOf, paths_of, AreWorkspaceFiles}
-use Rattle.proto_meaning.specs.Faults.{Fault, fault, Asked, IsLeast, ImportFault, ReferenceFault}
-use Rattle.proto_names.specs.FileReferences.{AreLinked, flaw_number}
-use Rattle.proto_meaning.specs.Grown.{at}
-use Rattle.proto_imports.specs.Importing.{fault_of, number_of}
-use Rattle.proto_imports.specs.LinkErrors.{IsLinkError}
-use Rattle.proto_names.specs.LinkOfFiles.{AreNamesOf, HasNoImportFault, HasNoNameFault}
-use Rattle.proto_files.specs.FilesRead.{ReadOf, AreRead}
-use Rattle.proto_files.specs.FileTokens.{IsAtToken}
-use Rattle.proto_imports.specs.Links.{StandsAt, all_wanted, link_skeleton, names_of_files, text_of}
-use Rattle.proto_meaning.specs.Marks.{MarksSeen}
+use Rattle.proto_files.proofs.Common.{FileOf, paths_of, AreWorkspaceFiles, ReadOf, AreRead, IsAtToken}
+use Rattle.proto_meaning.proofs.Common.{Fault, fault, Asked, IsLeast, ImportFault, ReferenceFault, at, MarksSeen}
+use Rattle.proto_names.specs.Common.{AreLinked, flaw_number, AreNamesOf, HasNoImportFault, HasNoNameFault, BadReference}
+use Rattle.proto_imports.proofs.Common.{fault_of, number_of, IsLinkError, StandsAt, all_wanted, link_skeleton, names_of_files, text_of, import_found, reference_found, least_import, least_reference, link_error}
 use Rattle.proto_imports.specs.declared.import.BadImport.{BadImport}
 use Rattle.proto_faults.specs.declared.fault.SchemaFault.{SchemaFault}
-use Rattle.proto_names.specs.declared.references.BadReference.{BadReference}
 use Rattle.proto_table.specs.declared.table.Table.{Table}
-use Rattle.proto_imports.proofs.FaultPlaces.{import_found, reference_found}
-use Rattle.proto_imports.proofs.LeastLinkFault.{least_import, least_reference, link_error}
 
 module _ (files : List FileOf) (reads : List ReadOf) (are_read : AreRead files reads) where
   abbrev Imports : Fault → Type 0

@@ -1,30 +1,18 @@
 -- The table of a link of files is an index of their names, and answers what their references mean.
-use Rattle.std.proofs.Common.{◌≡◌, ℕ, zero, suc, ◌<◌, Bool, List, [], ◌∷◌, length, get_or, map, slice_get, Option, Some, None, option_map, is_some, refl, sym, ◌∙◌, ap, subst, arith, string_bytes}
-use Rattle.std.specs.Global.{Vec}
-use Rattle.std.specs.List.{Contains}
-use Rattle.std.proofs.lemmas.List.{get_or-map, length-map}
-use Rattle.std.proofs.lemmas.Option.{none-some, same_Some}
-use Rattle.proto_files.specs.GivenFiles.{FileOf, file_at}
-use Rattle.proto_text.proofs.Once.{one_token_list}
-use Rattle.proto_text.specs.Texts.{word_at}
-use Rattle.proto_text.specs.Tokens.{AreTokens, Lexeme, lexeme_at}
+use Rattle.std.proofs.Common.{◌≡◌, ℕ, zero, suc, ◌<◌, Bool, List, [], ◌∷◌, length, get_or, map, slice_get, Option, Some, None, option_map, is_some, refl, sym, ◌∙◌, ap, subst, arith, string_bytes, Contains}
+use Rattle.proto_faults.proofs.Common.{Vec, get_or-map, length-map, none-some, same_Some}
+use Rattle.proto_files.proofs.Common.{FileOf, file_at, ReadOf, AreRead, read_at}
+use Rattle.proto_text.proofs.Common.{one_token_list, word_at, AreTokens, Lexeme, lexeme_at}
 use Rattle.proto_text.specs.declared.lexer.Token.{Token}
 use Rattle.proto_tree.specs.declared.tree.Reference.{Reference as ReferenceOfTree}
 use Rattle.proto_tree.specs.References.{dotted}
-use Rattle.proto_meaning.specs.Joined.{joined, ArePlain}
-use Rattle.proto_names.specs.LinkOfFiles.{HoldsNames, IsLinkBy}
-use Rattle.proto_names.specs.Linking.{NameOf, LinkOf, name_of_row}
-use Rattle.proto_files.specs.FilesRead.{ReadOf, AreRead, read_at}
-use Rattle.proto_imports.specs.Links.{names_in, text_of, link_skeleton, names_of_files}
-use Rattle.proto_meaning.specs.Names.{Reference, Symbol, Workspace, meaning}
-use Rattle.proto_table.specs.Resolved.{files_of, IsIndexOf}
-use Rattle.proto_meaning.specs.Marks.{MarksSeen}
+use Rattle.proto_meaning.proofs.Common.{joined, ArePlain, Reference, Symbol, Workspace, meaning, MarksSeen}
+use Rattle.proto_names.specs.Common.{HoldsNames, IsLinkBy, NameOf, LinkOf, name_of_row}
+use Rattle.proto_imports.proofs.Common.{names_in, text_of, link_skeleton, names_of_files, names_are_plain}
+use Rattle.proto_table.proofs.Common.{files_of, IsIndexOf, names_of, pick}
 use Rattle.proto_names.specs.Scopes.{reference_in}
-use Rattle.proto_table.specs.Tables.{names_of}
 use Rattle.proto_table.specs.declared.table.Row.{Row}
 use Rattle.proto_table.specs.declared.table.Table.{Table}
-use Rattle.proto_imports.proofs.PlainNames.{names_are_plain}
-use Rattle.proto_table.proofs.Search.{pick}
 
 row_of : (rows : List Row) (k : ℕ) (n : NameOf) → slice_get (map name_of_row rows) k ≡ Some n → (k < length rows) × ((d : Row) → name_of_row (get_or rows k d) ≡ n)
 row_of [] k n h = absurd (none-some n h)

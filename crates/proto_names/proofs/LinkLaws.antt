@@ -1,29 +1,14 @@
 -- What is visible by a link of files is what their files see, and references have plain words.
-use Rattle.std.proofs.Common.{◌≡◌, ◌⊎◌, ℕ, zero, suc, ◌<◌, Bool, true, false, ◌&&◌, List, [], ◌∷◌, length, get_or, map, slice_get, Some, sym, ◌∙◌, ap, subst, inl, inr, arith, slice_index_or}
-use Rattle.std.specs.List.{Contains}
-use Rattle.std.specs.Str.{bytes_eq}
-use Rattle.std.proofs.lemmas.Bool.{cases_Bool, false_from_ne_true, both_ways, and_parts, and_from}
-use Rattle.std.proofs.lemmas.List.{length-map}
-use Rattle.std.proofs.lemmas.Option.{slice_get-get_or, none-some, same_Some}
-use Rattle.proto_text.specs.Texts.{words}
-use Rattle.proto_faults.proofs.Lists.{any_from, any_to, contains_later, word_from_same, same_from_word}
-use Rattle.proto_text.proofs.Once.{one_token_list}
+use Rattle.std.proofs.Common.{◌≡◌, ◌⊎◌, ℕ, zero, suc, ◌<◌, Bool, true, false, ◌&&◌, List, [], ◌∷◌, length, get_or, map, slice_get, Some, sym, ◌∙◌, ap, subst, inl, inr, arith, slice_index_or, Contains, bytes_eq}
+use Rattle.proto_faults.proofs.Common.{cases_Bool, false_from_ne_true, both_ways, and_parts, and_from, length-map, slice_get-get_or, none-some, same_Some, any_from, any_to, contains_later, word_from_same, same_from_word}
+use Rattle.proto_text.proofs.Common.{words, one_token_list}
 use Rattle.proto_tree.specs.References.{dotted}
-use Rattle.proto_files.specs.FilesRead.{ReadOf, AreRead, read_at}
-use Rattle.proto_files.specs.GivenFiles.{FileOf, file_at}
-use Rattle.proto_meaning.specs.Joined.{joined, ArePlain}
-use Rattle.proto_meaning.specs.Linked.{AreFiles}
-use Rattle.proto_meaning.specs.Marks.{MarksSeen}
-use Rattle.proto_meaning.specs.Names.{Workspace, same_name, sees, shows}
-use Rattle.proto_meaning.proofs.Basics.{same_from_name}
-use Rattle.proto_meaning.proofs.Joined.{joined_apart}
-use Rattle.proto_meaning.proofs.Seeing.{sees_is}
-use Rattle.proto_meaning.proofs.Symbols.{shown}
+use Rattle.proto_files.proofs.Common.{ReadOf, AreRead, read_at, FileOf, file_at}
+use Rattle.proto_meaning.proofs.Common.{joined, ArePlain, AreFiles, MarksSeen, Workspace, same_name, sees, shows, same_from_name, joined_apart, sees_is, shown}
 use Rattle.proto_listing.proofs.ReadTrees.{uses_plain}
 use Rattle.proto_imports.specs.Links.{names_in, names_of_files}
 use Rattle.proto_names.specs.Laws.{SeesName, UsesAreWords, VisibleIsSeen, VisibleIsShown}
-use Rattle.proto_names.specs.LinkOfFiles.{HoldsNames, IsLinkRead}
-use Rattle.proto_names.specs.Linking.{LinkOf, NameOf, is_visible, name_at, sees_one}
+use Rattle.proto_names.specs.Common.{HoldsNames, IsLinkRead, LinkOf, NameOf, is_visible, name_at, sees_one}
 
 member_at : (ns : List NameOf) (row : ℕ) (n : NameOf) → slice_get ns row ≡ Some n → Contains ns n
 member_at [] row n h = absurd (none-some n h)

@@ -1,24 +1,14 @@
 -- What a link has of each file's references is what they mean, in the order of their first tokens (for the crates above).
-use Rattle.std.proofs.Common.{◌≡◌, ℕ, suc, ◌<◌, List, [], ◌∷◌, length, get_or, map, option_map, Some, refl, sym, ◌∙◌, ap, subst, arith}
-use Rattle.std.specs.Global.{Vec}
-use Rattle.std.specs.List.{All, AllPairs}
-use Rattle.std.proofs.lemmas.List.{get_or-map, length-map}
-use Rattle.proto_files.specs.GivenFiles.{FileOf, file_at}
-use Rattle.proto_names.specs.FileReferences.{AreFileMeant, uses_of}
-use Rattle.proto_meaning.specs.Joined.{joined}
-use Rattle.proto_names.specs.LinkOfFiles.{IsLinkBy, IsLinkRead, meant_by_link, meant_by_use}
-use Rattle.proto_names.specs.Linking.{LinkOf, name_of_row}
-use Rattle.proto_files.specs.FilesRead.{ReadOf, AreRead, read_at}
+use Rattle.std.proofs.Common.{◌≡◌, ℕ, suc, ◌<◌, List, [], ◌∷◌, length, get_or, map, option_map, Some, refl, sym, ◌∙◌, ap, subst, arith, All, AllPairs}
+use Rattle.proto_faults.proofs.Common.{Vec, get_or-map, length-map}
+use Rattle.proto_files.proofs.Common.{FileOf, file_at, ReadOf, AreRead, read_at}
+use Rattle.proto_names.specs.Common.{AreFileMeant, uses_of, IsLinkBy, IsLinkRead, meant_by_link, meant_by_use, LinkOf, name_of_row, Meant}
+use Rattle.proto_meaning.proofs.Common.{joined, meaning, Used}
 use Rattle.proto_imports.specs.Links.{link_skeleton, names_of_files, text_of}
-use Rattle.proto_meaning.specs.Names.{meaning}
-use Rattle.proto_table.specs.Naming.{used_named}
-use Rattle.proto_meaning.specs.Skeleton.{Used}
-use Rattle.proto_table.specs.Tables.{IsTable, names_of}
-use Rattle.proto_names.specs.declared.references.Meant.{Meant}
+use Rattle.proto_table.proofs.Common.{used_named, IsTable, names_of, pick}
 use Rattle.proto_table.specs.declared.table.Table.{Table}
 use Rattle.proto_names.proofs.Linking.{text_from}
 use Rattle.proto_listing.proofs.ReadTrees.{uses_rising}
-use Rattle.proto_table.proofs.Search.{pick}
 
 -- as other elements' numbers rise, so do these
 pub rising_by : {X Y : Type 0} (f : X → ℕ) (g : Y → ℕ) (xs : List X) (ys : List Y) → map f xs ≡ map g ys → AllPairs (λ a b. g a < g b) ys → AllPairs (λ a b. f a < f b) xs

@@ -1,43 +1,16 @@
 -- The parts of a link are those of its files: their names, what each file sees, and the references that mean each name.
-use Rattle.std.proofs.Common.{◌≡◌, ℕ, suc, ◌+◌, ◌<◌, Bool, true, false, List, [], ◌∷◌, ◌++◌, length, get_or, map, slice_get, option_map, Option, Some, None, refl, sym, ◌∙◌, ap, subst, arith, string_bytes, cond}
-use Rattle.std.specs.Prelude.{◌==◌}
-use Rattle.std.specs.Global.{Vec}
+use Rattle.std.proofs.Common.{◌≡◌, ℕ, suc, ◌+◌, ◌<◌, Bool, true, false, List, [], ◌∷◌, ◌++◌, length, get_or, map, slice_get, option_map, Option, Some, None, refl, sym, ◌∙◌, ap, subst, arith, string_bytes, cond, ◌==◌, All, Contains, filter, bytes_eq, eqb-true, eq-eqb}
+use Rattle.proto_faults.proofs.Common.{Vec, get_or-map, length-map, map-append, filter-append, slice_get-get_or, slice_get_within, get_or_from_slice_get, none-some, same_Some, same_from_word, word_from_same}
 use Rattle.std.specs.Cmp.{both_ways}
-use Rattle.std.specs.List.{All, Contains, filter}
-use Rattle.std.specs.Str.{bytes_eq}
-use Rattle.std.proofs.lemmas.Bool.{eqb-true, eq-eqb}
-use Rattle.std.proofs.lemmas.List.{get_or-map, length-map, map-append}
-use Rattle.std.proofs.lemmas.List.Elements.{filter-append}
-use Rattle.std.proofs.lemmas.Option.{slice_get-get_or, slice_get_within, get_or_from_slice_get, none-some, same_Some}
-use Rattle.proto_files.specs.GivenFiles.{FileOf}
+use Rattle.proto_files.proofs.Common.{FileOf, ReadOf, AreRead}
 use Rattle.proto_case.specs.Camel.{entry_name}
-use Rattle.proto_meaning.specs.Faults.{place_of}
-use Rattle.proto_names.specs.FileReferences.{AreFileMeant, uses_of}
-use Rattle.proto_meaning.specs.Grown.{At, at, all_used, used_in}
-use Rattle.proto_imports.specs.Importing.{all_imports}
-use Rattle.proto_meaning.specs.Joined.{joined}
-use Rattle.proto_meaning.specs.Linked.{AreFiles}
-use Rattle.proto_names.specs.LinkOfFiles.{AreNamesOf, HoldsNames, IsLinkBy, has_text, reference_at}
-use Rattle.proto_names.specs.Linking.{LinkOf, MeantBy, NameOf, all_meant, meant_by, name_at, name_of_row, references_to}
-use Rattle.proto_files.specs.FilesRead.{ReadOf, AreRead}
-use Rattle.proto_imports.specs.Links.{link_imports, link_skeleton, names_in, names_of_files, text_of}
-use Rattle.proto_meaning.specs.Names.{Workspace, meaning}
-use Rattle.proto_table.specs.Naming.{used_named}
-use Rattle.proto_names.specs.Referring.{AreMeant}
-use Rattle.proto_table.specs.Resolved.{IsIndexOf}
-use Rattle.proto_meaning.specs.Marks.{MarksSeen}
-use Rattle.proto_meaning.specs.Skeleton.{Used, reference_of}
-use Rattle.proto_table.specs.Tables.{IsTable, aboves_of, look, names_of}
+use Rattle.proto_meaning.proofs.Common.{place_of, At, at, all_used, used_in, joined, AreFiles, Workspace, meaning, MarksSeen, Used, reference_of, names_apart}
+use Rattle.proto_names.specs.Common.{AreFileMeant, uses_of, AreNamesOf, HoldsNames, IsLinkBy, has_text, reference_at, LinkOf, MeantBy, NameOf, all_meant, meant_by, name_at, name_of_row, references_to, AreMeant, RefId, Meant}
+use Rattle.proto_imports.proofs.Common.{all_imports, link_imports, link_skeleton, names_in, names_of_files, text_of, import_in, imports_within}
+use Rattle.proto_table.proofs.Common.{used_named, IsIndexOf, IsTable, aboves_of, look, names_of, pick}
 use Rattle.proto_imports.specs.declared.import.FileImport.{FileImport}
-use Rattle.proto_names.specs.declared.link.RefId.{RefId}
-use Rattle.proto_names.specs.declared.references.Meant.{Meant}
 use Rattle.proto_table.specs.declared.table.Row.{Row}
 use Rattle.proto_table.specs.declared.table.Table.{Table}
-use Rattle.proto_faults.proofs.Lists.{same_from_word, word_from_same}
-use Rattle.proto_meaning.proofs.Forest.{names_apart}
-use Rattle.proto_imports.proofs.ImportGraph.{import_in}
-use Rattle.proto_table.proofs.Search.{pick}
-use Rattle.proto_imports.proofs.SeenFiles.{imports_within}
 
 -- ---- rows and names
 

@@ -1,28 +1,11 @@
 -- The names of a link are those of its table.
-use Rattle.std.proofs.Common.{◌≡◌, ◌≢◌, ◌⊎◌, ℕ, zero, suc, ◌<◌, ◌≤◌, Bool, true, false, ◌&&◌, ◌||◌, List, [], ◌∷◌, length, get_or, map, slice_get, Option, option_map, None, Some, refl, sym, ◌∙◌, ap, subst, inl, inr, arith, string_bytes}
-use Rattle.std.specs.Prelude.{if◌then◌else◌}
-use Rattle.std.specs.Global.{Vec}
-use Rattle.std.specs.List.{list_any, All}
-use Rattle.std.specs.Option.{option_and_then}
-use Rattle.std.specs.Str.{bytes_eq}
-use Rattle.std.proofs.lemmas.Bool.{cases_Bool, false_from_ne_true, both_ways, and_parts, and_from}
-use Rattle.std.proofs.lemmas.List.{get_or-map, get_or_default, get_or_past, length-map}
-use Rattle.std.proofs.lemmas.List.Folds.{list_any_at}
-use Rattle.std.proofs.lemmas.Option.{slice_get-get_or, slice_get_past, slice_get_read, none-some, same_Some}
-use Rattle.proto_meaning.specs.Joined.{joined, ArePlain}
-use Rattle.proto_meaning.specs.Linked.{is_package}
-use Rattle.proto_meaning.specs.Names.{Workspace, shows}
-use Rattle.proto_table.specs.Resolved.{IsIndexOf}
-use Rattle.proto_meaning.specs.Marks.{MarksSeen}
+use Rattle.std.proofs.Common.{◌≡◌, ◌≢◌, ◌⊎◌, ℕ, zero, suc, ◌<◌, ◌≤◌, Bool, true, false, ◌&&◌, ◌||◌, List, [], ◌∷◌, length, get_or, map, slice_get, Option, option_map, None, Some, refl, sym, ◌∙◌, ap, subst, inl, inr, arith, string_bytes, if◌then◌else◌, All, option_and_then, bytes_eq}
+use Rattle.proto_faults.proofs.Common.{Vec, list_any, cases_Bool, false_from_ne_true, both_ways, and_parts, and_from, get_or-map, get_or_default, get_or_past, length-map, list_any_at, slice_get-get_or, slice_get_past, slice_get_read, none-some, same_Some, any_to, any_map, word_from_same, same_from_word}
+use Rattle.proto_meaning.proofs.Common.{joined, ArePlain, is_package, Workspace, shows, MarksSeen, names_apart}
+use Rattle.proto_table.proofs.Common.{IsIndexOf, is_seen, names_of, aboves_of, look, IsTable, shows_from, shows_to, pick}
 use Rattle.proto_names.specs.Linking.{NameOf, LinkOf, name_of_row, text_at, sees_one, shows_text, is_visible}
-use Rattle.proto_table.specs.Search.{is_seen}
-use Rattle.proto_table.specs.Tables.{names_of, aboves_of, look, IsTable}
 use Rattle.proto_table.specs.declared.table.Row.{Row}
 use Rattle.proto_table.specs.declared.table.Table.{Table}
-use Rattle.proto_faults.proofs.Lists.{any_to, any_map, word_from_same, same_from_word}
-use Rattle.proto_meaning.proofs.Forest.{names_apart}
-use Rattle.proto_table.proofs.Resolved.{shows_from, shows_to}
-use Rattle.proto_table.proofs.Search.{pick}
 
 -- the list of the vector that stands at a place
 pub inner_at : {X : Type 0} (all : List (Vec X)) (lists : List (List X)) → map (λ v. v.items) all ≡ lists → (vs : List (Vec X)) → vs ≡ all → (i : ℕ) → i < length vs

@@ -1,13 +1,7 @@
 -- References by the names that they mean, file by file.
-use Rattle.std.proofs.Common.{◌≡◌, ℕ, suc, ◌+◌, ◌<◌, Bool, true, false, cond, List, [], ◌∷◌, ◌++◌, length, get_or, map, take, refl, sym, ◌∙◌, ap, subst, arith, append_assoc, slice_set}
-use Rattle.std.specs.Prelude.{◌==◌}
-use Rattle.std.specs.List.{filter}
-use Rattle.std.proofs.lemmas.Bool.Decides.{nat_tests}
-use Rattle.std.proofs.lemmas.List.{map-append, append-nil, get_or-set_other, get_or-set_same, length-take-le}
-use Rattle.std.proofs.lemmas.List.Elements.{filter-append}
-use Rattle.proto_names.specs.Linking.{MeantBy, meant_by, all_meant, references_to}
-use Rattle.proto_names.specs.declared.link.RefId.{RefId}
-use Rattle.proto_names.specs.declared.references.Meant.{Meant}
+use Rattle.std.proofs.Common.{◌≡◌, ℕ, suc, ◌+◌, ◌<◌, Bool, true, false, cond, List, [], ◌∷◌, ◌++◌, length, get_or, map, take, refl, sym, ◌∙◌, ap, subst, arith, append_assoc, slice_set, ◌==◌, filter, append-nil, get_or-set_other, get_or-set_same, length-take-le}
+use Rattle.proto_faults.proofs.Common.{nat_tests, map-append, filter-append}
+use Rattle.proto_names.specs.Common.{MeantBy, meant_by, all_meant, references_to, RefId, Meant}
 use Rattle.proto_imports.proofs.Turned.{take_more}
 
 all_meant_more : (n : ℕ) (fs : List (List Meant)) (x : List Meant) → all_meant n (fs ++ x ∷ []) ≡ all_meant n fs ++ map (meant_by (n + length fs)) x

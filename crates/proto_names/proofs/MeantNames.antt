@@ -1,16 +1,10 @@
 -- What a link of files answers of a reference, and of the declaration that it means (for the crates above).
-use Rattle.std.proofs.Common.{◌≡◌, ◌≢◌, ℕ, List, get_or, option_map, Option, None, Some, refl, sym, ◌∙◌, ap}
-use Rattle.std.specs.List.{Contains}
-use Rattle.std.proofs.lemmas.Option.{none-some, same_Some}
+use Rattle.std.proofs.Common.{◌≡◌, ◌≢◌, ℕ, List, get_or, option_map, Option, None, Some, refl, sym, ◌∙◌, ap, Contains}
+use Rattle.proto_faults.proofs.Common.{none-some, same_Some, contains_map}
 use Rattle.proto_case.specs.Camel.{entry_name}
-use Rattle.proto_meaning.specs.Faults.{place_of}
-use Rattle.proto_meaning.specs.Grown.{At, at}
-use Rattle.proto_meaning.specs.Joined.{joined}
-use Rattle.proto_names.specs.LinkOfFiles.{IsLinkBy}
-use Rattle.proto_names.specs.Linking.{LinkOf, NameOf, meant_at, name_at}
+use Rattle.proto_meaning.proofs.Common.{place_of, At, at, joined, Declared, Skeleton, Used, name_of, symbol_of}
+use Rattle.proto_names.specs.Common.{IsLinkBy, LinkOf, NameOf, meant_at, name_at}
 use Rattle.proto_meaning.specs.declared.kind.Kind.TheVariants.{Package}
-use Rattle.proto_meaning.specs.Skeleton.{Declared, Skeleton, Used, name_of, symbol_of}
-use Rattle.proto_faults.proofs.Lists.{contains_map}
 
 -- the link's answer for a reference: the row of a name with this text
 pub record NameMeant (l : LinkOf) (file : ℕ) (u : Used ℕ) (name : List (List ℕ)) : Type 0 where

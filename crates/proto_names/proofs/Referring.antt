@@ -1,30 +1,16 @@
 -- What a reference means by its row, and what is wrong with it.
-use Rattle.std.proofs.Common.{◌≡◌, ◌⊎◌, ℕ, suc, ◌+◌, ◌<◌, Bool, true, false, List, [], ◌∷◌, ◌++◌, length, get_or, slice_get, take, drop, map, Option, Some, None, option_map, Result, Ok, Err, Bor, refl, sym, ◌∙◌, ap, subst, inl, inr, arith, string_bytes}
-use Rattle.std.specs.Prelude.{ok_or}
-use Rattle.std.specs.List.{All, Contains}
+use Rattle.std.proofs.Common.{◌≡◌, ◌⊎◌, ℕ, suc, ◌+◌, ◌<◌, Bool, true, false, List, [], ◌∷◌, ◌++◌, length, get_or, slice_get, take, drop, map, Option, Some, None, option_map, Result, Ok, Err, Bor, refl, sym, ◌∙◌, ap, subst, inl, inr, arith, string_bytes, ok_or, All, Contains, take-append-drop}
 use Rattle.std.specs.Slice.{IsItemAt}
-use Rattle.std.proofs.lemmas.Bool.{cases_Bool, cases_lt, cond-true, cond-false}
-use Rattle.std.proofs.lemmas.Option.{none-some, same_Some, slice_get_cases, slice_get_past, slice_get_read}
-use Rattle.std.proofs.lemmas.List.{length-map, map-append, get_or_past, get_or-map, take-append-drop}
-use Rattle.std.proofs.lemmas.List.Elements.{All-append, All-cons, All-nil}
+use Rattle.proto_faults.proofs.Common.{cases_Bool, cases_lt, cond-true, cond-false, none-some, same_Some, slice_get_cases, slice_get_past, slice_get_read, length-map, map-append, get_or_past, get_or-map, All-append, All-cons, All-nil}
 use Rattle.std.proofs.Math.Seq.{drop-cons}
 use Rattle.proto_meaning.specs.declared.kind.Kind.{Kind}
 use Rattle.proto_meaning.specs.declared.kind.Kind.TheVariants.{Package, Message, Entry, Enum, Service, Field, EntryField, Oneof, Value, Method}
-use Rattle.proto_meaning.specs.Names.{Symbol, Reference, Workspace, is_type, meaning, meaning_at, hit, typed}
-use Rattle.proto_meaning.specs.Joined.{joined}
+use Rattle.proto_meaning.proofs.Common.{Symbol, Reference, Workspace, is_type, meaning, meaning_at, hit, typed, joined, names_apart, name_some, typed_is, shown}
 use Rattle.proto_table.specs.declared.table.Row.{Row}
 use Rattle.proto_table.specs.declared.table.Table.{Table}
-use Rattle.proto_table.specs.Tables.{names_of, aboves_of, look, IsTable}
-use Rattle.proto_table.specs.Resolved.{IsIndexOf, IsAsked}
-use Rattle.proto_names.specs.Referring.{reference_by, first_token, IsReadBy, IsFlawed, IsFaultless, AreMeant, IsFirstBad, kind_flaw, found_flaw, row_flaw}
+use Rattle.proto_table.proofs.Common.{names_of, aboves_of, look, IsTable, IsIndexOf, IsAsked}
+use Rattle.proto_names.specs.Common.{reference_by, first_token, IsReadBy, IsFlawed, IsFaultless, AreMeant, IsFirstBad, kind_flaw, found_flaw, row_flaw, BadReference, Meant, ReferenceFlaw, Unresolved, WrongKind, MapEntry}
 use Rattle.proto_listing.specs.declared.listing.Use.{Use}
-use Rattle.proto_names.specs.declared.references.BadReference.{BadReference}
-use Rattle.proto_names.specs.declared.references.Meant.{Meant}
-use Rattle.proto_names.specs.declared.references.ReferenceFlaw.{ReferenceFlaw}
-use Rattle.proto_names.specs.declared.references.ReferenceFlaw.TheVariants.{Unresolved, WrongKind, MapEntry}
-use Rattle.proto_meaning.proofs.Forest.{names_apart, name_some}
-use Rattle.proto_meaning.proofs.Rename.{typed_is}
-use Rattle.proto_meaning.proofs.Symbols.{shown}
 use Rattle.proto_imports.proofs.Turned.{take_more}
 
 -- the words of a reference by its first and the others

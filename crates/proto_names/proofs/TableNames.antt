@@ -1,40 +1,19 @@
 -- The table of the names of files, and the rows of their declarations.
-use Rattle.std.proofs.Common.{◌≡◌, ◌≢◌, ℕ, suc, ◌+◌, ◌<◌, List, [], ◌∷◌, length, get_or, map, sym, ◌∙◌, ap, subst, inl, inr, arith}
-use Rattle.std.specs.Global.{Vec}
-use Rattle.std.specs.List.{All, Contains}
-use Rattle.std.proofs.lemmas.List.{length-map, get_or-map}
-use Rattle.std.proofs.lemmas.List.Elements.{Contains-append_cases}
-use Rattle.proto_files.specs.GivenFiles.{FileOf, file_at}
+use Rattle.std.proofs.Common.{◌≡◌, ◌≢◌, ℕ, suc, ◌+◌, ◌<◌, List, [], ◌∷◌, length, get_or, map, sym, ◌∙◌, ap, subst, inl, inr, arith, All, Contains}
+use Rattle.proto_faults.proofs.Common.{Vec, length-map, get_or-map, Contains-append_cases}
+use Rattle.proto_files.proofs.Common.{FileOf, file_at, Each, AreRead, ReadOf, read_at}
 use Rattle.proto_tree.specs.Tree.{End}
-use Rattle.proto_names.specs.FileReferences.{declared_names}
-use Rattle.proto_table.specs.Filling.{AreRows, IsRowAt}
-use Rattle.proto_meaning.specs.Forest.{front}
-use Rattle.proto_listing.specs.FromTree.{items_in}
-use Rattle.proto_meaning.specs.Grown.{At, at, FileNames}
-use Rattle.proto_meaning.specs.Joined.{ArePlain, joined}
-use Rattle.proto_table.specs.LastWords.{named_as}
-use Rattle.proto_names.specs.LinkOfFiles.{AreNamesOf, IsDeclaredIn}
+use Rattle.proto_names.specs.Common.{declared_names, AreNamesOf, IsDeclaredIn}
+use Rattle.proto_table.proofs.Common.{AreRows, IsRowAt, named_as, AreSpans, tree_named, IsIndexOf, AreSpelled, Named, all_named, named_in, symbol_named, names_of, as_named, declared_is_named, same_symbols, pick}
+use Rattle.proto_meaning.proofs.Common.{front, At, at, FileNames, ArePlain, joined, Declared, ItemsSpan, map_map}
+use Rattle.proto_listing.proofs.Common.{items_in, package_first, length-read, tree_span}
 use Rattle.proto_imports.specs.Links.{AreListings, link_skeleton, names_in, names_of_files, text_of}
-use Rattle.proto_files.specs.FilesRead.{Each}
-use Rattle.proto_files.specs.FilesRead.{AreRead, ReadOf, read_at}
-use Rattle.proto_listing.specs.Listing.{package_first}
 use Rattle.proto_meaning.specs.declared.kind.Kind.TheVariants.{Package}
-use Rattle.proto_table.specs.Naming.{AreSpans, tree_named}
-use Rattle.proto_table.specs.Resolved.{IsIndexOf}
-use Rattle.proto_meaning.specs.Skeleton.{Declared}
-use Rattle.proto_table.specs.Spelled.{AreSpelled, Named, all_named, named_in, symbol_named}
-use Rattle.proto_table.specs.Tables.{names_of}
-use Rattle.proto_meaning.specs.Tree.{ItemsSpan}
 use Rattle.proto_listing.specs.declared.listing.Listing.{Listing}
 use Rattle.proto_table.specs.declared.spelled.Spelled.{Spelled}
 use Rattle.proto_table.specs.declared.table.Table.{Table}
-use Rattle.proto_meaning.proofs.Edited.{map_map}
-use Rattle.proto_listing.proofs.Growing.{length-read}
 use Rattle.proto_table.proofs.Held.{index_same}
-use Rattle.proto_table.proofs.NameFaults.{as_named, declared_is_named, same_symbols}
 use Rattle.proto_table.proofs.Naming.{named_length, named_plain}
-use Rattle.proto_listing.proofs.ReadTrees.{tree_span}
-use Rattle.proto_table.proofs.Search.{pick}
 
 -- what holds of an element holds of its image
 at_image : {X Y : Type 0} (f : X → Y) (xs : List X) (k : ℕ) (e : Y) (P : Y → Type 0) → k < length xs → ((d : X) → P (f (get_or xs k d))) → P (get_or (map f xs) k e)

@@ -1,3 +1,4 @@
+pub mod Common
 pub mod FileReferences
 pub mod Laws
 pub mod LinkOfFiles

@@ -1,15 +1,8 @@
 -- Flaws that have no effect on the least: those at whose token another stands with a smaller number (for the crates above).
-use Rattle.std.proofs.Common.{◌≡◌, ◌⊎◌, ℕ, ◌<◌, nat_lt, Bool, true, false, ◌&&◌, ◌||◌, ◌==◌, if◌then◌else◌, List, [], ◌∷◌, ◌++◌, map, flat_map, Option, Some, None, refl, sym, ◌∙◌, ap, subst, inl, inr, arith}
-use Rattle.std.specs.List.{list_any, Contains}
-use Rattle.std.proofs.lemmas.Bool.{or_cases}
-use Rattle.std.proofs.lemmas.Bool.Decides.{nat_tests}
-use Rattle.std.proofs.lemmas.List.Elements.{Contains-append_cases, Contains-append_left, Contains-append_right}
-use Rattle.std.proofs.lemmas.List.Folds.{list_any-append}
-use Rattle.proto_faults.proofs.Lists.{contains_cases, contains_head, contains_later}
+use Rattle.std.proofs.Common.{◌≡◌, ◌⊎◌, ℕ, ◌<◌, nat_lt, Bool, true, false, ◌&&◌, ◌||◌, ◌==◌, if◌then◌else◌, List, [], ◌∷◌, ◌++◌, map, flat_map, Option, Some, None, refl, sym, ◌∙◌, ap, subst, inl, inr, arith, Contains}
+use Rattle.proto_faults.proofs.Common.{list_any, or_cases, nat_tests, Contains-append_cases, Contains-append_left, Contains-append_right, list_any-append, contains_cases, contains_head, contains_later, number_of}
 use Rattle.proto_faults.specs.declared.fault.FaultKind.{FaultKind}
-use Rattle.proto_faults.specs.FaultTable.{number_of}
-use Rattle.proto_numbers.specs.declared.flaw.Flaw.{Flaw}
-use Rattle.proto_numbers.specs.Flaws.{flaw, flaw_if, earlier, marked, comes_before, IsLeast}
+use Rattle.proto_numbers.specs.Common.{Flaw, flaw, flaw_if, earlier, marked, comes_before, IsLeast}
 
 -- another one at its token has a smaller number
 abbrev pub Beneath : List Flaw → Flaw → Type 0

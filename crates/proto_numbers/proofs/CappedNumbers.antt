@@ -1,15 +1,12 @@
 -- Numbers with a cap and without one: those below the cap are the same, and the others are past every limit (for the crates above).
-use Rattle.std.proofs.Common.{◌≡◌, ℕ, zero, suc, ◌-◌, ◌^◌, ◌≤◌, min, ℤ, pos, negsuc, neg_ℤ, int_le, Bool, true, false, not, ◌&&◌, if◌then◌else◌, Option, Some, None, is_some, refl, sym, ◌∙◌, ap, subst, inl, inr, arith}
-use Rattle.std.specs.Ordering.{int_eq}
-use Rattle.std.proofs.lemmas.Bool.{cases_lt, and_parts, and_from, false_from_ne_true, true_from_ne_false}
-use Rattle.std.proofs.lemmas.Bool.Decides.{Decides-int_eq, same_from_decides}
+use Rattle.std.proofs.Common.{◌≡◌, ℕ, zero, suc, ◌-◌, ◌^◌, ◌≤◌, min, ℤ, pos, negsuc, neg_ℤ, int_le, Bool, true, false, not, ◌&&◌, if◌then◌else◌, Option, Some, None, is_some, refl, sym, ◌∙◌, ap, subst, inl, inr, arith, int_eq}
+use Rattle.proto_faults.proofs.Common.{cases_lt, and_parts, and_from, false_from_ne_true, true_from_ne_false, Decides-int_eq, same_from_decides}
 use borrow.Author.Differences.{le-true, le-false, same_in}
 use Rattle.proto_tree.specs.declared.tree.RangeEnd.{RangeEnd}
 use Rattle.proto_tree.specs.declared.tree.RangeEnd.TheVariants as range_end
 use Rattle.proto_tree.specs.declared.tree.UpTo.{UpTo}
 use Rattle.proto_tree.specs.declared.tree.Signed.{Signed}
-use Rattle.proto_parts.specs.Numbers.{past, number_of}
-use Rattle.proto_parts.specs.Scenes.{Scene, text, up_to, number_at, signed_at}
+use Rattle.proto_parts.proofs.Common.{past, number_of, Scene, text, up_to, number_at, signed_at}
 use Rattle.proto_numbers.specs.NumberFlaws.{is_within, is_field_number, is_value_number, most_field, least_value, most_value, bound_of, end_of}
 
 -- ---- the order

@@ -1,16 +1,10 @@
 -- The flaws of numbers and ranges, with one cap and another: what differs stands at a token where a number is outside its limits (for the crates above).
-use Rattle.std.proofs.Common.{◌≡◌, ◌⊎◌, ℕ, ℤ, int_le, Bool, true, false, not, ◌&&◌, ◌||◌, List, [], ◌∷◌, ◌++◌, map, refl, sym, ◌∙◌, ap, subst, inl, inr}
-use Rattle.std.specs.List.{list_any, Contains}
-use Rattle.std.proofs.lemmas.Bool.{cases_Bool, and_parts, and_from, true_from_ne_false}
-use Rattle.proto_faults.proofs.Lists.{contains_head, contains_later, contains_map}
+use Rattle.std.proofs.Common.{◌≡◌, ◌⊎◌, ℕ, ℤ, int_le, Bool, true, false, not, ◌&&◌, ◌||◌, List, [], ◌∷◌, ◌++◌, map, refl, sym, ◌∙◌, ap, subst, inl, inr, Contains, int_eq}
+use Rattle.proto_faults.proofs.Common.{list_any, cases_Bool, and_parts, and_from, true_from_ne_false, contains_head, contains_later, contains_map}
 use Rattle.proto_faults.specs.declared.fault.FaultKind.{FaultKind}
 use Rattle.proto_faults.specs.declared.fault.FaultKind.TheVariants as kind
-use Rattle.proto_numbers.specs.declared.flaw.Flaw.{Flaw}
-use Rattle.proto_numbers.specs.declared.numbers.NumberAt.{NumberAt}
+use Rattle.proto_numbers.specs.Common.{Flaw, NumberAt, flaw, flaw_if, after_earlier, marked, is_within, outside, is_sound_range, broken_ranges, is_inside, reserved_numbers, share, overlaps, repeated_numbers}
 use Rattle.proto_parts.specs.declared.ranges.RangeAt.{RangeAt}
-use Rattle.proto_numbers.specs.Flaws.{flaw, flaw_if, after_earlier, marked}
-use Rattle.std.specs.Ordering.{int_eq}
-use Rattle.proto_numbers.specs.NumberFlaws.{is_within, outside, is_sound_range, broken_ranges, is_inside, reserved_numbers, share, overlaps, repeated_numbers}
 use Rattle.proto_numbers.proofs.CappedNumbers.{Alike, alike_back, is_near, near_between, near_within, same_near, numbers_same, le_through, le_or_back, IsLimit}
 use Rattle.proto_numbers.proofs.CappedCovers.{Beneath, Covered, covered_equal, covered_join, covered_if, covered_marked, contains_flat, flaw_here}
 

@@ -1,16 +1,8 @@
 -- Lists of flaws: tokens that are marked, keys that repeat, and the least flaw (for the crates above).
-use Rattle.std.proofs.Common.{◌≡◌, ◌≢◌, ℕ, zero, suc, ◌+◌, ◌<◌, ◌≤◌, Bool, true, false, ◌||◌, ◌&&◌, ◌==◌, List, [], ◌∷◌, ◌++◌, length, get_or, take, drop, map, flat_map, Option, Some, None, refl, sym, ap, subst, ◌∙◌, if◌then◌else◌, append_assoc, inl, inr, ◌⊎◌, arith}
-use Rattle.std.specs.Prelude.{nat_lt, not}
-use Rattle.std.specs.List.{list_any, Contains}
-use Rattle.std.proofs.lemmas.Bool.{cases_Bool, cases_lt, eqb-true, eq-eqb, ltb-false, le-ltb}
-use Rattle.std.proofs.lemmas.List.{flat_map_more, take_more, take_all, take-append-drop}
-use Rattle.std.proofs.lemmas.List.Elements.{Contains-append_left, Contains-append_right, Contains-append_cases}
-use Rattle.std.proofs.lemmas.List.Folds.{list_any-append}
+use Rattle.std.proofs.Common.{◌≡◌, ◌≢◌, ℕ, zero, suc, ◌+◌, ◌<◌, ◌≤◌, Bool, true, false, ◌||◌, ◌&&◌, ◌==◌, List, [], ◌∷◌, ◌++◌, length, get_or, take, drop, map, flat_map, Option, Some, None, refl, sym, ap, subst, ◌∙◌, if◌then◌else◌, append_assoc, inl, inr, ◌⊎◌, arith, nat_lt, not, Contains, eqb-true, eq-eqb, ltb-false, le-ltb, take_all, take-append-drop}
+use Rattle.proto_faults.proofs.Common.{list_any, cases_Bool, cases_lt, flat_map_more, take_more, Contains-append_left, Contains-append_right, Contains-append_cases, list_any-append, number_of, contains_cases}
 use Rattle.proto_faults.specs.declared.fault.FaultKind.{FaultKind}
-use Rattle.proto_faults.specs.FaultTable.{number_of}
-use Rattle.proto_faults.proofs.Lists.{contains_cases}
-use Rattle.proto_numbers.specs.declared.flaw.Flaw.{Flaw}
-use Rattle.proto_numbers.specs.Flaws.{flaw_if, earlier, after_earlier, marked, comes_before, IsLeast}
+use Rattle.proto_numbers.specs.Common.{Flaw, flaw_if, earlier, after_earlier, marked, comes_before, IsLeast}
 
 -- ---- marked tokens
 

@@ -1,26 +1,15 @@
 -- Ranges in order: what the index answers is what the ranges say (for the crates above).
-use Rattle.std.proofs.Common.{◌≡◌, ℕ, ℤ, ◌+◌, ◌-◌, ◌<◌, ◌≤◌, Bool, true, false, ◌||◌, ◌&&◌, List, [], ◌∷◌, ◌++◌, length, get_or, take, Option, refl, sym, ap, subst, ◌∙◌, inl, inr, ◌⊎◌, if◌then◌else◌, Less, Equal, Greater, arith}
-use Rattle.std.specs.Prelude.{nat_lt, int_le, int_lt}
-use Rattle.std.specs.Ordering.{int_cmp, is_lt}
-use Rattle.std.specs.List.{list_any, filter, Contains}
-use Rattle.std.specs.List.Sorted.{IsPartitionPoint, IsPartitionedBy, IsSortedByKey}
+use Rattle.std.proofs.Common.{◌≡◌, ℕ, ℤ, ◌+◌, ◌-◌, ◌<◌, ◌≤◌, Bool, true, false, ◌||◌, ◌&&◌, List, [], ◌∷◌, ◌++◌, length, get_or, take, Option, refl, sym, ap, subst, ◌∙◌, inl, inr, ◌⊎◌, if◌then◌else◌, Less, Equal, Greater, arith, nat_lt, int_le, int_lt, int_cmp, is_lt, filter, Contains, IsSortedByKey, lt-ltb, ltb-true, take_all, length-take, get_or-take}
+use Rattle.proto_faults.proofs.Common.{list_any, IsPartitionPoint, IsPartitionedBy, cases_Bool, cases_lt, both_ways, int_cmp_total, ints, take_more, take-append-le, list_any_at, list_any_more, ranks_by, sorted_far, list_any-IsPermutation, Contains-permutation, IsPermutation-sym, any_agree, any_to, contains_cases}
 use Rattle.std.specs.Fn.{Called, ComputesKey}
 use denote.Ref.{Bor}
 use denote.Param.Members.{Mut}
-use Rattle.std.proofs.lemmas.Bool.{cases_Bool, cases_lt, both_ways, lt-ltb, ltb-true}
-use Rattle.std.proofs.lemmas.Cmp.{int_cmp_total}
 use Rattle.std.proofs.lemmas.Fn.{always_returns_same}
-use Rattle.std.proofs.lemmas.Int.{ints}
-use Rattle.std.proofs.lemmas.List.{take_all, take_more, take-append-le, length-take, get_or-take}
 use Rattle.std.proofs.Math.ListN.{get_or-append}
 use Rattle.std.proofs.Math.Seq.{get_or-append_seam}
-use Rattle.std.proofs.lemmas.List.Folds.{list_any_at, list_any_more}
-use Rattle.std.proofs.lemmas.List.Sorted.{ranks_by, sorted_far, list_any-IsPermutation, Contains-permutation, IsPermutation-sym}
 use Rattle.std.proofs.lemmas.Map.Views.{any-filter_same}
-use Rattle.proto_faults.proofs.Lists.{any_agree, any_to, contains_cases}
 use Rattle.proto_parts.specs.declared.ranges.RangeAt.{RangeAt}
-use Rattle.proto_numbers.specs.NumberFlaws.{is_inside, share}
-use Rattle.proto_numbers.specs.RangeIndex.{has_numbers, AreInOrder, reach, reaches, AreRaised, IsIndexOf}
+use Rattle.proto_numbers.specs.Common.{is_inside, share, has_numbers, AreInOrder, reach, reaches, AreRaised, IsIndexOf}
 
 le_trans : (a b c : ℤ) → int_le a b ≡ true → int_le b c ≡ true → int_le a c ≡ true
 le_trans a b c h k = grind (arith, ints)

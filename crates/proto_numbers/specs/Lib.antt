@@ -1,3 +1,4 @@
+pub mod Common
 pub mod Flaws
 pub mod NumberFlaws
 pub mod RangeIndex

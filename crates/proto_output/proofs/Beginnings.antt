@@ -1,8 +1,6 @@
 -- Beginnings of texts that are written one behind the other.
-use Rattle.std.proofs.Common.{ℕ, List, ◌++◌, Option, sym, ap, ◌∙◌, append_assoc}
-use Rattle.std.proofs.KnownBytes.{Appends-trans}
-use Rattle.std.specs.Prelude.{OnErr, OnOk, Result, Ok, Err}
-use Rattle.std.specs.Io.KnownBytes.{Appends}
+use Rattle.std.proofs.Common.{ℕ, List, ◌++◌, Option, sym, ap, ◌∙◌, append_assoc, OnErr, OnOk, Result, Ok, Err}
+use Rattle.proto_faults.proofs.Common.{Appends-trans, Appends}
 use Rattle.proto_output.specs.Writing.{AppendsBeginning}
 
 -- a beginning of a text is one of what goes on behind it

@@ -1,8 +1,6 @@
 -- The lines of changes, one more at a time.
 use Rattle.std.proofs.Common.{◌≡◌, ℕ, ◌+◌, ◌<◌, List, [], ◌∷◌, ◌++◌, Option, drop, get_or, length, map, take, sym, subst, ap, ◌∙◌, append-nil, take-append-drop}
-use Rattle.std.specs.Io.KnownBytes.{Appends}
-use Rattle.std.proofs.lemmas.Grind.{flat_map-append}
-use Rattle.std.proofs.lemmas.List.{map-append, take_more}
+use Rattle.proto_faults.proofs.Common.{Appends, flat_map-append, map-append, take_more}
 use Rattle.proto_entries.specs.Entries.{change_of}
 use Rattle.proto_entries.specs.declared.entry.Change.{Change}
 use Rattle.proto_output.specs.EditLines.{changed_line, changed_lines}

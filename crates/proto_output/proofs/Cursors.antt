@@ -1,6 +1,5 @@
 -- How far a cursor can have come.
-use Rattle.std.proofs.Common.{◌≡◌, ◌≤◌, ◌+◌, ◌==◌, ℕ, List, take, length, min, arith}
-use Rattle.std.proofs.lemmas.List.{length-take}
+use Rattle.std.proofs.Common.{◌≡◌, ◌≤◌, ◌+◌, ◌==◌, ℕ, List, take, length, min, arith, length-take}
 use Rattle.std.proofs.lemmas.List.Sums.{count_by-le-length, suffix_len-le-length}
 use Rattle.proto_text.specs.Lines.{line_behind, column_behind}
 use Rattle.proto_text.specs.Pieces.{is_in_line}

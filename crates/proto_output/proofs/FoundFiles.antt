@@ -1,14 +1,9 @@
 -- The text of the file at a path.
-use Rattle.std.proofs.Common.{◌≡◌, ◌≢◌, ◌<◌, ◌≤◌, ℕ, zero, suc, Bool, true, false, cond, List, [], ◌∷◌, Some, refl, sym, ap, ◌∙◌, subst, arith, length}
-use Rattle.std.specs.List.{AllPairs}
-use Rattle.std.specs.Option.{unwrap_or}
-use Rattle.std.specs.Str.{bytes_eq}
+use Rattle.std.proofs.Common.{◌≡◌, ◌≢◌, ◌<◌, ◌≤◌, ℕ, zero, suc, Bool, true, false, cond, List, [], ◌∷◌, Some, refl, sym, ap, ◌∙◌, subst, arith, length, AllPairs, unwrap_or, bytes_eq}
 use Rattle.std.proofs.lemmas.Slice.Eq.{bytes_eq-Decides}
-use Rattle.proto_files.specs.GivenFiles.{FileOf, file_at}
-use Rattle.proto_files.specs.WorkspacePaths.{IsBefore}
+use Rattle.proto_files.proofs.Common.{FileOf, file_at, IsBefore}
 use Rattle.proto_output.specs.FoundLines.{text_at}
-use Rattle.proto_store.specs.Stores.{bytes_at}
-use Rattle.proto_store.proofs.PathOrder.{differs_if_less, same_text}
+use Rattle.proto_store.proofs.Common.{bytes_at, differs_if_less, same_text}
 
 -- a file with the path is the one that is looked up, since no two have one path
 pub text_of_file : (files : List FileOf) (k : ℕ) (path : List ℕ) → AllPairs (λ f g. IsBefore f.path g.path) files → k < length files → (file_at files k).path ≡ path → text_at path files ≡ (file_at files k).bytes

@@ -1,5 +1,6 @@
 mod Beginnings
 mod ChangeLines
+pub mod Common
 mod Cursors
 mod FoundFiles
 mod LogSteps

@@ -1,9 +1,7 @@
 -- Numbers that stop at a limit.
-use Rattle.std.proofs.Common.{◌≡◌, ℕ, ◌+◌, ◌*◌, ◌<◌, ◌≤◌, List, [], ◌∷◌, ◌++◌, length, get_or, take, refl, sym, ap, subst, ◌∙◌, inl, inr, arith}
-use Rattle.std.specs.Prelude.{min}
+use Rattle.std.proofs.Common.{◌≡◌, ℕ, ◌+◌, ◌*◌, ◌<◌, ◌≤◌, List, [], ◌∷◌, ◌++◌, length, get_or, take, refl, sym, ap, subst, ◌∙◌, inl, inr, arith, min}
 use Rattle.std.proofs.Math.Nat.{mul-le-mul_left}
-use Rattle.std.proofs.lemmas.Bool.{cases_lt}
-use Rattle.std.proofs.lemmas.List.{take_more}
+use Rattle.proto_faults.proofs.Common.{cases_lt, take_more}
 use Rattle.proto_text.specs.Strings.{number_in, digit_value}
 
 -- a number that stops at a limit, with one more digit

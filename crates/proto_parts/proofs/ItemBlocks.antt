@@ -1,9 +1,6 @@
 -- The blocks of items that stand one behind another, and those of them whose header is wanted (for the crates above).
-use Rattle.std.proofs.Common.{◌≡◌, ℕ, ◌+◌, ◌<◌, Bool, false, cond, List, [], ◌∷◌, ◌++◌, length, get_or, drop, refl, ap, ◌∙◌}
-use Rattle.std.specs.List.{filter}
-use Rattle.std.proofs.lemmas.List.{append-nil}
-use Rattle.std.proofs.lemmas.List.Elements.{filter-append}
-use Rattle.proto_faults.proofs.Turns.{listed_turn}
+use Rattle.std.proofs.Common.{◌≡◌, ℕ, ◌+◌, ◌<◌, Bool, false, cond, List, [], ◌∷◌, ◌++◌, length, get_or, drop, refl, ap, ◌∙◌, filter, append-nil}
+use Rattle.proto_faults.proofs.Common.{filter-append, listed_turn}
 use Rattle.proto_tree.specs.declared.piece.Header.{Header}
 use Rattle.proto_tree.specs.declared.piece.Header.TheVariants as header
 use Rattle.proto_tree.specs.declared.tree.EnumItem.{EnumItem}
@@ -15,8 +12,7 @@ use Rattle.proto_tree.specs.declared.tree.MethodItem.TheVariants as method_item
 use Rattle.proto_tree.specs.declared.tree.ServiceItem.{ServiceItem}
 use Rattle.proto_tree.specs.declared.tree.ServiceItem.TheVariants as service_item
 use Rattle.proto_tree.specs.declared.tree.Signature.{Signature}
-use Rattle.proto_tree.specs.File.{enum_item_tree, method_by, method_item_tree, service_item_tree, trees}
-use Rattle.proto_tree.specs.Tree.{Tree, joined}
+use Rattle.proto_tree.proofs.Common.{enum_item_tree, method_by, method_item_tree, service_item_tree, trees, Tree, joined}
 use Rattle.proto_parts.specs.Parts.{BlockOf, blocks_in}
 use Rattle.proto_parts.proofs.JoinedTrees.{blocks_joined}
 

@@ -1,3 +1,4 @@
+pub mod Common
 mod Digits
 pub mod ItemBlocks
 pub mod JoinedTrees

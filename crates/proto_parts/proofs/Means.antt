@@ -1,14 +1,8 @@
 -- What references mean, found by their first tokens.
-use Rattle.std.proofs.Common.{◌≡◌, ℕ, zero, suc, ◌<◌, ◌≤◌, ◌⊎◌, inl, inr, Bool, true, false, cond, ◌==◌, List, [], ◌∷◌, length, get_or, map, Option, Some, None, Ok, Err, refl, sym, ap, ◌∙◌, arith}
-use Rattle.std.specs.List.{find, AllPairs}
-use Rattle.std.specs.List.Sorted.{IsBinarySearchResult, IsNonDecreasingBy}
-use Rattle.std.specs.Ordering.{nat_cmp, ordering_index}
-use Rattle.std.proofs.lemmas.Cmp.{ranked}
-use Rattle.std.proofs.lemmas.Bool.{cases_Bool, cases_lt, eqb-true}
-use Rattle.std.proofs.lemmas.Bool.Decides.{nat_tests}
+use Rattle.std.proofs.Common.{◌≡◌, ℕ, zero, suc, ◌<◌, ◌≤◌, ◌⊎◌, inl, inr, Bool, true, false, cond, ◌==◌, List, [], ◌∷◌, length, get_or, map, Option, Some, None, Ok, Err, refl, sym, ap, ◌∙◌, arith, find, AllPairs, nat_cmp, eqb-true}
+use Rattle.proto_faults.proofs.Common.{IsBinarySearchResult, IsNonDecreasingBy, ordering_index, ranked, cases_Bool, cases_lt, nat_tests}
 use Rattle.proto_parts.specs.declared.scene.MeantAt.{MeantAt}
-use Rattle.proto_parts.specs.Scenes.{MeantOf}
-use Rattle.proto_parts.specs.Views.{meant_of}
+use Rattle.proto_parts.specs.Common.{MeantOf, meant_of}
 
 abbrev pub found : ℕ → List MeantAt → Option MeantOf
 found t ms = find (λ m. m.token == t) (map meant_of ms)

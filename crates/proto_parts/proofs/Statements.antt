@@ -1,18 +1,12 @@
 -- The parts of trees that stand one behind another.
-use Rattle.std.proofs.Common.{◌≡◌, ℕ, suc, ◌+◌, ◌<◌, ◌≤◌, ◌||◌, Bool, true, false, cond, List, [], ◌∷◌, ◌++◌, length, get_or, drop, map, None, Some, refl, sym, ap, ◌∙◌, append_assoc, drop-cons, add-one, arith}
-use Rattle.std.specs.List.{find, flat_map, list_any}
-use Rattle.std.proofs.lemmas.Grind.{flat_map-append}
-use Rattle.std.proofs.lemmas.List.{drop_more, map-append}
-use Rattle.std.proofs.lemmas.List.Folds.{list_any-append}
-use Rattle.proto_faults.proofs.Turns.{all_listed, listed_turn}
+use Rattle.std.proofs.Common.{◌≡◌, ℕ, suc, ◌+◌, ◌<◌, ◌≤◌, ◌||◌, Bool, true, false, cond, List, [], ◌∷◌, ◌++◌, length, get_or, drop, map, None, Some, refl, sym, ap, ◌∙◌, append_assoc, drop-cons, add-one, arith, find, flat_map}
+use Rattle.proto_faults.proofs.Common.{list_any, flat_map-append, drop_more, map-append, list_any-append, all_listed, listed_turn}
 use Rattle.proto_tree.specs.declared.piece.Statement.{Statement}
 use Rattle.proto_tree.specs.declared.piece.Header.TheVariants as header
 use Rattle.proto_tree.specs.declared.tree.Item.{Item}
 use Rattle.proto_tree.specs.declared.tree.Member.{Member}
-use Rattle.proto_tree.specs.File.{item_tree, member_tree, trees}
-use Rattle.proto_tree.specs.Tree.{Tree, End, Leaf, Block, joined}
-use Rattle.proto_parts.specs.Parts.{FieldOf, statements, fields_from, statement_fields, oneof_count}
-use Rattle.proto_parts.specs.Scenes.{is_proto3, is_proto3_statement}
+use Rattle.proto_tree.proofs.Common.{item_tree, member_tree, trees, Tree, End, Leaf, Block, joined}
+use Rattle.proto_parts.specs.Common.{FieldOf, statements, fields_from, statement_fields, oneof_count, is_proto3, is_proto3_statement}
 use Rattle.proto_parts.proofs.JoinedTrees.{statements_joined}
 
 pub parts_joined : {A : Type 0} (part : Statement → List A) (t u : Tree) → flat_map part (statements (joined t u)) ≡ flat_map part (statements t) ++ flat_map part (statements u)

@@ -1,12 +1,8 @@
 -- The value of a string token, and nothing for another token.
-use Rattle.std.proofs.Common.{◌≡◌, ℕ, List, [], Option, None, Some, slice_get, refl, sym, ◌∙◌, ap, codes}
-use Rattle.std.specs.Prelude.{if◌then◌else◌}
-use Rattle.std.specs.Option.{option_and_then}
-use Rattle.std.specs.Str.{bytes_eq}
+use Rattle.std.proofs.Common.{◌≡◌, ℕ, List, [], Option, None, Some, slice_get, refl, sym, ◌∙◌, ap, codes, if◌then◌else◌, option_and_then, bytes_eq}
 use Rattle.proto_text.specs.declared.kind.TokenKind.{TokenKind}
 use Rattle.proto_text.specs.declared.kind.TokenKind.TheVariants.{Word, Number, Text, Punctuation}
-use Rattle.proto_text.specs.Tokens.{Lexeme}
-use Rattle.proto_text.specs.Values.{is_value, value_of}
+use Rattle.proto_text.proofs.Common.{Lexeme, is_value, value_of}
 use Rattle.proto_faults.specs.Texts.{or_nothing}
 use Rattle.proto_files.specs.StringTokens.{is_string, string_at}
 use Rattle.proto_parts.specs.Scenes.{string_of, value_in, value_or_none}

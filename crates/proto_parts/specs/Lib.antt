@@ -1,3 +1,4 @@
+pub mod Common
 pub mod JsonNames
 pub mod Labels
 pub mod Numbers

@@ -1,9 +1,7 @@
 -- No text is both as before a change and as after it.
 use Rattle.std.proofs.Common.{arith, ◌≡◌, ℕ, ◌+◌, ◌-◌, List, [], ◌∷◌, ◌++◌, length, sym, ◌∙◌, subst}
-use Rattle.std.specs.List.{AllByRecursion}
-use Rattle.std.proofs.lemmas.List.Elements.{All-from_recursion, recursion_from_All}
-use Rattle.proto_text.specs.Edits.{Edit, Puts, inverse_from}
-use Rattle.proto_text.proofs.EditLaws.{cut}
+use Rattle.proto_faults.proofs.Common.{AllByRecursion, All-from_recursion, recursion_from_All}
+use Rattle.proto_text.proofs.Common.{Edit, Puts, inverse_from, cut}
 use Rattle.proto_records.specs.RecoveryLaws.{NoTextIsBoth}
 
 -- where old and new texts are as long as one another, and both stand at their places, they are the same

@@ -1,20 +1,10 @@
 -- A store that is torn between the files before and after an entry comes back, and stays torn so where recovery is cut off.
-use Rattle.std.proofs.Common.{◌≡◌, ◌≢◌, ◌⊎◌, inl, inr, ℕ, Bool, true, false, cond, List, [], ◌∷◌, ◌++◌, Some, refl, sym, ap, ◌∙◌, subst}
-use Rattle.std.specs.List.{AllByRecursion, Contains}
-use Rattle.std.specs.Str.{bytes_eq}
-use Rattle.std.proofs.lemmas.Slice.Eq.{bytes_eq-Decides}
-use Rattle.std.proofs.lemmas.List.Elements.{recursion_from_All}
+use Rattle.std.proofs.Common.{◌≡◌, ◌≢◌, ◌⊎◌, inl, inr, ℕ, Bool, true, false, cond, List, [], ◌∷◌, ◌++◌, Some, refl, sym, ap, ◌∙◌, subst, Contains, bytes_eq}
+use Rattle.proto_faults.proofs.Common.{AllByRecursion, bytes_eq-Decides, recursion_from_All}
 use Rattle.proto_files.specs.GivenFiles.{FileOf, paths_of}
-use Rattle.proto_entries.specs.Entries.{ChangeOf, IsEntry}
-use Rattle.proto_entries.specs.Putting.{EachPuts, IsPut}
-use Rattle.proto_entries.proofs.Puts.{find_change}
-use Rattle.proto_records.specs.declared.record.Record.{Record}
-use Rattle.proto_records.specs.Journals.{IsJournal, IsRecord, opened}
-use Rattle.proto_records.specs.Laws.{IsReadInOneWay}
-use Rattle.proto_store.specs.Stores.{AreInPathOrder, Held, bytes_at}
-use Rattle.proto_store.proofs.Replaced.{same_files}
-use Rattle.proto_records.specs.Recovery.{ArePartlyBack, ArePutBack, IsPutBack, IsRecovered, IsRecovering, IsRestored, IsUnnamed}
-use Rattle.proto_records.specs.Torn.{IsBetween, IsTornBetween, Keeps}
+use Rattle.proto_entries.proofs.Common.{ChangeOf, IsEntry, EachPuts, IsPut, find_change}
+use Rattle.proto_records.specs.Common.{Record, IsJournal, IsRecord, opened, IsReadInOneWay, ArePartlyBack, ArePutBack, IsPutBack, IsRecovered, IsRecovering, IsRestored, IsUnnamed, IsBetween, IsTornBetween, Keeps}
+use Rattle.proto_store.proofs.Common.{AreInPathOrder, Held, bytes_at, same_files}
 use Rattle.proto_records.proofs.PutBack.{of_some, put_is_restored, restored_once, same_order}
 use Rattle.proto_records.proofs.TornStores.{IsAt, as_before, change_in, put_at}
 

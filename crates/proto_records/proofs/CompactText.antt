@@ -1,12 +1,6 @@
 -- The compact text of a simple value (rising keys, natural numbers, UTF-8) reads back as the value, is UTF-8, and has no line feed.
-use Rattle.std.proofs.Common.{◌≡◌, ◌≢◌, ℕ, zero, suc, ◌+◌, ◌%◌, ◌^◌, ◌<◌, ◌≤◌, max, List, [], ◌∷◌, Bool, true, false, not, Some, option_map, option_and_then, inl, inr, refl, sym, ap, ap₂, ◌∙◌, subst, arith, Greater, nat_cmp, IsUtf8, append-nil, ◌&&◌, ◌||◌, ◌==◌, decimal}
-use Rattle.std.specs.Prelude.{⊤}
-use Rattle.std.specs.List.{list_all}
-use Rattle.std.specs.Cmp.Lexicographic.{slice_cmp}
-use Rattle.std.proofs.lemmas.Bool.{true≢false, and_parts, cases_lt, cases_eq}
-use Rattle.std.proofs.lemmas.Str.{IsUtf8-append, IsUtf8-nil, IsUtf8-from_ascii}
-use Rattle.std.proofs.lemmas.Fmt.{IsAscii-decimal, decimal_by_steps}
-use Rattle.std.proofs.lemmas.List.Elements.{All-nil, All-cons, All-append}
+use Rattle.std.proofs.Common.{◌≡◌, ◌≢◌, ℕ, zero, suc, ◌+◌, ◌%◌, ◌^◌, ◌<◌, ◌≤◌, max, List, [], ◌∷◌, Bool, true, false, not, Some, option_map, option_and_then, inl, inr, refl, sym, ap, ap₂, ◌∙◌, subst, arith, Greater, nat_cmp, IsUtf8, append-nil, ◌&&◌, ◌||◌, ◌==◌, decimal, true≢false}
+use Rattle.proto_faults.proofs.Common.{⊤, list_all, slice_cmp, and_parts, cases_lt, cases_eq, IsUtf8-append, IsUtf8-nil, IsUtf8-from_ascii, IsAscii-decimal, decimal_by_steps, All-nil, All-cons, All-append}
 use Rattle.json.specs.Json as json
 use Rattle.json.specs.Print.{escape_byte, escape, quoted}
 use Rattle.json.specs.Tree as tree

@@ -1,15 +1,8 @@
 -- Journals as lists of records: what was read of one, and how one grows and shrinks.
-use Rattle.std.proofs.Common.{◌≡◌, ◌≢◌, ℕ, zero, suc, ◌<◌, ◌≤◌, List, [], ◌∷◌, ◌++◌, length, get_or, Bool, true, false, ◌==◌, refl, sym, ap, ap₂, ◌∙◌, subst, arith, append_assoc, append-nil, length-append, eq-eqb}
-use Rattle.std.specs.Prelude.{All}
-use Rattle.std.proofs.lemmas.Bool.{true≢false, eqb-true}
-use Rattle.std.proofs.lemmas.List.{flat_map_more}
-use Rattle.std.proofs.lemmas.List.Elements.{All-nil, All-cons, All-head, All-tail, All-push}
+use Rattle.std.proofs.Common.{◌≡◌, ◌≢◌, ℕ, zero, suc, ◌<◌, ◌≤◌, List, [], ◌∷◌, ◌++◌, length, get_or, Bool, true, false, ◌==◌, refl, sym, ap, ap₂, ◌∙◌, subst, arith, append_assoc, append-nil, length-append, eq-eqb, All, true≢false, eqb-true}
+use Rattle.proto_faults.proofs.Common.{flat_map_more, All-nil, All-cons, All-head, All-tail, All-push}
 use Rattle.serde_json.specs.Written.{compact_text}
-use Rattle.proto_records.specs.declared.record.State.{State}
-use Rattle.proto_records.specs.declared.record.State.TheVariants.{Open, Done}
-use Rattle.proto_records.specs.declared.record.Record.{Record}
-use Rattle.proto_records.specs.RecordText.{record_data, record_text}
-use Rattle.proto_records.specs.Journals.{IsRecord, is_open, is_last_open, AreInOrder, journal_text, IsJournal, IsFirstLine, journal_limit}
+use Rattle.proto_records.specs.Common.{State, Open, Done, Record, record_data, record_text, IsRecord, is_open, is_last_open, AreInOrder, journal_text, IsJournal, IsFirstLine, journal_limit}
 use Rattle.proto_records.proofs.Lines.{EndsLine, IsReadBack, same_line, ends_append, ends_with_feed, back_end}
 use Rattle.proto_records.proofs.RecordTexts.{text_of_one, no_feed_record}
 

@@ -11,3 +11,4 @@ mod Outcomes
 mod PutBack
 mod ReadSteps
 mod RecordTexts
+pub mod Common

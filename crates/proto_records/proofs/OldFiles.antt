@@ -1,24 +1,10 @@
 -- The files that are put in the place of those of an entry: what a store has then, with all of them or with the first ones.
-use Rattle.std.proofs.Common.{arith, ◌≡◌, ◌≢◌, ◌⊎◌, inl, inr, ℕ, zero, suc, ◌+◌, ◌<◌, false, List, [], ◌∷◌, ◌++◌, length, take, get_or, Option, Some, None, refl, sym, ap, ◌∙◌, subst, Result, Ok, Err}
-use Rattle.std.specs.Prelude.{IsSome, OnErr, String, is_some, option_map}
-use Rattle.std.specs.Global.{Global, Vec}
-use Rattle.std.specs.String.{string_bytes}
-use Rattle.std.proofs.lemmas.List.{map_more, take-map, take_all}
-use Rattle.std.specs.List.{Contains}
-use Rattle.std.specs.Str.{bytes_eq}
-use Rattle.std.proofs.lemmas.Bool.{cases_Bool}
-use Rattle.std.proofs.lemmas.Slice.Eq.{bytes_eq-Decides}
-use Rattle.proto_faults.proofs.Lists.{contains_cases, contains_head, contains_later, contains_map}
-use Rattle.proto_files.specs.GivenFiles.{FileOf, file_of, files_of}
-use Rattle.proto_files.specs.WorkspacePaths.{IsBefore}
-use Rattle.proto_files.proofs.PathOrder.{never_before_itself}
-use Rattle.proto_entries.specs.Entries.{AreRising, ChangeOf}
-use Rattle.proto_entries.proofs.Puts.{contains_none}
-use Rattle.proto_entries.proofs.Walks.{rises_from}
-use Rattle.proto_store.specs.Stores.{Held, IsListed, bytes_at, with_bytes, with_file, with_journal}
-use Rattle.proto_store.proofs.Replaced.{bytes_at-with_bytes, bytes_at-with_bytes-other, is_some-with_bytes, paths_of-with_bytes}
-use Rattle.proto_records.specs.Recovery.{ArePartlyBack, ArePutBack, IsPutBack, IsUnnamed}
-use Rattle.proto_records.specs.Restoring.{AreListed, AreOldFiles, ArePartlyIn, GoesBackTo, StaysAt, with_all, with_files}
+use Rattle.std.proofs.Common.{arith, ◌≡◌, ◌≢◌, ◌⊎◌, inl, inr, ℕ, zero, suc, ◌+◌, ◌<◌, false, List, [], ◌∷◌, ◌++◌, length, take, get_or, Option, Some, None, refl, sym, ap, ◌∙◌, subst, Result, Ok, Err, IsSome, OnErr, String, is_some, option_map, Global, string_bytes, take_all, Contains, bytes_eq}
+use Rattle.proto_faults.proofs.Common.{Vec, map_more, take-map, cases_Bool, bytes_eq-Decides, contains_cases, contains_head, contains_later, contains_map}
+use Rattle.proto_files.proofs.Common.{FileOf, file_of, files_of, IsBefore, never_before_itself}
+use Rattle.proto_entries.proofs.Common.{AreRising, ChangeOf, contains_none, rises_from}
+use Rattle.proto_store.proofs.Common.{Held, IsListed, bytes_at, with_bytes, with_file, with_journal, bytes_at-with_bytes, bytes_at-with_bytes-other, is_some-with_bytes, paths_of-with_bytes}
+use Rattle.proto_records.specs.Common.{ArePartlyBack, ArePutBack, IsPutBack, IsUnnamed, AreListed, AreOldFiles, ArePartlyIn, GoesBackTo, StaysAt, with_all, with_files}
 
 -- ---- the changes of an entry are of distinct paths
 

@@ -1,29 +1,14 @@
 -- What is read of a store before anything is put back: the listed paths, and the texts of changed files.
-use Rattle.std.proofs.Common.{arith, ◌≡◌, ℕ, ◌+◌, ◌≤◌, ◌<◌, ◌||◌, get_or, append-nil, append_assoc, Bool, true, false, List, [], ◌∷◌, ◌++◌, length, map, take, Option, Some, None, refl, sym, ap, ◌∙◌, subst, if◌then◌else◌}
-use Rattle.std.specs.Prelude.{is_some, option_map, String}
-use Rattle.std.specs.Global.{Global, Vec}
-use Rattle.std.specs.List.{Contains, list_any}
-use Rattle.std.specs.Str.{bytes_eq}
-use Rattle.std.proofs.lemmas.List.{get_or-map, length-map, map-append, map_more}
-use Rattle.std.proofs.lemmas.List.Folds.{list_any-append}
-use Rattle.std.proofs.lemmas.List.Sorted.{list_any-IsPermutation}
-use Rattle.std.proofs.lemmas.Slice.Eq.{bytes_eq-Decides}
-use Rattle.proto_faults.specs.Texts.{text_limit}
-use Rattle.proto_text.specs.Edits.{Puts}
-use Rattle.proto_faults.proofs.Lists.{any_map, contains_map}
-use Rattle.proto_text.proofs.Once.{puts_length}
+use Rattle.std.proofs.Common.{arith, ◌≡◌, ℕ, ◌+◌, ◌≤◌, ◌<◌, ◌||◌, get_or, append-nil, append_assoc, Bool, true, false, List, [], ◌∷◌, ◌++◌, length, map, take, Option, Some, None, refl, sym, ap, ◌∙◌, subst, if◌then◌else◌, is_some, option_map, String, Global, Contains, bytes_eq}
+use Rattle.proto_faults.proofs.Common.{Vec, list_any, get_or-map, length-map, map-append, map_more, list_any-append, list_any-IsPermutation, bytes_eq-Decides, text_limit, any_map, contains_map}
+use Rattle.proto_text.proofs.Common.{Puts, puts_length}
 use Rattle.proto_files.specs.GivenFiles.{FileOf, file_of, files_of, paths_of}
 use Rattle.proto_entries.specs.declared.entry.Change.{Change}
 use Rattle.proto_entries.specs.declared.refusal.Refusal.TheVariants as refusal
-use Rattle.proto_entries.specs.Entries.{ChangeOf, IsChange, IsEntry, change_of, inverted, turned_round}
-use Rattle.proto_entries.specs.Putting.{IsChangedText}
-use Rattle.proto_entries.proofs.Puts.{IsEven, measured_is_even}
-use Rattle.proto_records.specs.declared.fault.JournalFault.{JournalFault}
+use Rattle.proto_entries.proofs.Common.{ChangeOf, IsChange, IsEntry, change_of, inverted, turned_round, IsChangedText, IsEven, measured_is_even}
+use Rattle.proto_records.specs.Common.{JournalFault, CountsFault, Over, AddsOldFiles, AreOldFiles, IsAskedFor, IsNeither, IsOldFile, IsStaleOnly, IsAsAfter, IsAsBefore, IsEitherWay}
 use Rattle.proto_records.specs.declared.fault.JournalFault.TheVariants as fault
 use Rattle.proto_store.specs.Stores.{Held, IsListed, ListsPaths, bytes_at}
-use Rattle.proto_records.specs.Known.{CountsFault, Over}
-use Rattle.proto_records.specs.Restoring.{AddsOldFiles, AreOldFiles, IsAskedFor, IsNeither, IsOldFile, IsStaleOnly}
-use Rattle.proto_records.specs.Torn.{IsAsAfter, IsAsBefore, IsEitherWay}
 use Rattle.proto_records.proofs.OldFiles.{goes_more, stays_more}
 use Rattle.proto_records.proofs.TornStores.{change_in, even_turned}
 

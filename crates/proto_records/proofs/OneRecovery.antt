@@ -1,20 +1,12 @@
 -- What a recovery answers and leaves is decided by the store, where no call fails and memory is there; and a later recovery does what is left.
-use Rattle.std.proofs.Common.{◌≡◌, inl, inr, ℕ, Bool, true, false, List, [], ◌∷◌, ◌++◌, Option, Some, None, Result, Ok, Err, refl, sym, ap, ◌∙◌, subst}
-use Rattle.std.specs.List.{Contains}
+use Rattle.std.proofs.Common.{◌≡◌, inl, inr, ℕ, Bool, true, false, List, [], ◌∷◌, ◌++◌, Option, Some, None, Result, Ok, Err, refl, sym, ap, ◌∙◌, subst, Contains}
 use Rattle.proto_entries.specs.Entries.{ChangeOf}
 use Rattle.proto_entries.specs.declared.refusal.Refusal.{Refusal}
 use Rattle.proto_entries.specs.declared.refusal.Refusal.TheVariants as refusal
-use Rattle.proto_records.specs.declared.fault.JournalFault.{JournalFault}
+use Rattle.proto_records.specs.Common.{JournalFault, Record, IsJournal, is_last_open, is_open, journal_text, opened, IsReadInOneWay, JournalsShrink, IsSettled, CutStaysTorn, IsLateAnswer, RecoveriesAreOne, RecoveryGoesOn, TornComesBack, ArePutBack, HasStaleFile, IsRecovered, IsRecovering, RecoverOutcome, IsTorn, IsTornBetween}
 use Rattle.proto_records.specs.declared.fault.JournalFault.TheVariants as fault
-use Rattle.proto_records.specs.declared.record.Record.{Record}
-use Rattle.proto_records.specs.Journals.{IsJournal, is_last_open, is_open, journal_text, opened}
-use Rattle.proto_records.specs.Laws.{IsReadInOneWay, JournalsShrink}
 use Rattle.proto_store.specs.Stores.{AreInPathOrder, Held}
-use Rattle.proto_records.specs.Known.{IsSettled}
-use Rattle.proto_records.specs.RecoveryLaws.{CutStaysTorn, IsLateAnswer, RecoveriesAreOne, RecoveryGoesOn, TornComesBack}
 use Rattle.proto_records.specs.ReadJournals.{IsReady, IsUnreadable}
-use Rattle.proto_records.specs.Recovery.{ArePutBack, HasStaleFile, IsRecovered, IsRecovering, RecoverOutcome}
-use Rattle.proto_records.specs.Torn.{IsTorn, IsTornBetween}
 use Rattle.proto_records.proofs.Comebacks.{entry_of, recovered_keeps, recovering_stays, same_ends}
 use Rattle.proto_records.proofs.PutBack.{back_behind, partly_either, put_back_once}
 use Rattle.proto_records.proofs.TornStores.{torn_between_is_torn}

@@ -1,21 +1,12 @@
 -- What a recovery answers, from what it read, made and wrote.
-use Rattle.std.proofs.Common.{◌≡◌, ◌⊎◌, inl, inr, ℕ, true, List, [], ◌∷◌, ◌++◌, take, Option, Some, None, Ok, Err, refl, sym, ap, ◌∙◌, subst}
-use Rattle.std.specs.Prelude.{option_map}
+use Rattle.std.proofs.Common.{◌≡◌, ◌⊎◌, inl, inr, ℕ, true, List, [], ◌∷◌, ◌++◌, take, Option, Some, None, Ok, Err, refl, sym, ap, ◌∙◌, subst, option_map}
 use Rattle.std.proofs.lemmas.List.Elements.{recursion_from_All}
 use Rattle.proto_files.specs.GivenFiles.{FileOf}
 use Rattle.proto_entries.specs.Entries.{ChangeOf, IsEntry}
-use Rattle.proto_records.specs.declared.fault.JournalFault.{JournalFault}
+use Rattle.proto_records.specs.Common.{JournalFault, Record, State, IsJournal, IsRecord, is_last_open, is_open, journal_text, opened, JournalsShrink, CountsFault, Over, ArePutBack, IsRecovered, IsRecovering, RecoverOutcome, AreListed, AreOldFiles, ArePartlyIn, OpenOutcome, with_files, IsTorn}
 use Rattle.proto_records.specs.declared.fault.JournalFault.TheVariants as fault
-use Rattle.proto_records.specs.declared.record.Record.{Record}
-use Rattle.proto_records.specs.declared.record.State.{State}
 use Rattle.proto_records.specs.declared.record.State.TheVariants as state
-use Rattle.proto_records.specs.Journals.{IsJournal, IsRecord, is_last_open, is_open, journal_text, opened}
-use Rattle.proto_records.specs.Laws.{JournalsShrink}
 use Rattle.proto_store.specs.Stores.{Held, HoldsJournal, IsListed, with_journal}
-use Rattle.proto_records.specs.Known.{CountsFault, Over}
-use Rattle.proto_records.specs.Recovery.{ArePutBack, IsRecovered, IsRecovering, RecoverOutcome}
-use Rattle.proto_records.specs.Restoring.{AreListed, AreOldFiles, ArePartlyIn, OpenOutcome, with_files}
-use Rattle.proto_records.specs.Torn.{IsTorn}
 use Rattle.proto_records.proofs.Comebacks.{entry_of, last_of_all}
 use Rattle.proto_records.proofs.OldFiles.{all_back, distinct, olds_listed, some_back}
 use Rattle.proto_records.proofs.OneRecovery.{last_of}

@@ -1,19 +1,11 @@
 -- Files that are put back: what each of them is then, and that it is one.
-use Rattle.std.proofs.Common.{arith, ◌≡◌, inl, inr, ℕ, List, length, Some, sym, ap, ◌∙◌, subst}
-use Rattle.std.specs.List.{Contains}
-use Rattle.std.specs.List.Sorted.{IsStrictlySortedBy}
-use Rattle.std.specs.Cmp.Lexicographic.{slice_cmp}
-use Rattle.std.specs.Ordering.{nat_cmp}
-use Rattle.proto_text.specs.Edits.{Edit, Puts, inverse_from}
-use Rattle.proto_text.proofs.EditLaws.{inverse_leads_back}
-use Rattle.proto_text.proofs.Once.{puts_length, puts_once}
+use Rattle.std.proofs.Common.{arith, ◌≡◌, inl, inr, ℕ, List, length, Some, sym, ap, ◌∙◌, subst, Contains, nat_cmp}
+use Rattle.proto_faults.proofs.Common.{IsStrictlySortedBy, slice_cmp}
+use Rattle.proto_text.proofs.Common.{Edit, Puts, inverse_from, inverse_leads_back, puts_length, puts_once}
 use Rattle.proto_files.specs.GivenFiles.{FileOf, paths_of}
-use Rattle.proto_entries.specs.Entries.{ChangeOf, IsChange, IsEntry, turned_round}
-use Rattle.proto_entries.proofs.Puts.{IsEven, find_change, measured_is_even}
-use Rattle.proto_store.specs.Stores.{AreInPathOrder, bytes_at}
-use Rattle.proto_store.proofs.Replaced.{same_files}
-use Rattle.proto_records.specs.Recovery.{ArePartlyBack, ArePutBack, IsPutBack, IsRestored}
-use Rattle.proto_records.specs.Torn.{IsAsBefore, IsEitherWay}
+use Rattle.proto_entries.proofs.Common.{ChangeOf, IsChange, IsEntry, turned_round, IsEven, find_change, measured_is_even}
+use Rattle.proto_store.proofs.Common.{AreInPathOrder, bytes_at, same_files}
+use Rattle.proto_records.specs.Common.{ArePartlyBack, ArePutBack, IsPutBack, IsRestored, IsAsBefore, IsEitherWay}
 use Rattle.proto_records.proofs.Apart.{no_text_is_both}
 use Rattle.proto_records.proofs.TornStores.{change_in, even_turned, twice_from}
 

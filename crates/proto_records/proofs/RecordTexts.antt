@@ -1,13 +1,6 @@
 -- The text of a record reads back as its data, and is that of no other record.
-use Rattle.std.proofs.Common.{◌≡◌, ℕ, suc, ◌+◌, ◌^◌, ◌<◌, ◌≤◌, List, [], ◌∷◌, ◌++◌, map, length, codes, Bool, true, Some, nat_lt, ◌&&◌, refl, sym, ap, ◌∙◌, subst, arith, IsUtf8, length-append, take, get_or}
-use Rattle.std.specs.Prelude.{All}
-use Rattle.std.specs.List.{AllPass, list_all, join_with_byte}
-use Rattle.std.proofs.lemmas.Bool.{and_parts}
-use Rattle.std.proofs.lemmas.Bool.Decides.{nat_tests}
-use Rattle.std.proofs.lemmas.List.{append_cancel_right, map-append, take_more}
-use Rattle.std.proofs.lemmas.List.Elements.{All-head, All-tail, All-map, All-push}
-use Rattle.std.proofs.lemmas.Str.{IsUtf8-append, IsUtf8-nil, IsUtf8-string_bytes}
-use Rattle.proto_faults.specs.Texts.{text_limit}
+use Rattle.std.proofs.Common.{◌≡◌, ℕ, suc, ◌+◌, ◌^◌, ◌<◌, ◌≤◌, List, [], ◌∷◌, ◌++◌, map, length, codes, Bool, true, Some, nat_lt, ◌&&◌, refl, sym, ap, ◌∙◌, subst, arith, IsUtf8, length-append, take, get_or, All}
+use Rattle.proto_faults.proofs.Common.{AllPass, list_all, join_with_byte, and_parts, nat_tests, append_cancel_right, map-append, take_more, All-head, All-tail, All-map, All-push, IsUtf8-append, IsUtf8-nil, IsUtf8-string_bytes, text_limit}
 use Rattle.json.specs.Print.{escape_byte, quoted}
 use Rattle.json.proofs.Printed.Utf8.{IsUtf8-are_ascii, are_ascii}
 use Rattle.serde_json.specs.Data.{Data, number, unsigned, array, member, no_members, depth, items_depth}
@@ -17,15 +10,10 @@ use Rattle.serde_json.specs.Read.{read}
 use Rattle.serde_json.specs.Written.{compact_text, members_text}
 use Rattle.proto_text.specs.declared.splice.Splice.{Splice}
 use Rattle.proto_entries.specs.declared.entry.Change.{Change}
-use Rattle.proto_text.specs.Edits.{Edit}
-use Rattle.proto_text.specs.Splicing.{edit_of, edits}
+use Rattle.proto_text.proofs.Common.{Edit, edit_of, edits}
 use Rattle.proto_files.specs.WorkspacePaths.{is_path_byte, is_path_part, IsWorkspacePath}
 use Rattle.proto_entries.specs.Entries.{ChangeOf, change_of, IsChange}
-use Rattle.proto_records.specs.declared.record.State.{State}
-use Rattle.proto_records.specs.declared.record.State.TheVariants.{Open, Done}
-use Rattle.proto_records.specs.declared.record.Record.{Record}
-use Rattle.proto_records.specs.RecordText.{splice_data, change_data, record_data, record_text, state_name}
-use Rattle.proto_records.specs.Journals.{IsTextual, AreTextual, IsRecord, done, opened, HasNoFeed}
+use Rattle.proto_records.specs.Common.{State, Open, Done, Record, splice_data, change_data, record_data, record_text, state_name, IsTextual, AreTextual, IsRecord, done, opened, HasNoFeed}
 use Rattle.proto_records.proofs.Lines.{same_before_last}
 use Rattle.proto_records.proofs.CompactText.{IsSimple, AreSimple, read-compact_text, utf8, no_feed}
 

@@ -1,18 +1,11 @@
 -- Public for the crates above. A store that is torn between the files before and after an entry: each file of the entry is as before or as after it.
-use Rattle.std.proofs.Common.{arith, ◌≡◌, ◌⊎◌, inl, inr, ℕ, ◌+◌, ◌-◌, ◌≤◌, Bool, true, false, cond, List, [], ◌∷◌, length, Some, refl, sym, ap, ◌∙◌, subst}
-use Rattle.std.specs.List.{Contains}
-use Rattle.std.specs.Str.{bytes_eq}
-use Rattle.std.proofs.lemmas.Slice.Eq.{bytes_eq-Decides}
+use Rattle.std.proofs.Common.{arith, ◌≡◌, ◌⊎◌, inl, inr, ℕ, ◌+◌, ◌-◌, ◌≤◌, Bool, true, false, cond, List, [], ◌∷◌, length, Some, refl, sym, ap, ◌∙◌, subst, Contains, bytes_eq}
+use Rattle.proto_faults.proofs.Common.{bytes_eq-Decides, contains_cases, contains_head, contains_later, contains_map, from_map}
 use Rattle.proto_text.specs.Edits.{AreShort, Edit, Puts, inverse_from, inverse_of, new_len, old_len}
-use Rattle.proto_faults.proofs.Lists.{contains_cases, contains_head, contains_later, contains_map, from_map}
 use Rattle.proto_files.specs.GivenFiles.{FileOf}
-use Rattle.proto_entries.specs.Entries.{ChangeOf, IsChange, IsEntry, inverted, turned_round}
-use Rattle.proto_entries.specs.Putting.{EachPuts, IsPut}
-use Rattle.proto_entries.proofs.Puts.{IsEven, contains_none, entries_lead_back, measured_is_even, put_back}
-use Rattle.proto_records.specs.declared.record.Record.{Record}
+use Rattle.proto_entries.proofs.Common.{ChangeOf, IsChange, IsEntry, inverted, turned_round, EachPuts, IsPut, IsEven, contains_none, entries_lead_back, measured_is_even, put_back}
+use Rattle.proto_records.specs.Common.{Record, TornBetweenIsTorn, IsAsBefore, IsEitherWay, IsTorn, IsTornBetween}
 use Rattle.proto_store.specs.Stores.{Held, bytes_at}
-use Rattle.proto_records.specs.RecoveryLaws.{TornBetweenIsTorn}
-use Rattle.proto_records.specs.Torn.{IsAsBefore, IsEitherWay, IsTorn, IsTornBetween}
 
 -- ---- the file of a change
 

@@ -1,3 +1,4 @@
+pub mod Common
 pub mod FaultTable
 pub mod Journals
 pub mod Known

@@ -1,45 +1,21 @@
 -- Defaults that mean a value, told by the texts of a link.
-use Rattle.std.proofs.Common.{◌≡◌, ℕ, ◌+◌, ◌<◌, ◌==◌, ◌&&◌, Bool, true, false, cond, if◌then◌else◌, List, [], ◌∷◌, ◌++◌, length, map, get_or, drop, flat_map, Option, Some, None, option_map, refl, sym, ap, subst, ◌∙◌, inl, inr}
-use Rattle.std.specs.List.{filter, find}
-use Rattle.std.specs.Option.{option_and_then}
-use Rattle.std.specs.Str.{bytes_eq}
-use Rattle.std.proofs.lemmas.Bool.{cases_Bool, true≢false}
-use Rattle.std.proofs.lemmas.Option.{none-some}
-use Rattle.std.proofs.lemmas.Grind.{flat_map-append}
-use Rattle.proto_text.specs.Texts.{word_at}
-use Rattle.proto_text.specs.Tokens.{Lexeme}
-use Rattle.proto_faults.proofs.Lists.{fails_from, same_from_word, word_from_same}
+use Rattle.std.proofs.Common.{◌≡◌, ℕ, ◌+◌, ◌<◌, ◌==◌, ◌&&◌, Bool, true, false, cond, if◌then◌else◌, List, [], ◌∷◌, ◌++◌, length, map, get_or, drop, flat_map, Option, Some, None, option_map, refl, sym, ap, subst, ◌∙◌, inl, inr, filter, find, option_and_then, bytes_eq, true≢false}
+use Rattle.proto_faults.proofs.Common.{cases_Bool, none-some, flat_map-append, fails_from, same_from_word, word_from_same, listed_turn}
+use Rattle.proto_text.proofs.Common.{word_at, Lexeme}
 use Rattle.proto_tree.specs.declared.piece.Header.{Header}
 use Rattle.proto_tree.specs.declared.piece.Header.TheVariants as header
 use Rattle.proto_tree.specs.declared.tree.FieldType.{FieldType}
 use Rattle.proto_tree.specs.declared.tree.FieldType.TheVariants as field_type
-use Rattle.proto_tree.specs.References.{first_of}
-use Rattle.proto_tree.specs.Tree.{Tree}
-use Rattle.proto_files.specs.GivenFiles.{FileOf, file_at}
-use Rattle.proto_files.specs.FilesRead.{AreRead, ReadOf, read_at}
-use Rattle.proto_files.proofs.OneReading.{IsTreeOf, same_tree}
-use Rattle.proto_meaning.specs.Grown.{at}
-use Rattle.proto_meaning.specs.Joined.{ArePlain, joined}
-use Rattle.proto_meaning.specs.Names.{same_name}
-use Rattle.proto_meaning.specs.Skeleton.{Used}
-use Rattle.proto_meaning.proofs.Basics.{name_from_same, same_from_name}
-use Rattle.proto_meaning.proofs.Joined.{joined_apart}
-use Rattle.proto_meaning.proofs.Renamed.{meant}
-use Rattle.proto_imports.specs.Links.{names_of_files, text_of}
-use Rattle.proto_imports.specs.Links.{used_named}
-use Rattle.proto_imports.specs.Links.{uses_of}
-use Rattle.proto_names.specs.LinkOfFiles.{IsLinkRead, TextMeant, meant_by_link, meant_by_use}
-use Rattle.proto_names.specs.Linking.{LinkOf, row_at, text_at}
+use Rattle.proto_tree.proofs.Common.{first_of, Tree}
+use Rattle.proto_files.proofs.Common.{FileOf, file_at, AreRead, ReadOf, read_at, IsTreeOf, same_tree}
+use Rattle.proto_meaning.proofs.Common.{at, ArePlain, joined, same_name, Used, name_from_same, same_from_name, joined_apart, meant}
+use Rattle.proto_imports.proofs.Common.{names_of_files, text_of, used_named, uses_of, names_are_plain}
+use Rattle.proto_names.proofs.Common.{IsLinkRead, TextMeant, meant_by_link, meant_by_use, LinkOf, row_at, text_at}
 use Rattle.proto_names.specs.declared.references.Meant.{Meant}
-use Rattle.proto_parts.specs.Parts.{BlockOf, FieldOf, blocks_in}
-use Rattle.proto_parts.specs.Scenes.{Scene, text}
-use Rattle.proto_rename_laws.specs.SceneOf.{meaning_of}
-use Rattle.proto_rename_laws.specs.Defaults.{default_words, fields_of_block, fields_of_file, meaning_from, means_value, renamed_default, type_meaning}
-use Rattle.proto_imports.proofs.PlainNames.{names_are_plain}
-use Rattle.proto_members.specs.Blocks.{holders_in, may_hold}
+use Rattle.proto_parts.proofs.Common.{BlockOf, FieldOf, blocks_in, Scene, text}
+use Rattle.proto_rename_laws.proofs.Common.{meaning_of, default_words, fields_of_block, fields_of_file, meaning_from, means_value, renamed_default, type_meaning}
+use Rattle.proto_members.proofs.Common.{holders_in, may_hold, IsReadAs}
 use Rattle.proto_rename.specs.Defaults.{defaults_in, defaults_of, is_text, spelled, type_means}
-use Rattle.proto_members.specs.Members.{IsReadAs}
-use Rattle.proto_faults.proofs.Turns.{listed_turn}
 
 -- ---- lists
 

@@ -1,11 +1,6 @@
 -- Elements of lists by how many stand behind them.
-use Rattle.std.proofs.Common.{◌≡◌, ℕ, suc, ◌-◌, ◌<◌, ◌≤◌, List, [], ◌∷◌, ◌++◌, length, get_or, map, slice_index_or, Option, Some, None, refl, sym, ap, ap₂, subst, ◌∙◌, inl, inr, arith, length-append}
-use Rattle.std.specs.Prelude.{◌==◌, option_to_list}
-use Rattle.std.specs.List.{Contains}
-use Rattle.std.proofs.lemmas.Bool.{cases_Bool, cond-true, cond-false, eqb-true, eq-eqb, both_ways, false_from_ne_true}
-use Rattle.std.proofs.lemmas.List.{get_or-map, length-map}
-use Rattle.std.proofs.lemmas.Option.{none-some, same_Some}
-use Rattle.proto_faults.proofs.Lists.{contains_cases, contains_head}
+use Rattle.std.proofs.Common.{◌≡◌, ℕ, suc, ◌-◌, ◌<◌, ◌≤◌, List, [], ◌∷◌, ◌++◌, length, get_or, map, slice_index_or, Option, Some, None, refl, sym, ap, ap₂, subst, ◌∙◌, inl, inr, arith, length-append, ◌==◌, option_to_list, Contains, eqb-true, eq-eqb}
+use Rattle.proto_faults.proofs.Common.{cases_Bool, cond-true, cond-false, both_ways, false_from_ne_true, get_or-map, length-map, none-some, same_Some, contains_cases, contains_head}
 use Rattle.proto_tree.specs.declared.tree.Behind.{Behind}
 use Rattle.proto_rename.specs.StandingTokens.{from_end}
 

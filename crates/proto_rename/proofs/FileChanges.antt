@@ -1,25 +1,13 @@
 -- The change of a file by the word at its marked tokens.
-use Rattle.std.proofs.Common.{◌≡◌, ℕ, zero, suc, ◌+◌, ◌-◌, ◌*◌, ◌<◌, ◌≤◌, Bool, true, false, List, [], ◌∷◌, length, get_or, map, Some, None, refl, sym, ap, subst, ◌∙◌, inl, inr, arith, replicate}
-use Rattle.std.specs.Prelude.{◌==◌}
-use Rattle.std.specs.List.{Contains, list_any}
-use Rattle.std.specs.String.{string_bytes}
-use Rattle.std.proofs.lemmas.Bool.{cases_Bool, both_ways, eqb-true, eq-eqb}
-use Rattle.std.proofs.lemmas.List.{nil_from_length}
-use Rattle.proto_faults.specs.Texts.{text_limit}
+use Rattle.std.proofs.Common.{◌≡◌, ℕ, zero, suc, ◌+◌, ◌-◌, ◌*◌, ◌<◌, ◌≤◌, Bool, true, false, List, [], ◌∷◌, length, get_or, map, Some, None, refl, sym, ap, subst, ◌∙◌, inl, inr, arith, replicate, ◌==◌, Contains, string_bytes, eqb-true, eq-eqb}
+use Rattle.proto_faults.proofs.Common.{list_any, cases_Bool, both_ways, nil_from_length, text_limit, any_from, any_to}
 use Rattle.proto_text.specs.declared.lexer.Token.{Token}
-use Rattle.proto_text.specs.Edits.{new_len, old_len}
-use Rattle.proto_text.specs.Texts.{token_edits}
-use Rattle.proto_text.specs.Tokens.{AreTokens}
-use Rattle.proto_faults.proofs.Lists.{any_from, any_to}
-use Rattle.proto_text.proofs.Once.{one_token_list}
-use Rattle.proto_files.specs.GivenFiles.{FileOf, file_at}
-use Rattle.proto_files.specs.FilesRead.{ReadOf, AreRead, read_at}
+use Rattle.proto_text.proofs.Common.{new_len, old_len, token_edits, AreTokens, one_token_list}
+use Rattle.proto_files.proofs.Common.{FileOf, file_at, ReadOf, AreRead, read_at}
 use Rattle.proto_entries.specs.Entries.{ChangeOf, change_of}
 use Rattle.proto_entries.specs.declared.entry.Change.{Change}
-use Rattle.proto_rename_laws.specs.Changes.{change_by, IsTooLong, splices_in}
-use Rattle.proto_rename_laws.specs.Rewording.{NewWords, in_file}
-use Rattle.proto_rename.specs.declared.changing.RewordFault.TheVariants.{TooLarge}
-use Rattle.proto_rename.specs.MadeChanges.{bytes_in, IsChangeAt, IsRewordFault, marked_from, marked_tokens, PutsAt, StandInOrder, word_put}
+use Rattle.proto_rename_laws.proofs.Common.{change_by, IsTooLong, splices_in, NewWords, in_file}
+use Rattle.proto_rename.specs.Common.{TooLarge, bytes_in, IsChangeAt, IsRewordFault, marked_from, marked_tokens, PutsAt, StandInOrder, word_put}
 use Rattle.proto_rename.proofs.PlacedWords.{edits_are, marked_length, marked_there, there_marked}
 use Rattle.proto_rename.proofs.TokensInOrder.{marked_in_order, put_new_len, put_old_len, tokens_in_order}
 

@@ -1,27 +1,14 @@
 -- The test of all blocks for a clash of JSON names is that of the file.
-use Rattle.std.proofs.Common.{◌≡◌, ℕ, ◌<◌, ◌==◌, true, not, None, Some, Option, is_none, List, length, refl, sym, ap, subst, ◌∙◌}
-use Rattle.std.specs.Prelude.{codes}
-use Rattle.std.specs.List.{Contains, list_any}
-use Rattle.std.specs.Str.{bytes_eq}
-use Rattle.std.proofs.lemmas.Bool.{and_from, and_parts, eq-eqb, eqb-true, false_from_ne_true, not_from_false, not_from_true, true≢false}
-use Rattle.proto_text.specs.Texts.{word_at}
-use Rattle.proto_text.specs.Tokens.{Lexeme}
-use Rattle.proto_faults.proofs.Lists.{any_from, any_to, same_from_word, word_from_same}
+use Rattle.std.proofs.Common.{◌≡◌, ℕ, ◌<◌, ◌==◌, true, not, None, Some, Option, is_none, List, length, refl, sym, ap, subst, ◌∙◌, codes, Contains, bytes_eq, eq-eqb, eqb-true, true≢false}
+use Rattle.proto_faults.proofs.Common.{list_any, and_from, and_parts, false_from_ne_true, not_from_false, not_from_true, any_from, any_to, same_from_word, word_from_same}
+use Rattle.proto_text.proofs.Common.{word_at, Lexeme}
 use Rattle.proto_tree.specs.Tree.{Tree}
-use Rattle.proto_files.specs.GivenFiles.{FileOf, file_at}
-use Rattle.proto_files.specs.FilesRead.{AreRead, ReadOf, read_at}
-use Rattle.proto_files.proofs.OneReading.{IsTreeOf, same_tree}
-use Rattle.proto_meaning.specs.Grown.{at}
-use Rattle.proto_meaning.specs.Tree.{file_placed}
+use Rattle.proto_files.proofs.Common.{FileOf, file_at, AreRead, ReadOf, read_at, IsTreeOf, same_tree}
+use Rattle.proto_meaning.proofs.Common.{at, file_placed}
 use Rattle.proto_listing.specs.FromTree.{items_in}
-use Rattle.proto_parts.specs.JsonNames.{json_name_of, json_word, written_or}
-use Rattle.proto_parts.specs.Options.{text_option}
-use Rattle.proto_parts.specs.Parts.{FieldOf, blocks_in}
-use Rattle.proto_parts.specs.Scenes.{Scene, text, value, value_in}
-use Rattle.proto_rename_laws.specs.SceneOf.{scene_of}
-use Rattle.proto_rename_laws.specs.Cases.{Clashes}
-use Rattle.proto_members.specs.Blocks.{holders_in, may_hold}
-use Rattle.proto_members.specs.Members.{IsReadAs, clash_in, fields_by, is_made, is_other, is_unwritten}
+use Rattle.proto_parts.proofs.Common.{json_name_of, json_word, written_or, text_option, FieldOf, blocks_in, Scene, text, value, value_in}
+use Rattle.proto_rename_laws.proofs.Common.{scene_of, Clashes}
+use Rattle.proto_members.proofs.Common.{holders_in, may_hold, IsReadAs, clash_in, fields_by, is_made, is_other, is_unwritten}
 use Rattle.proto_members.proofs.MemberTests.{block_declared, field_from, field_to, from_filter, in_filter}
 
 none_is : (o : Option (List ℕ)) → is_none o ≡ true → o ≡ None

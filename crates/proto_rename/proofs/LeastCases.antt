@@ -1,21 +1,12 @@
 -- The cases of a rename by their numbers.
-use Rattle.std.proofs.Common.{◌≡◌, ◌⊎◌, ℕ, ◌+◌, ◌<◌, false, true, List, length, refl, subst, inl, inr, arith}
-use Rattle.std.specs.List.{Contains}
+use Rattle.std.proofs.Common.{◌≡◌, ◌⊎◌, ℕ, ◌+◌, ◌<◌, false, true, List, length, refl, subst, inl, inr, arith, Contains}
 use Rattle.std.proofs.lemmas.Bool.{cases_order}
 use Rattle.proto_text.specs.Words.{is_run}
-use Rattle.proto_files.specs.FilesRead.{ReadOf}
-use Rattle.proto_files.specs.GivenFiles.{FileOf}
-use Rattle.proto_meaning.specs.Edits.{Collides}
-use Rattle.proto_meaning.specs.Grown.{At}
-use Rattle.proto_meaning.specs.Joined.{joined}
-use Rattle.proto_meaning.specs.Names.{Symbol}
-use Rattle.proto_meaning.specs.Skeleton.{Used}
+use Rattle.proto_files.proofs.Common.{ReadOf, FileOf}
+use Rattle.proto_meaning.proofs.Common.{Collides, At, joined, Symbol, Used}
 use Rattle.proto_imports.specs.Links.{names_of_files, text_of}
-use Rattle.proto_rename_laws.specs.Cases.{Captures, Clashes, IsUnknown, RenameCase, Reserves, is_keyword_of, unknown_target, kind_not_allowed, not_an_identifier, keyword_name, same_name, collision, captured, name_reserved, json_clash, too_large}
-use Rattle.proto_rename_laws.specs.Changes.{IsTooLong}
-use Rattle.proto_rename_laws.specs.Targets.{Target, IsNamed, may_rename, name_map, renamed_words}
-use Rattle.proto_rename.specs.Cases.{IsFreeBefore}
-use Rattle.proto_rename.specs.Renames.{IsLeastRenameCase, IsRenameCase}
+use Rattle.proto_rename_laws.proofs.Common.{Captures, Clashes, IsUnknown, RenameCase, Reserves, is_keyword_of, unknown_target, kind_not_allowed, not_an_identifier, keyword_name, same_name, collision, captured, name_reserved, json_clash, too_large, IsTooLong, Target, IsNamed, may_rename, name_map, renamed_words}
+use Rattle.proto_rename.specs.Common.{IsFreeBefore, IsLeastRenameCase, IsRenameCase}
 
 module _ (files : List FileOf) (name to : List ℕ) where
   -- none is numbered 0, and none 10 to 15

@@ -1,7 +1,6 @@
 -- One turn of a loop over places that sets the marks there, and its end.
 use Rattle.std.proofs.Common.{◌≡◌, ℕ, ◌+◌, ◌<◌, ◌≤◌, Bool, true, List, length, get_or, drop, sym, ap, ◌∙◌, slice_set}
-use Rattle.std.proofs.lemmas.List.{drop_all}
-use Rattle.proto_faults.proofs.Turns.{front}
+use Rattle.proto_faults.proofs.Common.{drop_all, front}
 use Rattle.proto_rename.specs.MadeChanges.{marked_from}
 
 pub marks_turn : (places : List ℕ) (i p d : ℕ) (marks next whole : List Bool) → i < length places → p ≡ get_or places i d → next ≡ slice_set marks p true

@@ -1,14 +1,8 @@
 -- A name goes on from another one as its text does.
-use Rattle.std.proofs.Common.{◌≡◌, ◌≢◌, ℕ, ◌+◌, ◌≤◌, Bool, true, false, List, [], ◌∷◌, ◌++◌, length, get_or, Option, Some, None, refl, sym, ap, ap₂, ◌∙◌, inl, inr, arith, append_assoc, if◌then◌else◌}
-use Rattle.std.specs.Prelude.{◌==◌}
-use Rattle.std.specs.List.{list_any, count_by}
-use Rattle.std.specs.Option.{option_and_then}
-use Rattle.std.proofs.lemmas.Bool.{cases_Bool, cond-true, cond-false, eqb-true, eq-eqb, or_parts}
-use Rattle.std.proofs.lemmas.List.{append-nil}
+use Rattle.std.proofs.Common.{◌≡◌, ◌≢◌, ℕ, ◌+◌, ◌≤◌, Bool, true, false, List, [], ◌∷◌, ◌++◌, length, get_or, Option, Some, None, refl, sym, ap, ap₂, ◌∙◌, inl, inr, arith, append_assoc, if◌then◌else◌, ◌==◌, count_by, option_and_then, eqb-true, eq-eqb, append-nil}
+use Rattle.proto_faults.proofs.Common.{list_any, cases_Bool, cond-true, cond-false, or_parts, none-some, same_Some}
 use Rattle.std.proofs.lemmas.List.Recursion.{is_count_by}
-use Rattle.std.proofs.lemmas.Option.{none-some, same_Some}
-use Rattle.proto_meaning.specs.Joined.{joined, ArePlain}
-use Rattle.proto_meaning.proofs.Joined.{at_point, joined_apart, not_pointed}
+use Rattle.proto_meaning.proofs.Common.{joined, ArePlain, at_point, joined_apart, not_pointed}
 use Rattle.proto_rename.specs.StandingTokens.{points, behind, words_in, words_behind}
 
 pub points_count : (text : List ℕ) → points text ≡ count_by (λ b. b == 46) text

@@ -1,21 +1,11 @@
 -- The target of a name is what was aimed at.
-use Rattle.std.proofs.Common.{◌≡◌, true, false, List, sym, ap, subst, ◌∙◌, inl, inr}
-use Rattle.std.specs.List.{Contains}
+use Rattle.std.proofs.Common.{◌≡◌, true, false, List, sym, ap, subst, ◌∙◌, inl, inr, Contains}
 use Rattle.proto_case.specs.Camel.{entry_name}
 use Rattle.proto_faults.proofs.Lists.{contains_map}
-use Rattle.proto_files.specs.Faults.{HasNoFault}
-use Rattle.proto_files.specs.FilesRead.{ReadOf, AreRead}
-use Rattle.proto_files.specs.GivenFiles.{FileOf}
-use Rattle.proto_meaning.specs.Joined.{joined}
-use Rattle.proto_meaning.specs.Names.{Symbol}
-use Rattle.proto_meaning.specs.Skeleton.{symbol_of}
-use Rattle.proto_meaning.proofs.Joined.{joined_apart}
-use Rattle.proto_meaning.proofs.Symbols.{one_symbol}
-use Rattle.proto_imports.specs.Links.{LinkFaults, link_skeleton, names_of_files, text_of}
-use Rattle.proto_rename_laws.specs.Targets.{Target, IsNamed, may_rename}
-use Rattle.proto_rename_laws.proofs.NoLinkFault.{files_are_linked}
-use Rattle.proto_rename_laws.proofs.OneTarget.{targets_are_one}
-use Rattle.proto_imports.proofs.PlainNames.{names_are_plain}
+use Rattle.proto_files.proofs.Common.{HasNoFault, ReadOf, AreRead, FileOf}
+use Rattle.proto_meaning.proofs.Common.{joined, Symbol, symbol_of, joined_apart, one_symbol}
+use Rattle.proto_imports.proofs.Common.{LinkFaults, link_skeleton, names_of_files, text_of, names_are_plain}
+use Rattle.proto_rename_laws.proofs.Common.{Target, IsNamed, may_rename, files_are_linked, targets_are_one}
 use Rattle.proto_captures.specs.Aims.{IsAimOf, IsAimedAt}
 use Rattle.proto_captures.specs.declared.aim.Aim.{Aim}
 

@@ -1,30 +1,13 @@
 -- Only what may be meant, or may hold what is meant, has words in references.
-use Rattle.std.proofs.Common.{◌≡◌, ◌≢◌, true, false, List, ℕ, [], ◌∷◌, ◌++◌, map, flat_map, refl, sym, ap, ◌∙◌, inl, inr, arith, append_assoc, length-append}
-use Rattle.std.specs.List.{Contains}
-use Rattle.std.proofs.lemmas.Bool.{both_ways}
-use Rattle.std.proofs.lemmas.List.{append-nil}
+use Rattle.std.proofs.Common.{◌≡◌, ◌≢◌, true, false, List, ℕ, [], ◌∷◌, ◌++◌, map, flat_map, refl, sym, ap, ◌∙◌, inl, inr, arith, append_assoc, length-append, Contains, append-nil}
+use Rattle.proto_faults.proofs.Common.{both_ways, contains_map}
 use Rattle.proto_case.specs.Camel.{entry_name}
-use Rattle.proto_faults.proofs.Lists.{contains_map}
-use Rattle.proto_files.specs.Faults.{HasNoFault}
-use Rattle.proto_files.specs.GivenFiles.{FileOf}
-use Rattle.proto_files.specs.FilesRead.{ReadOf, AreRead}
+use Rattle.proto_files.proofs.Common.{HasNoFault, FileOf, ReadOf, AreRead}
 use Rattle.proto_meaning.specs.declared.kind.Kind.{Kind}
 use Rattle.proto_meaning.specs.declared.kind.Kind.TheVariants.{Package, Message, Entry, Enum, Service, Field, EntryField, Oneof, Value, Method}
-use Rattle.proto_meaning.specs.Edits.{Renaming, target}
-use Rattle.proto_meaning.specs.Grown.{At}
-use Rattle.proto_meaning.specs.Linked.{IsLinked}
-use Rattle.proto_meaning.specs.Names.{Symbol, Workspace, is_outer, is_type, meaning}
-use Rattle.proto_meaning.specs.Skeleton.{Token, Used, name_of, reference_of, spell, symbol_of}
-use Rattle.proto_meaning.proofs.Basics.{name_from_same}
-use Rattle.proto_meaning.proofs.Edited.{map_append}
-use Rattle.proto_meaning.proofs.Renamed.{has_meaning, meant}
-use Rattle.proto_meaning.proofs.Symbols.{front_of, one_symbol}
+use Rattle.proto_meaning.proofs.Common.{Renaming, target, At, IsLinked, Symbol, Workspace, is_outer, is_type, meaning, Token, Used, name_of, reference_of, spell, symbol_of, name_from_same, map_append, has_meaning, meant, front_of, one_symbol}
 use Rattle.proto_imports.specs.Links.{LinkFaults, link_skeleton, names_of_files, text_of}
-use Rattle.proto_rename_laws.specs.Places.{front_of as front_before, standing}
-use Rattle.proto_rename_laws.specs.Targets.{Target, IsNamed, may_rename, name_map}
-use Rattle.proto_rename_laws.proofs.NoLinkFault.{files_are_linked}
-use Rattle.proto_rename_laws.proofs.Places.{from_flat_map, stands_at}
-use Rattle.proto_rename_laws.proofs.PlacesSuit.{meaning_parts}
+use Rattle.proto_rename_laws.proofs.Common.{front_of as front_before, standing, Target, IsNamed, may_rename, name_map, files_are_linked, from_flat_map, stands_at, meaning_parts}
 
 type_is_outer : (k : Kind) → is_type k ≡ true → is_outer k ≡ true
 type_is_outer Package h = refl

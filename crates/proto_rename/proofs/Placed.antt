@@ -1,28 +1,14 @@
 -- The tokens of a file that a rename changes are those that the definition has there.
-use Rattle.std.proofs.Common.{◌≡◌, ◌↔◌, ℕ, zero, suc, ◌+◌, ◌<◌, ◌==◌, List, [], ◌∷◌, ◌++◌, length, map, Option, Some, None, Result, Ok, Err, IfOk, IfErr, option_map, refl, sym, ap, ap₂, subst, ◌∙◌, inl, inr, arith, if◌then◌else◌}
-use Rattle.std.specs.Prelude.{flat_map}
-use Rattle.std.specs.List.{Contains, list_any}
-use Rattle.std.proofs.lemmas.Bool.{cases_Bool, cond-true, cond-false, eqb-true, eq-eqb, false_from_ne_true}
-use Rattle.std.proofs.lemmas.List.Elements.{Contains-append_left, Contains-append_right, Contains-append_cases}
+use Rattle.std.proofs.Common.{◌≡◌, ◌↔◌, ℕ, zero, suc, ◌+◌, ◌<◌, ◌==◌, List, [], ◌∷◌, ◌++◌, length, map, Option, Some, None, Result, Ok, Err, IfOk, IfErr, option_map, refl, sym, ap, ap₂, subst, ◌∙◌, inl, inr, arith, if◌then◌else◌, flat_map, Contains, eqb-true, eq-eqb}
+use Rattle.proto_faults.proofs.Common.{list_any, cases_Bool, cond-true, cond-false, false_from_ne_true, Contains-append_left, Contains-append_right, Contains-append_cases, contains_cases, contains_head, contains_later, contains_map, from_map}
 use Rattle.proto_case.specs.Camel.{entry_name}
-use Rattle.proto_faults.proofs.Lists.{contains_cases, contains_head, contains_later, contains_map, from_map}
-use Rattle.proto_files.specs.FilesRead.{ReadOf, AreRead, read_at}
-use Rattle.proto_files.specs.GivenFiles.{FileOf}
-use Rattle.proto_meaning.specs.Grown.{At, at}
-use Rattle.proto_meaning.specs.Joined.{joined, ArePlain}
-use Rattle.proto_meaning.specs.Skeleton.{symbol_of}
-use Rattle.proto_imports.specs.Links.{link_skeleton, text_of}
+use Rattle.proto_files.proofs.Common.{ReadOf, AreRead, read_at, FileOf}
+use Rattle.proto_meaning.proofs.Common.{At, at, joined, ArePlain, symbol_of}
+use Rattle.proto_imports.proofs.Common.{link_skeleton, text_of, names_are_plain}
 use Rattle.proto_parts.specs.Parts.{FieldOf}
-use Rattle.proto_rename_laws.specs.Defaults.{defaults_from, default_words, fields_of_file, means_value, renamed_default, renamed_defaults, type_meaning}
-use Rattle.proto_rename_laws.specs.Places.{same_at, standing}
-use Rattle.proto_rename_laws.specs.Targets.{HasEnum, Target, name_map, renamed_words}
-use Rattle.proto_rename_laws.proofs.Places.{from_flat_map, is_listed, listed}
-use Rattle.proto_imports.proofs.PlainNames.{names_are_plain}
-use Rattle.proto_rename.specs.Changes.{ArePlacesIn, HasDefaultsIn, IsChangeIn, IsFaultIn, IsValueOf, or_own, places_of}
-use Rattle.proto_rename.specs.MadeChanges.{IsChangeAt, IsRewordFault, PutsAt}
+use Rattle.proto_rename_laws.proofs.Common.{defaults_from, default_words, fields_of_file, means_value, renamed_default, renamed_defaults, type_meaning, same_at, standing, HasEnum, Target, name_map, renamed_words, from_flat_map, is_listed, listed}
+use Rattle.proto_rename.specs.Common.{ArePlacesIn, HasDefaultsIn, IsChangeIn, IsFaultIn, IsValueOf, or_own, places_of, IsChangeAt, IsRewordFault, PutsAt, RewordFault, TooLarge, NoMemory}
 use Rattle.proto_rename.specs.StandingTokens.{IsStandingIn}
-use Rattle.proto_rename.specs.declared.changing.RewordFault.{RewordFault}
-use Rattle.proto_rename.specs.declared.changing.RewordFault.TheVariants.{TooLarge, NoMemory}
 use Rattle.proto_entries.specs.declared.entry.Change.{Change}
 use Rattle.proto_captures.specs.Aims.{IsAimedAt}
 use Rattle.proto_captures.specs.declared.aim.Aim.{Aim}

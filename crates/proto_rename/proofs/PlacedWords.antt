@@ -1,14 +1,8 @@
 -- Marks of tokens, and the edits of those that are marked.
-use Rattle.std.proofs.Common.{◌≡◌, ℕ, suc, ◌+◌, ◌<◌, Bool, true, false, List, [], ◌∷◌, ◌++◌, length, get_or, map, All, Option, Some, None, refl, sym, ap, subst, ◌∙◌, inl, inr, arith, slice_set, if◌then◌else◌}
-use Rattle.std.specs.List.{Contains, AllByRecursion}
-use Rattle.std.proofs.lemmas.Bool.{cases_eq}
-use Rattle.std.proofs.lemmas.List.{get_or-set_same, get_or-set_other, length-set}
-use Rattle.std.proofs.lemmas.List.Elements.{All-from_recursion, recursion_from_All}
+use Rattle.std.proofs.Common.{◌≡◌, ℕ, suc, ◌+◌, ◌<◌, Bool, true, false, List, [], ◌∷◌, ◌++◌, length, get_or, map, All, Option, Some, None, refl, sym, ap, subst, ◌∙◌, inl, inr, arith, slice_set, if◌then◌else◌, Contains, get_or-set_same, get_or-set_other, length-set}
+use Rattle.proto_faults.proofs.Common.{AllByRecursion, cases_eq, All-from_recursion, recursion_from_All, contains_cases, contains_head, contains_later}
 use Rattle.proto_text.specs.declared.lexer.Token.{Token}
-use Rattle.proto_text.specs.Edits.{Edit}
-use Rattle.proto_text.specs.SourceFacts.{text_at}
-use Rattle.proto_text.specs.Texts.{edit_if, token_edits}
-use Rattle.proto_faults.proofs.Lists.{contains_cases, contains_head, contains_later}
+use Rattle.proto_text.proofs.Common.{Edit, text_at, edit_if, token_edits}
 use Rattle.proto_rename.specs.MadeChanges.{marked_from, marked_tokens, word_put}
 
 -- ---- marks

@@ -1,39 +1,23 @@
 -- What each answer says of the cases.
-use Rattle.std.proofs.Common.{◌≡◌, ◌↔◌, ℕ, suc, ◌+◌, ◌<◌, Bool, true, false, IsTrue, List, [], ◌∷◌, length, map, Option, Some, None, sym, ap, ◌∙◌, inl, inr, arith}
-use Rattle.std.specs.List.{Contains}
-use Rattle.std.proofs.lemmas.Bool.{false_from_ne_true, true≢false}
-use Rattle.std.proofs.lemmas.List.Elements.{Contains-append_cases}
+use Rattle.std.proofs.Common.{◌≡◌, ◌↔◌, ℕ, suc, ◌+◌, ◌<◌, Bool, true, false, IsTrue, List, [], ◌∷◌, length, map, Option, Some, None, sym, ap, ◌∙◌, inl, inr, arith, Contains, true≢false}
+use Rattle.proto_faults.proofs.Common.{false_from_ne_true, Contains-append_cases, contains_map, from_map}
 use Rattle.proto_case.specs.Camel.{entry_name}
 use Rattle.proto_text.specs.declared.class.Class.TheVariants.{Letter}
-use Rattle.proto_text.specs.Pieces.{IsRun}
-use Rattle.proto_text.specs.Texts.{offset_at}
-use Rattle.proto_text.specs.Words.{is_run}
-use Rattle.proto_faults.proofs.Lists.{contains_map, from_map}
-use Rattle.proto_text.proofs.WordTest.{is_run_again, run_is}
-use Rattle.proto_files.specs.Faults.{HasNoFault}
-use Rattle.proto_files.specs.FilesRead.{ReadOf, AreRead, read_at}
-use Rattle.proto_files.specs.GivenFiles.{FileOf, file_at}
+use Rattle.proto_text.proofs.Common.{IsRun, offset_at, is_run, is_run_again, run_is, length_map}
+use Rattle.proto_files.proofs.Common.{HasNoFault, ReadOf, AreRead, read_at, FileOf, file_at}
 use Rattle.proto_entries.specs.declared.refusal.Refusal.{Refusal}
 use Rattle.proto_entries.specs.Entries.{ChangeOf}
 use Rattle.proto_entries.specs.declared.refusal.Refusal.TheVariants as refusal
-use Rattle.proto_meaning.specs.Edits.{Collides}
-use Rattle.proto_meaning.specs.Grown.{At, at, FileNames, all_used, file_used, used_in}
-use Rattle.proto_meaning.specs.Skeleton.{Used, symbol_of}
+use Rattle.proto_meaning.proofs.Common.{Collides, At, at, FileNames, all_used, file_used, used_in, Used, symbol_of}
 use Rattle.proto_imports.specs.Links.{LinkFaults, link_skeleton, names_in, names_of_files, text_of}
-use Rattle.proto_text.proofs.OneEdit.{length_map}
 use Rattle.proto_names.specs.declared.link.RefId.{RefId}
-use Rattle.proto_captures.specs.CapturedPlaces.{IsCapturedPlace}
+use Rattle.proto_captures.proofs.Common.{IsCapturedPlace, IsAimOf, IsAimedAt, IsNoTarget}
 use Rattle.proto_captures.specs.FirstCaptured.{IsFirstCaptured}
-use Rattle.proto_rename_laws.specs.Cases.{Clashes, Reserves, is_keyword_of, unknown_target, kind_not_allowed, not_an_identifier, keyword_name, same_name, collision, captured, name_reserved, json_clash, too_large}
-use Rattle.proto_rename_laws.specs.Targets.{Target, name_map}
-use Rattle.proto_rename.specs.Cases.{IsFreeBefore}
-use Rattle.proto_rename.specs.Changes.{AreChangesOf, IsChangesFault, IsFaultIn}
-use Rattle.proto_rename.specs.Renames.{IsLeastRenameCase, IsRenameCase, IsRenameRefusal, IsRenamed}
+use Rattle.proto_rename_laws.proofs.Common.{Clashes, Reserves, is_keyword_of, unknown_target, kind_not_allowed, not_an_identifier, keyword_name, same_name, collision, captured, name_reserved, json_clash, too_large, Target, name_map}
+use Rattle.proto_rename.specs.Common.{IsFreeBefore, AreChangesOf, IsChangesFault, IsFaultIn, IsLeastRenameCase, IsRenameCase, IsRenameRefusal, IsRenamed, RewordFault}
 use Rattle.proto_rename.proofs.LeastCases.{all_free, first_free, from_1, from_16, from_2, from_3, from_4, from_5, from_6, from_7, from_8, from_9, last_free, least, next_free}
 use Rattle.proto_rename.proofs.OneAim.{aimed_one, same_kind}
-use Rattle.proto_rename.specs.declared.changing.RewordFault.{RewordFault}
 use Rattle.proto_rename.specs.declared.changing.RewordFault.TheVariants as fault
-use Rattle.proto_captures.specs.Aims.{IsAimOf, IsAimedAt, IsNoTarget}
 use Rattle.proto_captures.specs.declared.aim.Aim.{Aim}
 use Rattle.proto_captures.specs.declared.aim.NoTarget.TheVariants as no_target
 

@@ -1,46 +1,16 @@
 -- The words that stand for a target, by counting, are those by the front at the hit.
-use Rattle.std.proofs.Common.{◌≡◌, ◌≢◌, ◌↔◌, ℕ, ◌+◌, ◌<◌, true, List, [], ◌∷◌, ◌++◌, length, get_or, map, option_map, flat_map, Option, Some, None, refl, sym, ap, subst, ◌∙◌, inl, inr, arith, append_assoc, length-append, if◌then◌else◌}
-use Rattle.std.specs.Prelude.{option_to_list}
-use Rattle.std.specs.List.{Contains}
-use Rattle.std.specs.Option.{option_and_then}
-use Rattle.std.proofs.lemmas.List.{append-nil, length-map}
-use Rattle.std.proofs.lemmas.List.Elements.{Contains-append_left, Contains-append_right, Contains-append_cases}
+use Rattle.std.proofs.Common.{◌≡◌, ◌≢◌, ◌↔◌, ℕ, ◌+◌, ◌<◌, true, List, [], ◌∷◌, ◌++◌, length, get_or, map, option_map, flat_map, Option, Some, None, refl, sym, ap, subst, ◌∙◌, inl, inr, arith, append_assoc, length-append, if◌then◌else◌, option_to_list, Contains, option_and_then, append-nil}
+use Rattle.proto_faults.proofs.Common.{length-map, Contains-append_left, Contains-append_right, Contains-append_cases, contains_cases, contains_head, contains_later, contains_map}
 use Rattle.proto_case.specs.Camel.{entry_name}
-use Rattle.proto_faults.proofs.Lists.{contains_cases, contains_head, contains_later, contains_map}
-use Rattle.proto_tree.specs.References.{dotted}
-use Rattle.proto_tree.specs.Reads.{Reads}
-use Rattle.proto_tree.specs.Tree.{Tree}
-use Rattle.proto_files.specs.Faults.{HasNoFault}
-use Rattle.proto_files.specs.GivenFiles.{FileOf, file_at}
-use Rattle.proto_files.specs.FilesRead.{ReadOf, AreRead, read_at}
-use Rattle.proto_files.proofs.ReadOnce.{one_reading}
-use Rattle.proto_listing.specs.FromTree.{file_names}
-use Rattle.proto_listing.specs.Listing.{used_by}
+use Rattle.proto_tree.proofs.Common.{dotted, Reads, Tree}
+use Rattle.proto_files.proofs.Common.{HasNoFault, FileOf, file_at, ReadOf, AreRead, read_at, one_reading}
+use Rattle.proto_listing.proofs.Common.{file_names, used_by}
 use Rattle.proto_listing.specs.declared.listing.Use.{Use}
-use Rattle.proto_meaning.specs.Edits.{Renaming, target}
-use Rattle.proto_meaning.specs.Grown.{At, at, used_in}
-use Rattle.proto_meaning.specs.Joined.{ArePlain, joined}
-use Rattle.proto_meaning.specs.Linked.{IsLinked}
-use Rattle.proto_meaning.specs.Names.{Workspace, meaning, same_name}
-use Rattle.proto_meaning.specs.Skeleton.{Token, Skeleton, Used, name_of, reference_of, spell, symbol_of}
-use Rattle.proto_meaning.specs.Tree.{Placed}
-use Rattle.proto_meaning.proofs.Basics.{name_from_same, same_from_name}
-use Rattle.proto_meaning.proofs.Edited.{map_append}
-use Rattle.proto_meaning.proofs.Renamed.{has_meaning, meant}
-use Rattle.proto_imports.specs.Links.{LinkFaults, link_skeleton, names_in, names_of_files, text_of}
-use Rattle.proto_imports.specs.Links.{used_named}
-use Rattle.proto_imports.specs.Links.{uses_of}
-use Rattle.proto_names.proofs.UsesOfFiles.{from_use, use_there}
-use Rattle.proto_names.specs.LinkOfFiles.{IsLinkRead, TextMeant, meant_by_link, meant_by_use}
-use Rattle.proto_names.specs.Linking.{LinkOf, text_at}
+use Rattle.proto_meaning.proofs.Common.{Renaming, target, At, at, used_in, ArePlain, joined, IsLinked, Workspace, meaning, same_name, Token, Skeleton, Used, name_of, reference_of, spell, symbol_of, Placed, name_from_same, same_from_name, map_append, has_meaning, meant}
+use Rattle.proto_imports.proofs.Common.{LinkFaults, link_skeleton, names_in, names_of_files, text_of, used_named, uses_of, use_from, use_in, names_are_plain}
+use Rattle.proto_names.proofs.Common.{from_use, use_there, IsLinkRead, TextMeant, meant_by_link, meant_by_use, LinkOf, text_at}
 use Rattle.proto_names.specs.declared.references.Meant.{Meant}
-use Rattle.proto_rename_laws.specs.Places.{front_of, standing, stands}
-use Rattle.proto_rename_laws.specs.Targets.{Target, IsNamed, name_map}
-use Rattle.proto_rename_laws.proofs.NoLinkFault.{files_are_linked}
-use Rattle.proto_rename_laws.proofs.Places.{from_flat_map, stands_at, to_flat_map}
-use Rattle.proto_rename_laws.proofs.PlacesSuit.{meaning_parts}
-use Rattle.proto_imports.proofs.FileUses.{use_from, use_in}
-use Rattle.proto_imports.proofs.PlainNames.{names_are_plain}
+use Rattle.proto_rename_laws.proofs.Common.{front_of, standing, stands, Target, IsNamed, name_map, files_are_linked, from_flat_map, stands_at, to_flat_map, meaning_parts}
 use Rattle.proto_rename.specs.StandingTokens.{counted, from_end, standing_tokens, words_behind}
 use Rattle.proto_rename.proofs.EndTokens.{cons_parts, end_split, is_listed, listed_is, same_fronts, split_end, split_map}
 use Rattle.proto_rename.proofs.NameTexts.{behind_is, is_behind}

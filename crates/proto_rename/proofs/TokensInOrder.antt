@@ -1,15 +1,10 @@
 -- Tokens of a text stand in order, and so do the words that come in the place of some of them.
-use Rattle.std.proofs.Common.{◌≡◌, ℕ, zero, suc, ◌+◌, ◌-◌, ◌*◌, ◌<◌, ◌≤◌, Bool, true, false, List, [], ◌∷◌, ◌++◌, length, get_or, drop, map, refl, sym, ap, subst, ◌∙◌, arith, length-append, zero-mul, suc-mul}
-use Rattle.std.proofs.lemmas.List.{at_drop_more, length-take, length-drop, append-nil}
-use Rattle.proto_faults.specs.Texts.{text_limit}
+use Rattle.std.proofs.Common.{◌≡◌, ℕ, zero, suc, ◌+◌, ◌-◌, ◌*◌, ◌<◌, ◌≤◌, Bool, true, false, List, [], ◌∷◌, ◌++◌, length, get_or, drop, map, refl, sym, ap, subst, ◌∙◌, arith, length-append, zero-mul, suc-mul, length-take, length-drop, append-nil}
+use Rattle.proto_faults.proofs.Common.{at_drop_more, text_limit}
 use Rattle.proto_text.specs.declared.kind.PieceKind.{PieceKind}
 use Rattle.proto_text.specs.declared.kind.PieceKind.TheVariants.{Blank, LineComment, BlockComment, Solid}
 use Rattle.proto_text.specs.declared.lexer.Token.{Token}
-use Rattle.proto_text.specs.Edits.{AreShort, old_len, new_len}
-use Rattle.proto_text.specs.Pieces.{Piece, IsLexeme, ArePieces, text_of}
-use Rattle.proto_text.specs.SourceFacts.{text_at}
-use Rattle.proto_text.specs.Tokens.{AreTokens, token_at, tokens_from}
-use Rattle.proto_text.proofs.WordChange.{not_empty}
+use Rattle.proto_text.proofs.Common.{AreShort, old_len, new_len, Piece, IsLexeme, ArePieces, text_of, text_at, AreTokens, token_at, tokens_from, not_empty}
 use Rattle.proto_rename.specs.MadeChanges.{bytes_in, marked_tokens, StandInOrder, word_put}
 
 -- ---- in order

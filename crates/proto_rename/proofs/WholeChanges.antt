@@ -1,18 +1,13 @@
 -- The changes file by file are all changes.
-use Rattle.std.proofs.Common.{◌≡◌, ℕ, zero, suc, ◌+◌, ◌<◌, List, [], ◌∷◌, ◌++◌, length, map, Option, refl, sym, ap, ap₂, subst, ◌∙◌, inl, inr, arith, append_assoc}
-use Rattle.std.specs.Prelude.{option_to_list}
+use Rattle.std.proofs.Common.{◌≡◌, ℕ, zero, suc, ◌+◌, ◌<◌, List, [], ◌∷◌, ◌++◌, length, map, Option, refl, sym, ap, ap₂, subst, ◌∙◌, inl, inr, arith, append_assoc, option_to_list, append-nil}
 use Rattle.std.proofs.lemmas.Bool.{cases_lt}
-use Rattle.std.proofs.lemmas.List.{append-nil}
 use Rattle.proto_text.specs.Texts.{token_edits}
-use Rattle.proto_files.specs.FilesRead.{ReadOf, AreRead, read_at}
-use Rattle.proto_files.specs.GivenFiles.{FileOf, file_at}
+use Rattle.proto_files.proofs.Common.{ReadOf, AreRead, read_at, FileOf, file_at}
 use Rattle.proto_meaning.proofs.Edited.{map_append}
 use Rattle.proto_entries.specs.Entries.{ChangeOf, change_of}
 use Rattle.proto_entries.specs.declared.entry.Change.{Change}
-use Rattle.proto_rename_laws.specs.Changes.{IsTooLong, change_by, changes_from, changes_of_words}
-use Rattle.proto_rename_laws.specs.Rewording.{NewWords, in_file}
-use Rattle.proto_rename.specs.MadeChanges.{IsMade}
-use Rattle.proto_rename.specs.Changes.{AreWholeChanges, changes_up_to}
+use Rattle.proto_rename_laws.proofs.Common.{IsTooLong, change_by, changes_from, changes_of_words, NewWords, in_file}
+use Rattle.proto_rename.specs.Common.{IsMade, AreWholeChanges, changes_up_to}
 
 module _ (c : NewWords) where
   -- the change of the n-th of these files, which are numbered from another one on

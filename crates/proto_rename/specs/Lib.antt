@@ -4,3 +4,4 @@ pub mod Renames
 pub mod MadeChanges
 pub mod StandingTokens
 pub mod Defaults
+pub mod Common

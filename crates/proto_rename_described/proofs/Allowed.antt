@@ -1,57 +1,26 @@
 -- An admissible rename of files without a fault leaves files without one (for the crates above).
-use Rattle.std.proofs.Common.{◌≡◌, ◌≢◌, ℕ, ◌<◌, ◌==◌, true, false, ◌⊎◌, if◌then◌else◌, List, [], ◌∷◌, ◌++◌, length, map, flat_map, Option, Some, None, is_some, option_map, refl, sym, ap, ap₂, subst, ◌∙◌, inl, inr, arith}
-use Rattle.std.specs.Prelude.{codes}
-use Rattle.std.specs.Option.{option_and_then}
-use Rattle.std.specs.List.{Contains, filter}
-use Rattle.std.proofs.lemmas.Bool.{cases_Bool, cases_eq, cond-true, cond-false, eq-eqb, ne_eqb}
-use Rattle.std.specs.Str.{bytes_eq}
+use Rattle.std.proofs.Common.{◌≡◌, ◌≢◌, ℕ, ◌<◌, ◌==◌, true, false, ◌⊎◌, if◌then◌else◌, List, [], ◌∷◌, ◌++◌, length, map, flat_map, Option, Some, None, is_some, option_map, refl, sym, ap, ap₂, subst, ◌∙◌, inl, inr, arith, codes, option_and_then, Contains, filter, eq-eqb, ne_eqb, bytes_eq}
+use Rattle.proto_faults.proofs.Common.{cases_Bool, cases_eq, cond-true, cond-false, contains_cases, contains_head, contains_later, from_map}
 use Rattle.proto_case.specs.Camel.{entry_name}
-use Rattle.proto_text.specs.Words.{is_run}
-use Rattle.proto_text.proofs.WordTest.{run_is}
-use Rattle.proto_text.proofs.OneEdit.{length_map}
-use Rattle.proto_text.specs.Texts.{or_word}
-use Rattle.proto_faults.proofs.Lists.{contains_cases, contains_head, contains_later, from_map}
+use Rattle.proto_text.proofs.Common.{is_run, run_is, length_map, or_word}
 use Rattle.proto_tree.specs.declared.piece.Header.{Header}
 use Rattle.proto_tree.specs.declared.piece.Heading.{Heading}
 use Rattle.proto_tree.specs.Tree.{Tree}
 use Rattle.proto_tree.specs.declared.tree.Constant.{Constant}
 use Rattle.proto_tree.specs.declared.piece.Header.TheVariants as header
 use Rattle.proto_tree.specs.declared.tree.Constant.TheVariants as constant
-use Rattle.proto_files.specs.Faults.{HasNoFault}
-use Rattle.proto_files.specs.GivenFiles.{FileOf}
-use Rattle.proto_files.specs.FilesRead.{ReadOf, read_at}
-use Rattle.proto_files.proofs.ReadOnce.{read_once}
-use Rattle.proto_meaning.specs.Edits.{IsCaptured}
-use Rattle.proto_meaning.specs.Grown.{At, at}
-use Rattle.proto_meaning.specs.Skeleton.{reference_of}
+use Rattle.proto_files.proofs.Common.{HasNoFault, FileOf, ReadOf, read_at, read_once}
+use Rattle.proto_meaning.proofs.Common.{IsCaptured, At, at, reference_of}
 use Rattle.proto_meaning.specs.declared.kind.Kind.TheVariants.{Package, Entry}
 use Rattle.proto_imports.specs.Links.{LinkFaults, text_of, link_skeleton, names_of_files}
-use Rattle.proto_parts.specs.Options.{is_named, value_named, text_of as text_value}
-use Rattle.proto_parts.specs.Parts.{BlockOf, FieldOf, OptionOf, blocks_in, fields_in, reserved_names_in, values_in}
-use Rattle.proto_parts.specs.Scenes.{Scene, text, value}
-use Rattle.proto_parts.specs.JsonNames.{json_name_of, json_word}
+use Rattle.proto_parts.proofs.Common.{is_named, value_named, text_of as text_value, BlockOf, FieldOf, OptionOf, blocks_in, fields_in, reserved_names_in, values_in, Scene, text, value, json_name_of, json_word}
 use Rattle.proto_numbers.specs.declared.flaw.Flaw.{Flaw}
-use Rattle.proto_checks.specs.FieldFlaws.{default_flaws}
-use Rattle.proto_checks.specs.FileFlaws.{file_flaws, json_clashes, name_flaws}
-use Rattle.proto_checks_laws.specs.NamedFlaws.{flaws_of_block}
-use Rattle.proto_checks_laws.specs.Renamed.{is_of_names}
-use Rattle.proto_checks_laws.proofs.NamedFlaws.{flaws_of_names, no_flaw_comes_in}
+use Rattle.proto_checks.proofs.Common.{default_flaws, file_flaws, json_clashes, name_flaws}
+use Rattle.proto_checks_laws.proofs.Common.{flaws_of_block, is_of_names, flaws_of_names, no_flaw_comes_in}
 use Rattle.proto_checks_laws.proofs.RenamedFlaws.{names_decide_three_kinds}
-use Rattle.proto_rename_laws.specs.SceneOf.{scene_of}
+use Rattle.proto_rename_laws.proofs.Common.{scene_of, collision, captured, name_reserved, json_clash, keyword_name, not_an_identifier, AreReworded, SuitFiles, Names, Uses, TokensHaveRoles, IsRename, Target, may_rename, name_map, renamed_words, places_are_suited, tokens_are_inside, files_are_linked, files_are_woven, no_link_fault, other_texts_stay, texts_are_changed, places_respelled, find_agree, scenes_are_apart, trees_at, values_stay, version_stays}
 use Rattle.proto_desc.specs.Checked.{CheckFaults, of_flaw, fault_of, flaws_of}
-use Rattle.proto_rename_laws.specs.Cases.{collision, captured, name_reserved, json_clash, keyword_name, not_an_identifier}
-use Rattle.proto_rename_laws.specs.Rewording.{AreReworded, SuitFiles}
-use Rattle.proto_rename_laws.specs.Places.{Names, Uses}
-use Rattle.proto_rename_laws.specs.Roles.{TokensHaveRoles}
-use Rattle.proto_rename_laws.specs.Scenes.{IsRename}
-use Rattle.proto_rename_laws.specs.Targets.{Target, may_rename, name_map, renamed_words}
-use Rattle.proto_rename_laws.proofs.PlacesSuit.{places_are_suited}
-use Rattle.proto_rename_laws.proofs.Inside.{tokens_are_inside}
-use Rattle.proto_rename_laws.proofs.NoLinkFault.{files_are_linked, files_are_woven, no_link_fault}
-use Rattle.proto_rename_laws.proofs.Rewording.{other_texts_stay, texts_are_changed}
-use Rattle.proto_rename_laws.proofs.Places.{places_respelled}
 use Rattle.proto_rename_roles.proofs.TokenRoles.{tokens_have_roles}
-use Rattle.proto_rename_laws.proofs.Scenes.{find_agree, scenes_are_apart, trees_at, values_stay, version_stays}
 use Rattle.proto_rename_described.specs.Allowed.{DefaultsFit, IsAllowed}
 use Rattle.proto_rename_described.specs.NamesKept.{AreKept, written}
 use Rattle.proto_rename_described.proofs.NamesKept.{empty_parts, json_names_stay, reserved_names_stay}

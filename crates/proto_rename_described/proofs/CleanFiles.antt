@@ -1,12 +1,7 @@
 -- Files whose texts and grammar have no fault are texts, and are read (for the crates above).
-use Rattle.std.proofs.Common.{◌≡◌, ℕ, zero, suc, ◌+◌, ◌-◌, ◌<◌, ◌≤◌, Bool, true, false, ◌⊎◌, List, [], ◌∷◌, ◌++◌, length, take, drop, get_or, Option, Some, None, Ok, Err, refl, sym, ap, subst, ◌∙◌, inl, inr, arith, append_assoc, length-append}
-use Rattle.std.specs.List.{Contains}
-use Rattle.std.specs.Str.{IsUtf8, is_utf8}
-use Rattle.std.proofs.lemmas.Bool.{both_ways, cases_Bool, cases_lt}
-use Rattle.std.proofs.lemmas.List.{append-nil, drop_at}
-use Rattle.std.proofs.lemmas.Option.{none-some, same_Some}
-use Rattle.std.proofs.lemmas.Str.{IsUtf8-from_is_utf8, is_utf8-from_IsUtf8}
-use Rattle.proto_faults.specs.Texts.{text_limit}
+use Rattle.std.proofs.Common.{◌≡◌, ℕ, zero, suc, ◌+◌, ◌-◌, ◌<◌, ◌≤◌, Bool, true, false, ◌⊎◌, List, [], ◌∷◌, ◌++◌, length, take, drop, get_or, Option, Some, None, Ok, Err, refl, sym, ap, subst, ◌∙◌, inl, inr, arith, append_assoc, length-append, Contains, IsUtf8, append-nil, drop_at}
+use Rattle.std.specs.Str.{is_utf8}
+use Rattle.proto_faults.proofs.Common.{both_ways, cases_Bool, cases_lt, none-some, same_Some, IsUtf8-from_is_utf8, is_utf8-from_IsUtf8, text_limit, contains_head, contains_later}
 use Rattle.proto_faults.specs.declared.fault.FaultKind.{FaultKind}
 use Rattle.proto_faults.specs.declared.fault.FaultKind.TheVariants as kind
 use Rattle.proto_text.specs.declared.fault.LexFault.{LexFault}
@@ -16,15 +11,10 @@ use Rattle.proto_text.specs.declared.kind.PieceKind.TheVariants.{Blank, LineComm
 use Rattle.proto_text.specs.declared.kind.TokenKind.TheVariants.{Word, Number, Text, Punctuation}
 use Rattle.proto_text.specs.declared.lexer.Token.{Token}
 use Rattle.proto_text.specs.First.{BeginsWith}
-use Rattle.proto_text.specs.Pieces.{IsFault}
+use Rattle.proto_text.proofs.Common.{IsFault, IsAllowed, AreTokens, IsFaultAt, token_at, meaning_from, meaning_again, meaning_sound}
 use Rattle.proto_text.specs.Scan.{Found, piece_at}
-use Rattle.proto_text.specs.Strings.{IsAllowed}
-use Rattle.proto_text.specs.Tokens.{AreTokens, IsFaultAt, token_at}
-use Rattle.proto_text.specs.Values.{meaning_from}
 use Rattle.proto_text.proofs.Begins.{accept_other, accept_string, fault_sound, found_some, inside, refuse_string}
-use Rattle.proto_faults.proofs.Lists.{contains_head, contains_later}
 use Rattle.proto_text.proofs.Sequence.{IsLexedUpTo, lexed_all, lexed_fault, lexed_more, lexed_none}
-use Rattle.proto_text.proofs.Values.{meaning_again, meaning_sound}
 use Rattle.proto_tree.specs.declared.class.Class.{Class}
 use Rattle.proto_tree.specs.declared.class.Class.TheVariants as class
 use Rattle.proto_tree.specs.declared.class.Lexeme.{Lexeme}
@@ -33,20 +23,10 @@ use Rattle.proto_tree.specs.declared.context.Context.TheVariants as context
 use Rattle.proto_tree.specs.declared.context.Kind.TheVariants as piece_kind
 use Rattle.proto_tree.specs.declared.piece.Piece.{Piece}
 use Rattle.proto_tree.specs.declared.piece.Piece.TheVariants as piece
-use Rattle.proto_tree.specs.Flat.{Fit, flat_piece}
-use Rattle.proto_tree.specs.Place.{IsShallow, IsTooDeep, open_after, open_in}
-use Rattle.proto_tree.specs.Reads.{Reads, classed, place_at}
-use Rattle.proto_tree.specs.Tree.{Tree, Spells, allows, kind_of, last_of}
+use Rattle.proto_tree.proofs.Common.{Fit, flat_piece, IsShallow, IsTooDeep, open_after, open_in, Reads, classed, place_at, Tree, Spells, allows, kind_of, last_of, Fit-join, same_pieces, stuck_no_tree, stuck_place, tree_of_walk, walk_of, laws, nested_walk, walk_append, flats, flats-append, last_outer, pieces}
 use Rattle.proto_tree.specs.Walk.{IsStuck, Walk, moved, piece_in}
 use Rattle.proto_tree.proofs.Depth.{before_more, now_more}
-use Rattle.proto_tree.proofs.Exact.{Fit-join}
-use Rattle.proto_tree.proofs.Faults.{same_pieces, stuck_no_tree, stuck_place, tree_of_walk, walk_of}
-use Rattle.proto_tree.proofs.Places.{laws, nested_walk, walk_append}
-use Rattle.proto_tree.proofs.Walks.{flats, flats-append, last_outer, pieces}
-use Rattle.proto_files.specs.Faults.{HasNoFault}
-use Rattle.proto_files.specs.FilesRead.{ReadOf, read_at}
-use Rattle.proto_files.specs.GivenFiles.{FileOf, file_at}
-use Rattle.proto_files.specs.ReadFaults.{IsGrammarFault, IsText, IsTextFault, ReadFaults}
+use Rattle.proto_files.proofs.Common.{HasNoFault, ReadOf, read_at, FileOf, file_at, IsGrammarFault, IsText, IsTextFault, ReadFaults}
 use Rattle.proto_rename_described.specs.CleanFiles.{CleanFilesAreRead}
 
 -- ---- a text has tokens, or a fault

@@ -1,40 +1,21 @@
 -- Each field keeps its label, type and numbers after a rename, and its defaults go with the value that they mean (for the crates above).
-use Rattle.std.proofs.Common.{◌≡◌, ℕ, zero, suc, ◌+◌, ◌<◌, ◌&&◌, Bool, true, false, if◌then◌else◌, List, [], ◌∷◌, ◌++◌, length, map, flat_map, Option, Some, None, codes, sym, ap, subst, ◌∙◌, inl, inr, arith}
-use Rattle.std.specs.List.{Contains, list_any}
-use Rattle.std.specs.Str.{bytes_eq}
-use Rattle.std.proofs.lemmas.Bool.{cases_Bool, cond-true, cond-false, true≢false}
-use Rattle.std.proofs.lemmas.List.Elements.{Contains-append_left, Contains-append_right}
+use Rattle.std.proofs.Common.{◌≡◌, ℕ, zero, suc, ◌+◌, ◌<◌, ◌&&◌, Bool, true, false, if◌then◌else◌, List, [], ◌∷◌, ◌++◌, length, map, flat_map, Option, Some, None, codes, sym, ap, subst, ◌∙◌, inl, inr, arith, Contains, bytes_eq, true≢false}
+use Rattle.proto_faults.proofs.Common.{list_any, cases_Bool, cond-true, cond-false, Contains-append_left, Contains-append_right, contains_head, contains_later, contains_map, word_from_same}
 use Rattle.proto_case.specs.Camel.{entry_name}
 use Rattle.proto_text.specs.Texts.{or_word}
-use Rattle.proto_faults.proofs.Lists.{contains_head, contains_later, contains_map, word_from_same}
 use Rattle.proto_tree.specs.declared.piece.Header.{Header}
 use Rattle.proto_tree.specs.declared.piece.Heading.{Heading}
 use Rattle.proto_tree.specs.declared.tree.Constant.{Constant}
 use Rattle.proto_tree.specs.declared.tree.FieldType.{FieldType}
 use Rattle.proto_tree.specs.declared.piece.Header.TheVariants as header
 use Rattle.proto_tree.specs.declared.tree.Constant.TheVariants as constant
-use Rattle.proto_files.specs.GivenFiles.{FileOf, file_at}
-use Rattle.proto_files.specs.FilesRead.{ReadOf, read_at}
-use Rattle.proto_meaning.specs.Grown.{At, at}
-use Rattle.proto_meaning.specs.Joined.{ArePlain, IsPlain}
-use Rattle.proto_meaning.specs.Names.{same_name}
-use Rattle.proto_meaning.specs.Skeleton.{Token, name_of, spell, symbol_of}
-use Rattle.proto_meaning.proofs.Edited.{map_append}
-use Rattle.proto_imports.specs.Links.{link_skeleton, text_of}
-use Rattle.proto_parts.specs.Options.{is_named}
-use Rattle.proto_parts.specs.Parts.{BlockOf, FieldOf, OptionOf, blocks_in, fields_in}
+use Rattle.proto_files.proofs.Common.{FileOf, file_at, ReadOf, read_at}
+use Rattle.proto_meaning.proofs.Common.{At, at, ArePlain, IsPlain, same_name, Token, name_of, spell, symbol_of, map_append}
+use Rattle.proto_imports.proofs.Common.{link_skeleton, text_of, names_are_plain}
+use Rattle.proto_parts.proofs.Common.{is_named, BlockOf, FieldOf, OptionOf, blocks_in, fields_in}
 use Rattle.proto_checks_laws.specs.Renamed.{constant_tokens}
-use Rattle.proto_rename_laws.specs.Defaults.{default_words, defaults_from, fields_of_block, fields_of_file, meaning_from, means_value, renamed_default, renamed_defaults, type_meaning}
-use Rattle.proto_rename_laws.specs.Roles.{HasDefaultWords, HasDefaultRoles}
-use Rattle.proto_rename_laws.specs.Rewording.{AreReworded}
-use Rattle.proto_rename_laws.specs.Places.{renamed_places, same_at, standing}
-use Rattle.proto_rename_laws.specs.Targets.{Target, name_map, renamed_words}
-use Rattle.proto_rename_laws.proofs.Inside.{plain_inside}
-use Rattle.proto_imports.proofs.PlainNames.{names_are_plain}
-use Rattle.proto_rename_laws.proofs.Rewording.{other_texts_stay, texts_are_changed}
-use Rattle.proto_rename_laws.proofs.Places.{listed, to_flat_map}
-use Rattle.proto_rename_described.specs.Allowed.{IsAllowed}
-use Rattle.proto_rename_described.specs.DefaultsFit.{FieldsHaveRoles}
+use Rattle.proto_rename_laws.proofs.Common.{default_words, defaults_from, fields_of_block, fields_of_file, meaning_from, means_value, renamed_default, renamed_defaults, type_meaning, HasDefaultWords, HasDefaultRoles, AreReworded, renamed_places, same_at, standing, Target, name_map, renamed_words, plain_inside, other_texts_stay, texts_are_changed, listed, to_flat_map}
+use Rattle.proto_rename_described.specs.Common.{IsAllowed, FieldsHaveRoles}
 use Rattle.proto_rename_described.proofs.Allowed.{allowed_roles}
 use Rattle.proto_rename_described.proofs.OtherTokens.{labels_and_scalars_stay, other_tokens_stay}
 

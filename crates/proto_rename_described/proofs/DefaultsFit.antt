@@ -1,7 +1,5 @@
 -- No default is wrong after a rename (for the crates above).
-use Rattle.std.proofs.Common.{◌≡◌, ℕ, ◌<◌, pos, neg_ℤ, Bool, true, false, not, ◌&&◌, if◌then◌else◌, List, [], length, find, flat_map, Option, Some, None, is_some, is_none, codes, refl, sym, ap, ap₂, subst, ◌∙◌, arith}
-use Rattle.std.specs.List.{Contains, filter}
-use Rattle.std.specs.Str.{bytes_eq}
+use Rattle.std.proofs.Common.{◌≡◌, ℕ, ◌<◌, pos, neg_ℤ, Bool, true, false, not, ◌&&◌, if◌then◌else◌, List, [], length, find, flat_map, Option, Some, None, is_some, is_none, codes, refl, sym, ap, ap₂, subst, ◌∙◌, arith, Contains, filter, bytes_eq}
 use Rattle.proto_tree.specs.declared.tree.Constant.{Constant}
 use Rattle.proto_tree.specs.declared.tree.FieldType.{FieldType}
 use Rattle.proto_tree.specs.declared.piece.Header.{Header}
@@ -9,29 +7,15 @@ use Rattle.proto_tree.specs.declared.piece.Heading.{Heading}
 use Rattle.proto_tree.specs.declared.piece.Header.TheVariants as header
 use Rattle.proto_tree.specs.declared.tree.Constant.TheVariants as constant
 use Rattle.proto_tree.specs.declared.tree.FieldType.TheVariants as field_type
-use Rattle.proto_files.specs.GivenFiles.{FileOf}
-use Rattle.proto_files.specs.FilesRead.{ReadOf, read_at}
+use Rattle.proto_files.proofs.Common.{FileOf, ReadOf, read_at}
 use Rattle.proto_meaning.specs.Grown.{at}
 use Rattle.proto_imports.specs.Links.{text_of}
-use Rattle.proto_parts.specs.Numbers.{number_of}
-use Rattle.proto_parts.specs.Options.{is_named, truth_named}
-use Rattle.proto_parts.specs.Parts.{BlockOf, FieldOf, OptionOf, blocks_in, fields_in}
-use Rattle.proto_parts.specs.Scenes.{EnumOf, Scene, enum_meant, signed_at, text}
-use Rattle.proto_parts.specs.Labels.{has_label, is_label}
+use Rattle.proto_parts.proofs.Common.{number_of, is_named, truth_named, BlockOf, FieldOf, OptionOf, blocks_in, fields_in, EnumOf, Scene, enum_meant, signed_at, text, has_label, is_label}
 use Rattle.proto_numbers.specs.declared.flaw.Flaw.{Flaw}
 use Rattle.proto_checks.specs.FieldFlaws.{default_flaws, holds_number, is_default_of, is_value_of, may_default, wrong_default}
-use Rattle.proto_checks_laws.specs.NamedFlaws.{flaws_of_block}
-use Rattle.proto_checks_laws.specs.Renamed.{is_of_names}
-use Rattle.proto_checks_laws.proofs.NamedFlaws.{flaws_of_names}
-use Rattle.proto_rename_laws.specs.SceneOf.{scene_of}
-use Rattle.proto_rename_laws.specs.Defaults.{meaning_from}
-use Rattle.proto_rename_laws.specs.Roles.{HasDefaultRoles}
-use Rattle.proto_rename_laws.specs.Rewording.{AreReworded}
-use Rattle.proto_rename_laws.specs.Targets.{Target, renamed_words}
-use Rattle.proto_rename_laws.proofs.Rewording.{other_texts_stay}
-use Rattle.proto_rename_laws.proofs.Scenes.{find_agree, find_there, trees_at, version_stays}
-use Rattle.proto_rename_described.specs.Allowed.{IsAllowed, RenamesLeaveNoFault}
-use Rattle.proto_rename_described.specs.DefaultsFit.{AllDefaultsFit}
+use Rattle.proto_checks_laws.proofs.Common.{flaws_of_block, is_of_names, flaws_of_names}
+use Rattle.proto_rename_laws.proofs.Common.{scene_of, meaning_from, HasDefaultRoles, AreReworded, Target, renamed_words, other_texts_stay, find_agree, find_there, trees_at, version_stays}
+use Rattle.proto_rename_described.specs.Common.{IsAllowed, RenamesLeaveNoFault, AllDefaultsFit}
 use Rattle.proto_rename_described.proofs.Allowed.{allowed_roles, clean, empty_each, is_rename, no_fault_beside_defaults, same_length}
 use Rattle.proto_rename_described.proofs.DefaultWords.{fields_have_roles}
 use Rattle.proto_rename_described.proofs.EnumDefaults.{enum_defaults_fit}

@@ -1,7 +1,5 @@
 -- A default that is one of its enum's values is one after a rename.
-use Rattle.std.proofs.Common.{◌≡◌, map, sym, ap, subst, ◌∙◌, inl, inr}
-use Rattle.std.specs.List.{Contains}
-use Rattle.std.specs.Str.{bytes_eq}
+use Rattle.std.proofs.Common.{◌≡◌, map, sym, ap, subst, ◌∙◌, inl, inr, Contains, bytes_eq}
 use Rattle.proto_faults.proofs.Lists.{any_from, any_to, contains_map, from_map, same_from_word, word_from_same}
 use Rattle.proto_rename_described.specs.DefaultsKept.{DefaultsStayValues}
 

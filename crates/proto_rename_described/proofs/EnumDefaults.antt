@@ -1,38 +1,17 @@
 -- A default of an enum's field is one of the enum's values after a rename (for the crates above).
-use Rattle.std.proofs.Common.{◌≡◌, ℕ, ◌<◌, ◌==◌, Bool, true, false, ◌&&◌, ◌≢◌, ◌⊎◌, if◌then◌else◌, List, [], ◌∷◌, length, map, Option, Some, None, option_map, refl, sym, ap, ap₂, subst, ◌∙◌, inl, inr, cond}
-use Rattle.std.specs.Option.{option_and_then}
-use Rattle.std.specs.List.{Contains, find}
-use Rattle.std.specs.Str.{bytes_eq}
-use Rattle.std.proofs.lemmas.Bool.{cases_Bool, cond-true, cond-false}
+use Rattle.std.proofs.Common.{◌≡◌, ℕ, ◌<◌, ◌==◌, Bool, true, false, ◌&&◌, ◌≢◌, ◌⊎◌, if◌then◌else◌, List, [], ◌∷◌, length, map, Option, Some, None, option_map, refl, sym, ap, ap₂, subst, ◌∙◌, inl, inr, cond, option_and_then, Contains, find, bytes_eq}
+use Rattle.proto_faults.proofs.Common.{cases_Bool, cond-true, cond-false, any_from, any_to, contains_map, from_map, same_from_word, word_from_same}
 use Rattle.proto_case.specs.Camel.{entry_name}
 use Rattle.proto_text.specs.Texts.{word_at}
-use Rattle.proto_faults.proofs.Lists.{any_from, any_to, contains_map, from_map, same_from_word, word_from_same}
 use Rattle.proto_tree.specs.declared.tree.Reference.{Reference}
 use Rattle.proto_tree.specs.declared.tree.Value.{Value}
 use Rattle.proto_tree.specs.References.{first_of}
-use Rattle.proto_files.specs.GivenFiles.{FileOf}
-use Rattle.proto_files.specs.FilesRead.{ReadOf, read_at}
-use Rattle.proto_meaning.specs.Edits.{Renaming, ren}
-use Rattle.proto_meaning.specs.Faults.{place_of}
-use Rattle.proto_meaning.specs.Grown.{At, at, used_in}
-use Rattle.proto_meaning.specs.Names.{same_name}
-use Rattle.proto_meaning.specs.Skeleton.{Declared, Used, name_of, reference_of}
-use Rattle.proto_meaning.proofs.Basics.{name_from_same, same_from_name}
-use Rattle.proto_meaning.proofs.Renamed.{has_meaning, meant}
-use Rattle.proto_imports.specs.Links.{text_of, link_skeleton, names_of_files}
-use Rattle.proto_imports.specs.Links.{used_named}
-use Rattle.proto_imports.specs.Links.{uses_of}
-use Rattle.proto_parts.specs.Parts.{BlockOf, blocks_in, values_in}
-use Rattle.proto_parts.specs.Scenes.{EnumOf, MeantOf, enum_meant}
+use Rattle.proto_files.proofs.Common.{FileOf, ReadOf, read_at}
+use Rattle.proto_meaning.proofs.Common.{Renaming, ren, place_of, At, at, used_in, same_name, Declared, Used, name_of, reference_of, name_from_same, same_from_name, has_meaning, meant}
+use Rattle.proto_imports.specs.Links.{text_of, link_skeleton, names_of_files, used_named, uses_of}
+use Rattle.proto_parts.proofs.Common.{BlockOf, blocks_in, values_in, EnumOf, MeantOf, enum_meant}
 use Rattle.proto_checks.specs.FieldFlaws.{is_value_of}
-use Rattle.proto_rename_laws.specs.SceneOf.{declared_as, enum_at, enum_named, enum_within, is_enum_at, is_proto3_file, lexemes_of, meaning_of, meant_as, scene_of}
-use Rattle.proto_rename_laws.specs.Defaults.{means_value, meaning_from}
-use Rattle.proto_rename_laws.specs.Roles.{HasEnumRoles}
-use Rattle.proto_rename_laws.specs.Targets.{HasValue, Target, name_map, renamed_words}
-use Rattle.proto_rename_laws.specs.Rewording.{AreReworded}
-use Rattle.proto_rename_laws.specs.Places.{Names}
-use Rattle.proto_rename_laws.specs.Scenes.{IsRename}
-use Rattle.proto_rename_laws.proofs.Scenes.{declared_stays, find_agree, find_there, meaning_after, trees_at, used_here, uses_stay}
+use Rattle.proto_rename_laws.proofs.Common.{declared_as, enum_at, enum_named, enum_within, is_enum_at, is_proto3_file, lexemes_of, meaning_of, meant_as, scene_of, means_value, meaning_from, HasEnumRoles, HasValue, Target, name_map, renamed_words, AreReworded, Names, IsRename, declared_stays, find_agree, find_there, meaning_after, trees_at, used_here, uses_stay}
 use Rattle.proto_rename_described.specs.Allowed.{IsAllowed}
 use Rattle.proto_rename_described.specs.EnumDefaults.{EnumDefaultsFit}
 use Rattle.proto_rename_described.proofs.Allowed.{allowed_roles, is_rename}

@@ -1,12 +1,10 @@
 -- The definitions on small names, computed.
 use Rattle.std.proofs.Common.{◌≡◌, ℕ, zero, suc, true, false, List, [], ◌∷◌, Some, None, codes, refl}
-use Rattle.proto_meaning.specs.Edits.{Renaming}
-use Rattle.proto_meaning.specs.Grown.{at}
+use Rattle.proto_meaning.proofs.Common.{Renaming, at}
 use Rattle.proto_descriptors.specs.Descriptors.{FieldDesc}
 use Rattle.proto_descriptors.specs.declared.field.FieldType.TheVariants as field_type
 use Rattle.proto_descriptors.specs.declared.field.Label.TheVariants as label
-use Rattle.proto_rename_laws.specs.Cases.{is_value_keyword}
-use Rattle.proto_rename_laws.specs.Places.{stands}
+use Rattle.proto_rename_laws.proofs.Common.{is_value_keyword, stands}
 use Rattle.proto_rename_described.specs.Mapped.{Taken, mapped_default, mapped_field, mapped_name, word_under}
 
 -- a map field whose new name is that of its old entry

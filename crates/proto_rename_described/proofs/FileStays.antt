@@ -1,10 +1,6 @@
 -- What stays of a scene but for names: numbers, labels, types and options.
-use Rattle.std.specs.Prelude.{option_to_list}
-use Rattle.std.proofs.Common.{◌≡◌, ℕ, ℤ, pos, neg_ℤ, Bool, true, false, ◌&&◌, ◌||◌, if◌then◌else◌, List, [], ◌∷◌, ◌++◌, map, flat_map, find, Option, Some, None, option_map, is_some, codes, option_and_then, refl, sym, ◌∙◌, ap, ap₂, subst}
-use Rattle.std.specs.List.{Contains}
-use Rattle.std.specs.Str.{bytes_eq}
-use Rattle.std.proofs.lemmas.List.Elements.{Contains-append_left, Contains-append_right}
-use Rattle.proto_faults.proofs.Lists.{contains_head, contains_later, word_from_same}
+use Rattle.std.proofs.Common.{option_to_list, ◌≡◌, ℕ, ℤ, pos, neg_ℤ, Bool, true, false, ◌&&◌, ◌||◌, if◌then◌else◌, List, [], ◌∷◌, ◌++◌, map, flat_map, find, Option, Some, None, option_map, is_some, codes, option_and_then, refl, sym, ◌∙◌, ap, ap₂, subst, Contains, bytes_eq}
+use Rattle.proto_faults.proofs.Common.{Contains-append_left, Contains-append_right, contains_head, contains_later, word_from_same}
 use Rattle.proto_tree.specs.declared.tree.Constant.{Constant}
 use Rattle.proto_tree.specs.declared.tree.FieldType.{FieldType as WrittenType}
 use Rattle.proto_tree.specs.declared.tree.MapField.{MapField}
@@ -17,22 +13,15 @@ use Rattle.proto_tree.specs.Tree.{Tree}
 use Rattle.proto_tree.specs.declared.tree.Constant.TheVariants as constant
 use Rattle.proto_tree.specs.declared.tree.FieldType.TheVariants as written_type
 use Rattle.proto_tree.specs.declared.tree.RangeEnd.TheVariants as range_end
-use Rattle.proto_meaning.specs.Edits.{Renaming}
-use Rattle.proto_meaning.proofs.Edited.{map_agree}
-use Rattle.proto_parts.specs.Numbers.{number_of}
-use Rattle.proto_parts.specs.Options.{is_named, text_of as text_value, text_option, truth_named, truth_of, truth_option, value_named, word_of, word_option}
-use Rattle.proto_parts.specs.Parts.{FieldOf, OptionOf, closed_ranges, enum_ranges, extension_ranges, fields_in, map_field, options_in, reserved_ranges, settings_of, statements, values_in}
-use Rattle.proto_parts.specs.Scenes.{EnumOf, Scene, enum_meant, number_at, signed_at, text, up_to, value}
-use Rattle.proto_parts.specs.Labels.{is_label}
+use Rattle.proto_meaning.proofs.Common.{Renaming, map_agree}
+use Rattle.proto_parts.proofs.Common.{number_of, is_named, text_of as text_value, text_option, truth_named, truth_of, truth_option, value_named, word_of, word_option, FieldOf, OptionOf, closed_ranges, enum_ranges, extension_ranges, fields_in, map_field, options_in, reserved_ranges, settings_of, statements, values_in, EnumOf, Scene, enum_meant, number_at, signed_at, text, up_to, value, is_label}
 use Rattle.proto_numbers.specs.NumberFlaws.{bound_of, end_of, enum_range_of, first_of_signed, most_field, most_value, range_of}
 use Rattle.proto_checks_laws.specs.Renamed.{DifferInNames, SameButValues, constant_tokens, end_tokens, enum_tokens, field_tokens, message_tokens, option_tokens, range_tokens, scalar_tokens, up_to_tokens, value_tokens}
 use Rattle.proto_descriptors.specs.declared.field.FieldType.TheVariants as field_type
 use Rattle.proto_descriptors.specs.declared.field.Label.TheVariants as label
 use Rattle.proto_described.specs.Described.{enum_options, field_number, file_options, is_map, level_named, message_options, method_options, mode_named, number_range, scalar_type, type_of, value_described, value_number, value_range}
-use Rattle.proto_rename_laws.proofs.Places.{from_flat_map, to_flat_map}
-use Rattle.proto_rename_laws.proofs.Scenes.{find_agree, find_there}
-use Rattle.proto_rename_described.specs.Mapped.{Taken}
-use Rattle.proto_rename_described.specs.Turns.{FieldStays, service_options}
+use Rattle.proto_rename_laws.proofs.Common.{from_flat_map, to_flat_map, find_agree, find_there}
+use Rattle.proto_rename_described.specs.Common.{Taken, FieldStays, service_options}
 
 -- ---- options of a scene
 

@@ -1,69 +1,30 @@
 -- Each file of an allowed rename turns, and its descriptor goes under the name map (for the crates above).
-use Rattle.std.proofs.Common.{◌≡◌, ◌≢◌, ℕ, suc, ◌+◌, ◌<◌, ◌==◌, Bool, true, false, not, ◌&&◌, if◌then◌else◌, List, [], ◌∷◌, ◌++◌, length, map, flat_map, find, Option, Some, None, option_map, option_and_then, is_some, is_none, codes, refl, sym, ◌∙◌, ap, ap₂, subst, inl, inr, arith}
-use Rattle.std.specs.Fmt.{signed_decimal}
-use Rattle.std.specs.List.{Contains}
-use Rattle.std.specs.Str.{bytes_eq}
-use Rattle.std.proofs.lemmas.Bool.{cond-false, false_from_ne_true}
-use Rattle.std.proofs.lemmas.List.Elements.{All-contains, Contains-append_left}
-use Rattle.std.proofs.lemmas.Option.{same_Some}
-use Rattle.proto_case.specs.Camel.{entry_name}
-use Rattle.proto_case.proofs.EntryNames.{entry_differs}
-use Rattle.proto_faults.proofs.Lists.{contains_map, from_map}
+use Rattle.std.proofs.Common.{◌≡◌, ◌≢◌, ℕ, suc, ◌+◌, ◌<◌, ◌==◌, Bool, true, false, not, ◌&&◌, if◌then◌else◌, List, [], ◌∷◌, ◌++◌, length, map, flat_map, find, Option, Some, None, option_map, option_and_then, is_some, is_none, codes, refl, sym, ◌∙◌, ap, ap₂, subst, inl, inr, arith, Contains, bytes_eq}
+use Rattle.proto_faults.proofs.Common.{signed_decimal, cond-false, false_from_ne_true, All-contains, Contains-append_left, same_Some, contains_map, from_map}
+use Rattle.proto_case.proofs.Common.{entry_name, entry_differs}
 use Rattle.proto_text.specs.Tokens.{lexeme_at}
 use Rattle.proto_tree.specs.declared.piece.Heading.{Heading}
 use Rattle.proto_tree.specs.declared.tree.Constant.{Constant}
 use Rattle.proto_tree.specs.declared.tree.FieldType.{FieldType}
 use Rattle.proto_tree.specs.declared.tree.Reference.{Reference}
-use Rattle.proto_tree.specs.Tree.{Tree}
-use Rattle.proto_tree.specs.References.{first_of}
+use Rattle.proto_tree.proofs.Common.{Tree, first_of}
 use Rattle.proto_tree.specs.declared.piece.Header.TheVariants as header
 use Rattle.proto_tree.specs.declared.tree.Constant.TheVariants as constant
 use Rattle.proto_tree.specs.declared.tree.FieldType.TheVariants as field_type
-use Rattle.proto_files.specs.GivenFiles.{FileOf, file_at}
-use Rattle.proto_files.specs.FilesRead.{ReadOf, read_at}
+use Rattle.proto_files.proofs.Common.{FileOf, file_at, ReadOf, read_at}
 use Rattle.proto_meaning.specs.declared.kind.Kind.TheVariants.{EntryField, Field}
-use Rattle.proto_meaning.specs.Edits.{Renaming, ren, target, turned}
-use Rattle.proto_meaning.specs.Grown.{At, at, declared_of}
-use Rattle.proto_meaning.specs.Joined.{joined, ArePlain}
-use Rattle.proto_meaning.specs.Names.{Symbol, same_name}
-use Rattle.proto_meaning.specs.Skeleton.{Declared, Given, Source, Token, Used, name_of, reference_of, shifted_declared, shifted_source, spell, symbol_of}
-use Rattle.proto_meaning.specs.Tree.{Placed, file_placed, package_of, place, prefixes}
-use Rattle.proto_meaning.proofs.Basics.{name_from_same, same_from_name}
-use Rattle.proto_meaning.proofs.Edited.{aim_renaming, map_append, map_map, name_after, one_declared}
-use Rattle.proto_meaning.proofs.Items.{package_within, prefix_whole}
-use Rattle.proto_meaning.proofs.Ren.{turn_below-nil}
-use Rattle.proto_meaning.proofs.Renamed.{has_meaning, meant}
-use Rattle.proto_meaning.proofs.Symbols.{package_stays}
-use Rattle.proto_meaning.proofs.Grown.{snoc_parts}
+use Rattle.proto_meaning.proofs.Common.{Renaming, ren, target, turned, At, at, declared_of, joined, ArePlain, Symbol, same_name, Declared, Given, Source, Token, Used, name_of, reference_of, shifted_declared, shifted_source, spell, symbol_of, Placed, file_placed, package_of, place, prefixes, name_from_same, same_from_name, aim_renaming, map_append, map_map, name_after, one_declared, package_within, prefix_whole, turn_below-nil, has_meaning, meant, package_stays, snoc_parts}
 use Rattle.proto_listing.specs.FromTree.{items_in}
-use Rattle.proto_imports.specs.Links.{link_skeleton, names_in, names_of_files, text_of}
-use Rattle.proto_imports.specs.Links.{used_named}
-use Rattle.proto_imports.specs.Links.{uses_of}
-use Rattle.proto_parts.specs.Options.{is_named, text_option, value_named}
-use Rattle.proto_parts.specs.Parts.{BlockOf, FieldOf, OptionOf, blocks_in, fields_in, options_in}
-use Rattle.proto_parts.specs.Scenes.{EnumOf, MeantOf, Scene, enum_meant, meant_by, text, value}
-use Rattle.proto_parts.specs.Labels.{has_label}
+use Rattle.proto_imports.proofs.Common.{link_skeleton, names_in, names_of_files, text_of, used_named, uses_of, name_in, names_are_plain}
+use Rattle.proto_parts.proofs.Common.{is_named, text_option, value_named, BlockOf, FieldOf, OptionOf, blocks_in, fields_in, options_in, EnumOf, MeantOf, Scene, enum_meant, meant_by, text, value, has_label}
 use Rattle.proto_parts.specs.declared.options.Element.TheVariants as element
-use Rattle.proto_checks.specs.FieldFlaws.{default_flaws, field_flaws, is_default_of, is_value_of, may_default, option_flaws, packed_flaws, proto3_defaults, type_flaws, wrong_default}
-use Rattle.proto_checks.specs.FileFlaws.{block_flaws, flaws_in_blocks}
-use Rattle.proto_checks_laws.proofs.OneField.{names_are_of_one_field}
-use Rattle.proto_checks_laws.specs.Renamed.{DifferInNames, asked_tokens, block_tokens, option_tokens}
+use Rattle.proto_checks.proofs.Common.{default_flaws, field_flaws, is_default_of, is_value_of, may_default, option_flaws, packed_flaws, proto3_defaults, type_flaws, wrong_default, block_flaws, flaws_in_blocks}
+use Rattle.proto_checks_laws.proofs.Common.{names_are_of_one_field, DifferInNames, asked_tokens, block_tokens, option_tokens}
 use Rattle.proto_described.specs.Described.{absolute, default_number, default_text, field_type_name, file_described, is_map, type_name_of}
-use Rattle.proto_rename_laws.specs.SceneOf.{meaning_of, meant_as, scene_of}
+use Rattle.proto_rename_laws.proofs.Common.{meaning_of, meant_as, scene_of, meaning_from, means_value, HasDefaultRoles, AreReworded, IsRename, Target, may_rename, name_map, renamed_words, other_texts_stay, at_same, find_agree, find_there, scenes_are_apart, used_here, values_stay}
 use Rattle.proto_desc.specs.Checked.{described_from}
-use Rattle.proto_imports.proofs.PlainNames.{name_in, names_are_plain}
-use Rattle.proto_rename_laws.specs.Defaults.{meaning_from, means_value}
-use Rattle.proto_rename_laws.specs.Roles.{HasDefaultRoles}
-use Rattle.proto_rename_laws.specs.Rewording.{AreReworded}
-use Rattle.proto_rename_laws.specs.Scenes.{IsRename}
-use Rattle.proto_rename_laws.specs.Targets.{Target, may_rename, name_map, renamed_words}
-use Rattle.proto_rename_laws.proofs.Rewording.{other_texts_stay, at_same}
-use Rattle.proto_rename_laws.proofs.Scenes.{find_agree, find_there, scenes_are_apart, used_here, values_stay}
-use Rattle.proto_rename_described.specs.Allowed.{IsAllowed}
+use Rattle.proto_rename_described.specs.Common.{IsAllowed, Taken, dotted, is_name_of, mapped, mapped_default, mapped_file, words_of, WritesJson, of_another, of_field, FileTurns, is_target, written_json}
 use Rattle.proto_rename_described.specs.FilesTurn.{AllAreMapped, FilesTurn, RenamesAreMapped}
-use Rattle.proto_rename_described.specs.Mapped.{Taken, dotted, is_name_of, mapped, mapped_default, mapped_file, words_of}
-use Rattle.proto_rename_described.specs.Renamed.{WritesJson, of_another, of_field}
-use Rattle.proto_rename_described.specs.Turns.{FileTurns, is_target, written_json}
 use Rattle.proto_rename_described.proofs.Allowed.{allowed_roles, clean, empty_each, is_rename}
 use Rattle.proto_rename_described.proofs.DefaultWords.{fields_have_roles}
 use Rattle.proto_rename_described.proofs.EnumDefaults.{find_map, meant_token}

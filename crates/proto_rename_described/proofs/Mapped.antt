@@ -1,12 +1,7 @@
 -- The descriptor of a renamed scene is the old one under the name map (for the crates above).
-use Rattle.std.proofs.Common.{◌≡◌, ◌≢◌, ℕ, ◌==◌, Bool, true, false, not, ◌&&◌, ◌||◌, if◌then◌else◌, List, [], ◌∷◌, ◌++◌, map, Option, Some, None, option_map, is_some, codes, refl, sym, ◌∙◌, ap, ap₂, subst, append_assoc, length, arith}
-use Rattle.std.specs.List.{Contains, list_any}
-use Rattle.std.specs.Str.{bytes_eq}
-use Rattle.std.proofs.lemmas.Bool.{cond-true, cond-false}
-use Rattle.std.proofs.lemmas.List.{append-nil}
-use Rattle.proto_faults.specs.Texts.{or_nothing}
+use Rattle.std.proofs.Common.{◌≡◌, ◌≢◌, ℕ, ◌==◌, Bool, true, false, not, ◌&&◌, ◌||◌, if◌then◌else◌, List, [], ◌∷◌, ◌++◌, map, Option, Some, None, option_map, is_some, codes, refl, sym, ◌∙◌, ap, ap₂, subst, append_assoc, length, arith, Contains, bytes_eq, append-nil}
+use Rattle.proto_faults.proofs.Common.{list_any, cond-true, cond-false, or_nothing, same_from_word}
 use Rattle.proto_case.specs.Camel.{entry_name}
-use Rattle.proto_faults.proofs.Lists.{same_from_word}
 use Rattle.proto_tree.specs.declared.tree.Constant.{Constant}
 use Rattle.proto_tree.specs.declared.tree.FieldType.{FieldType as WrittenType}
 use Rattle.proto_tree.specs.declared.tree.MapField.{MapField}
@@ -17,24 +12,13 @@ use Rattle.proto_tree.specs.Tree.{Tree, End, Leaf, Block}
 use Rattle.proto_tree.specs.declared.piece.Header.TheVariants as header
 use Rattle.proto_tree.specs.declared.piece.Statement.TheVariants as statement
 use Rattle.proto_tree.specs.declared.tree.FieldType.TheVariants as written_type
-use Rattle.proto_meaning.specs.Edits.{Renaming, ren, target, turned, turned_by}
-use Rattle.proto_meaning.specs.Joined.{joined, ArePlain}
-use Rattle.proto_meaning.specs.Names.{same_name}
-use Rattle.proto_meaning.specs.Skeleton.{Source, Token, EntryOf, spell}
-use Rattle.proto_meaning.specs.Tree.{key_word, value_word, package_of}
-use Rattle.proto_meaning.proofs.Edited.{map_agree, map_map, map_append}
-use Rattle.proto_meaning.proofs.Ren.{last_parts, turn_below-more, turn_below-nil, turn_below-length}
-use Rattle.proto_meaning.proofs.Basics.{name_from_same, same_from_name}
+use Rattle.proto_meaning.proofs.Common.{Renaming, ren, target, turned, turned_by, joined, ArePlain, same_name, Source, Token, EntryOf, spell, key_word, value_word, package_of, map_agree, map_map, map_append, last_parts, turn_below-more, turn_below-nil, turn_below-length, name_from_same, same_from_name}
 use Rattle.proto_listing.specs.FromTree.{Wanted, items_in, imports_in}
-use Rattle.proto_parts.specs.Options.{value_named}
-use Rattle.proto_parts.specs.Parts.{FieldOf, OptionOf, fields_in, values_in, reserved_names_in, options_in}
-use Rattle.proto_parts.specs.Scenes.{MeantOf, Scene, text, value, meant_by}
-use Rattle.proto_parts.specs.JsonNames.{json_word, json_name_of, written_or}
+use Rattle.proto_parts.proofs.Common.{value_named, FieldOf, OptionOf, fields_in, values_in, reserved_names_in, options_in, MeantOf, Scene, text, value, meant_by, json_word, json_name_of, written_or}
 use Rattle.proto_descriptors.specs.Descriptors.{EnumDesc, MessageDesc, Messages, NoMessages, Message, MethodDesc}
 use Rattle.proto_descriptors.specs.declared.file.Syntax.TheVariants as syntax
 use Rattle.proto_described.specs.Described.{absolute, below, default_text, entry_described, entry_field, enum_described, enums_described, field_described, field_type_name, file_described, is_map, message_described, messages_described, method_described, methods_described, oneof_names, package_named, package_prefix, scalar_type, services_described, type_name_of, type_of, type_text, value_described}
-use Rattle.proto_rename_described.specs.Mapped.{Taken, behind_first, dotted, mapped_default, mapped_enum, mapped_field, mapped_json, mapped_message, mapped_messages, mapped_method, mapped_name, mapped_service, mapped_value, parts, put_first, word_under, words_of}
-use Rattle.proto_rename_described.specs.Turns.{DescriptorsAreMapped, EntryTurns, EnumTurns, FieldTurns, IsUnder, MessageTurns, MethodTurns, MethodsTurn, Turned, Turns, ValueTurns, full, is_target, written_json}
+use Rattle.proto_rename_described.specs.Common.{Taken, behind_first, dotted, mapped_default, mapped_enum, mapped_field, mapped_json, mapped_message, mapped_messages, mapped_method, mapped_name, mapped_service, mapped_value, parts, put_first, word_under, words_of, DescriptorsAreMapped, EntryTurns, EnumTurns, FieldTurns, IsUnder, MessageTurns, MethodTurns, MethodsTurn, Turned, Turns, ValueTurns, full, is_target, written_json}
 
 -- ---- names as text
 

@@ -1,17 +1,10 @@
 -- A rename leaves no flaw of reserved names or JSON names (for the crates above).
-use Rattle.std.proofs.Common.{◌≡◌, ◌≢◌, ℕ, zero, suc, ◌<◌, Bool, true, false, ◌⊎◌, if◌then◌else◌, List, [], ◌∷◌, ◌++◌, length, get_or, map, Option, Some, None, refl, sym, ◌∙◌, ap, ap₂, subst, inl, inr, arith}
-use Rattle.std.specs.List.{AllPairs, Contains, list_any}
-use Rattle.std.specs.Str.{bytes_eq}
-use Rattle.std.proofs.lemmas.Bool.{both_ways, false_from_ne_true}
-use Rattle.std.proofs.lemmas.List.Elements.{Contains-append_left, Contains-append_right, Contains-append_cases}
+use Rattle.std.proofs.Common.{◌≡◌, ◌≢◌, ℕ, zero, suc, ◌<◌, Bool, true, false, ◌⊎◌, if◌then◌else◌, List, [], ◌∷◌, ◌++◌, length, get_or, map, Option, Some, None, refl, sym, ◌∙◌, ap, ap₂, subst, inl, inr, arith, AllPairs, Contains, bytes_eq}
+use Rattle.proto_faults.proofs.Common.{list_any, both_ways, false_from_ne_true, Contains-append_left, Contains-append_right, Contains-append_cases, any_from, any_to, contains_head, contains_later, contains_cases, contains_map, from_map, word_from_same}
 use Rattle.proto_faults.specs.declared.fault.FaultKind.{FaultKind}
 use Rattle.proto_faults.specs.declared.fault.FaultKind.TheVariants as kind
 use Rattle.proto_text.proofs.OneEdit.{length_map}
-use Rattle.proto_faults.proofs.Lists.{any_from, any_to, contains_head, contains_later, contains_cases, contains_map, from_map, word_from_same}
-use Rattle.proto_parts.specs.Options.{is_one_of}
-use Rattle.proto_parts.specs.Parts.{FieldOf}
-use Rattle.proto_parts.specs.Scenes.{Scene, text, value}
-use Rattle.proto_parts.specs.JsonNames.{json_name_of, json_word, written_or}
+use Rattle.proto_parts.proofs.Common.{is_one_of, FieldOf, Scene, text, value, json_name_of, json_word, written_or}
 use Rattle.proto_numbers.specs.declared.flaw.Flaw.{Flaw}
 use Rattle.proto_numbers.specs.Flaws.{after_earlier, earlier, flaw_if, marked}
 use Rattle.proto_checks.specs.FileFlaws.{json_clashes, reserved_again, with_reserved_name}

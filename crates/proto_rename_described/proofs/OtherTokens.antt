@@ -1,19 +1,14 @@
 -- What is not changed of a field whose default is a number or a truth value (for the crates above).
-use Rattle.std.specs.Prelude.{option_to_list}
-use Rattle.std.proofs.Common.{◌≡◌, ℕ, false, [], ◌∷◌, ◌++◌, flat_map, Option, Some, None, is_some, refl, sym, subst, inl}
-use Rattle.std.specs.List.{Contains}
-use Rattle.std.proofs.lemmas.List.Elements.{All-contains, Contains-append_left, Contains-append_right}
-use Rattle.proto_faults.proofs.Lists.{contains_head}
+use Rattle.std.proofs.Common.{option_to_list, ◌≡◌, ℕ, false, [], ◌∷◌, ◌++◌, flat_map, Option, Some, None, is_some, refl, sym, subst, inl, Contains}
+use Rattle.proto_faults.proofs.Common.{All-contains, Contains-append_left, Contains-append_right, contains_head}
 use Rattle.proto_tree.specs.declared.piece.Header.{Header}
 use Rattle.proto_tree.specs.declared.tree.FieldType.{FieldType}
 use Rattle.proto_files.specs.FilesRead.{read_at}
 use Rattle.proto_meaning.specs.Grown.{at}
 use Rattle.proto_parts.specs.Parts.{blocks_in, closed_ranges, fields_in, options_in, statements}
 use Rattle.proto_checks_laws.specs.Renamed.{asked_tokens, block_tokens, field_tokens, header_tokens, message_tokens, option_tokens, range_tokens, scalar_tokens}
-use Rattle.proto_rename_laws.specs.SceneOf.{scene_of}
-use Rattle.proto_rename_laws.specs.Targets.{renamed_words}
+use Rattle.proto_rename_laws.proofs.Common.{scene_of, renamed_words, to_flat_map}
 use Rattle.proto_rename_roles.proofs.TokenRoles.{other_token_stays}
-use Rattle.proto_rename_laws.proofs.Places.{to_flat_map}
 use Rattle.proto_rename_described.specs.OtherTokens.{LabelsAndScalarsStay, OtherTokensStay}
 use Rattle.proto_rename_described.proofs.Allowed.{allowed_roles}
 

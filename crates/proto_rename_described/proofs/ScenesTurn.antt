@@ -1,37 +1,18 @@
 -- The names of a renamed scene are turned, and its references mean what they meant under the name map (for the crates above).
-use Rattle.std.proofs.Common.{◌≡◌, ◌≢◌, ℕ, suc, ◌<◌, ◌==◌, Bool, List, [], ◌∷◌, ◌++◌, length, map, Option, Some, None, option_map, refl, sym, ap, subst, ◌∙◌, inl, inr, arith}
-use Rattle.std.specs.List.{Contains, find}
-use Rattle.std.proofs.lemmas.List.Elements.{Contains-append_cases}
-use Rattle.proto_case.specs.Camel.{entry_name}
-use Rattle.proto_case.proofs.EntryNames.{entry_differs}
-use Rattle.proto_faults.proofs.Lists.{contains_map, from_map}
+use Rattle.std.proofs.Common.{◌≡◌, ◌≢◌, ℕ, suc, ◌<◌, ◌==◌, Bool, List, [], ◌∷◌, ◌++◌, length, map, Option, Some, None, option_map, refl, sym, ap, subst, ◌∙◌, inl, inr, arith, Contains, find}
+use Rattle.proto_faults.proofs.Common.{Contains-append_cases, contains_map, from_map}
+use Rattle.proto_case.proofs.Common.{entry_name, entry_differs}
 use Rattle.proto_tree.specs.declared.tree.Reference.{Reference}
 use Rattle.proto_tree.specs.References.{first_of}
-use Rattle.proto_files.specs.GivenFiles.{FileOf}
-use Rattle.proto_files.specs.FilesRead.{ReadOf, read_at}
-use Rattle.proto_meaning.specs.Edits.{Renaming, ren}
-use Rattle.proto_meaning.specs.Grown.{At, at, FileNames, all_declared, declared_of, file_declared}
-use Rattle.proto_meaning.specs.Joined.{ArePlain}
-use Rattle.proto_meaning.specs.Names.{Symbol}
-use Rattle.proto_meaning.specs.Skeleton.{Source, Declared, Used, spell, name_of, symbol_of, reference_of, renaming_of, shifted_declared, shifted_source}
-use Rattle.proto_meaning.specs.Tree.{Placed, file_placed}
-use Rattle.proto_meaning.proofs.Edited.{map_append, name_after}
-use Rattle.proto_meaning.proofs.Ren.{last_parts}
-use Rattle.proto_meaning.proofs.Renamed.{has_meaning, meant}
+use Rattle.proto_files.proofs.Common.{FileOf, ReadOf, read_at}
+use Rattle.proto_meaning.proofs.Common.{Renaming, ren, At, at, FileNames, all_declared, declared_of, file_declared, ArePlain, Symbol, Source, Declared, Used, spell, name_of, symbol_of, reference_of, renaming_of, shifted_declared, shifted_source, Placed, file_placed, map_append, name_after, last_parts, has_meaning, meant}
 use Rattle.proto_listing.specs.FromTree.{items_in}
-use Rattle.proto_imports.specs.Links.{names_in, names_of_files, text_of, link_skeleton}
-use Rattle.proto_imports.specs.Links.{used_named}
-use Rattle.proto_imports.specs.Links.{uses_of}
+use Rattle.proto_imports.proofs.Common.{names_in, names_of_files, text_of, link_skeleton, used_named, uses_of, name_in, names_are_plain}
 use Rattle.proto_parts.specs.Scenes.{MeantOf, meant_by}
-use Rattle.proto_rename_laws.specs.SceneOf.{meaning_of, meant_as, scene_of}
-use Rattle.proto_imports.proofs.PlainNames.{name_in, names_are_plain}
-use Rattle.proto_rename_laws.specs.Scenes.{IsRename}
+use Rattle.proto_rename_laws.proofs.Common.{meaning_of, meant_as, scene_of, IsRename, find_agree, find_there, meaning_after, used_here, uses_stay, NewWords}
 use Rattle.proto_rename_roles.proofs.TokenRoles.{placed_declared}
-use Rattle.proto_rename_laws.proofs.Scenes.{find_agree, find_there, meaning_after, used_here, uses_stay}
-use Rattle.proto_rename_laws.specs.Rewording.{NewWords}
-use Rattle.proto_rename_described.specs.Mapped.{word_under}
+use Rattle.proto_rename_described.specs.Common.{word_under, IsUnder}
 use Rattle.proto_rename_described.specs.ScenesTurn.{NamesTurn, MeaningsTurn}
-use Rattle.proto_rename_described.specs.Turns.{IsUnder}
 use Rattle.proto_rename_described.proofs.EnumDefaults.{find_map, meant_token}
 use Rattle.proto_rename_described.proofs.Mapped.{ren_more}
 

@@ -1,40 +1,27 @@
 -- What a tree declares turns as its names do, and all else stays: message by message, enum by enum, service by service.
-use Rattle.std.proofs.Common.{◌≡◌, ℕ, suc, Bool, true, false, List, [], ◌∷◌, ◌++◌, map, flat_map, Option, Some, None, is_some, codes, refl, sym, ◌∙◌, ap, subst, inl, inr, arith}
-use Rattle.std.specs.List.{Contains}
-use Rattle.std.proofs.lemmas.List.Elements.{Contains-append_cases, Contains-append_left, Contains-append_right}
+use Rattle.std.proofs.Common.{◌≡◌, ℕ, suc, Bool, true, false, List, [], ◌∷◌, ◌++◌, map, flat_map, Option, Some, None, is_some, codes, refl, sym, ◌∙◌, ap, subst, inl, inr, arith, Contains}
+use Rattle.proto_faults.proofs.Common.{Contains-append_cases, Contains-append_left, Contains-append_right, contains_cases, contains_head, contains_later, contains_map}
 use Rattle.proto_case.specs.Camel.{entry_name}
-use Rattle.proto_faults.proofs.Lists.{contains_cases, contains_head, contains_later, contains_map}
 use Rattle.proto_tree.specs.declared.context.Context.{Context}
 use Rattle.proto_tree.specs.declared.piece.Header.{Header}
 use Rattle.proto_tree.specs.declared.piece.Heading.{Heading}
 use Rattle.proto_tree.specs.declared.tree.Constant.{Constant}
 use Rattle.proto_tree.specs.declared.tree.MapField.{MapField}
 use Rattle.proto_tree.specs.declared.tree.Value.{Value as EnumValue}
-use Rattle.proto_tree.specs.Tree.{Tree, End, Leaf, Block, IsWellFormed, after, statement_kind}
-use Rattle.proto_tree.specs.Answer.{IsOuter}
-use Rattle.proto_tree.specs.References.{dotted}
+use Rattle.proto_tree.proofs.Common.{Tree, End, Leaf, Block, IsWellFormed, after, statement_kind, IsOuter, dotted, last_outer}
 use Rattle.proto_tree.specs.declared.context.Kind.TheVariants as kind
 use Rattle.proto_tree.specs.declared.context.Context.TheVariants as context
 use Rattle.proto_tree.specs.declared.piece.Header.TheVariants as header
 use Rattle.proto_tree.specs.declared.piece.Statement.TheVariants as statement
-use Rattle.proto_tree.proofs.Walks.{last_outer}
-use Rattle.proto_meaning.specs.Edits.{Renaming}
-use Rattle.proto_meaning.specs.Joined.{ArePlain}
+use Rattle.proto_meaning.proofs.Common.{Renaming, ArePlain, Source, Token, EntryOf, Given, spell, Placed, all_placed, enum, field, file_placed, items_placed, key_word, map_field, message, oneof, package_of, place, placed, prefixes, service, value_word, map_append}
 use Rattle.proto_meaning.specs.declared.kind.Kind.TheVariants.{Message, Entry, Enum, Service, Field, EntryField, Oneof, Value, Method}
-use Rattle.proto_meaning.specs.Skeleton.{Source, Token, EntryOf, Given, spell}
-use Rattle.proto_meaning.specs.Tree.{Placed, all_placed, enum, field, file_placed, items_placed, key_word, map_field, message, oneof, package_of, place, placed, prefixes, service, value_word}
-use Rattle.proto_meaning.proofs.Edited.{map_append}
 use Rattle.proto_listing.specs.FromTree.{block_names, field_names, items_in, members_in, method_names, no_names, picked, value_names}
-use Rattle.proto_parts.specs.Options.{value_named}
-use Rattle.proto_parts.specs.Parts.{BlockOf, FieldOf, blocks_in, fields_from, fields_in, map_field as field_of_map, options_in, plain_field, statement_fields, statements, values_in}
-use Rattle.proto_parts.specs.Scenes.{Scene, text, value}
-use Rattle.proto_checks_laws.specs.Renamed.{DifferInNames, asked_tokens, block_tokens, field_tokens, header_tokens, option_tokens}
-use Rattle.proto_checks_laws.proofs.Declarations.{oneof_field}
+use Rattle.proto_parts.proofs.Common.{value_named, BlockOf, FieldOf, blocks_in, fields_from, fields_in, map_field as field_of_map, options_in, plain_field, statement_fields, statements, values_in, Scene, text, value}
+use Rattle.proto_checks_laws.proofs.Common.{DifferInNames, asked_tokens, block_tokens, field_tokens, header_tokens, option_tokens, oneof_field}
 use Rattle.proto_checks_laws.proofs.Outermost.{no_map_field, no_oneof}
 use Rattle.proto_described.specs.Described.{default_text, field_type_name}
 use Rattle.proto_rename_laws.proofs.Places.{to_flat_map}
-use Rattle.proto_rename_described.specs.Mapped.{Taken, dotted as behind_dots, mapped_default}
-use Rattle.proto_rename_described.specs.Turns.{EntryTurns, EnumTurns, FieldTurns, MessageTurns, MethodsTurn, Turned, Turns, full, is_target, written_json}
+use Rattle.proto_rename_described.specs.Common.{Taken, dotted as behind_dots, mapped_default, EntryTurns, EnumTurns, FieldTurns, MessageTurns, MethodsTurn, Turned, Turns, full, is_target, written_json}
 use Rattle.proto_rename_described.proofs.FileStays.{enum_options_stay, enum_reserved_stays, extensions_stay, field_stays, field_tokens_kept, key_type_stays, message_options_stay, method_options_stay, reserved_stays, service_options_stay, value_number_stays, value_options_stay, value_tokens_kept, value_type_stays}
 
 no : false ≡ true → ⊥

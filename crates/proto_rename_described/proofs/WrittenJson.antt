@@ -1,13 +1,8 @@
 -- Whether the field that is renamed has a written JSON name has one answer (for the crates above).
-use Rattle.std.proofs.Common.{◌≡◌, ℕ, false, ◌⊎◌, List, [], ◌∷◌, None, is_some, refl, sym, ap, subst, ◌∙◌, inl, inr, arith}
-use Rattle.std.specs.Prelude.{codes}
-use Rattle.std.specs.List.{Contains}
-use Rattle.std.proofs.lemmas.Bool.{cases_eq}
-use Rattle.proto_faults.proofs.Lists.{contains_cases, contains_head, contains_later}
+use Rattle.std.proofs.Common.{◌≡◌, ℕ, false, ◌⊎◌, List, [], ◌∷◌, None, is_some, refl, sym, ap, subst, ◌∙◌, inl, inr, arith, codes, Contains}
+use Rattle.proto_faults.proofs.Common.{cases_eq, contains_cases, contains_head, contains_later}
 use Rattle.proto_files.specs.FilesRead.{read_at}
-use Rattle.proto_parts.specs.Options.{text_option}
-use Rattle.proto_parts.specs.Parts.{BlockOf, FieldOf, OptionOf, blocks_in, fields_in}
-use Rattle.proto_parts.specs.Scenes.{text, value}
+use Rattle.proto_parts.proofs.Common.{text_option, BlockOf, FieldOf, OptionOf, blocks_in, fields_in, text, value}
 use Rattle.proto_checks_laws.proofs.OneField.{names_are_of_one_field}
 use Rattle.proto_rename_laws.specs.SceneOf.{lexemes_of, scene_of}
 use Rattle.proto_rename_roles.proofs.TokenRoles.{block_inside, spelled}

@@ -1,5 +1,6 @@
 pub mod Allowed
 pub mod CleanFiles
+pub mod Common
 pub mod DefaultsFit
 pub mod DefaultsKept
 pub mod EnumDefaults

@@ -1,17 +1,7 @@
 -- A captured reference begins, as rewritten, with the new word or the new entry's (for the crates above).
-use Rattle.std.proofs.Common.{◌≡◌, ℕ, ◌<◌, ◌≤◌, Bool, true, false, ◌&&◌, ◌⊎◌, if◌then◌else◌, List, [], ◌∷◌, ◌++◌, length, take, drop, Some, refl, sym, ap, ap₂, ◌∙◌, inl, inr, arith, length-append}
-use Rattle.std.specs.List.{Contains}
-use Rattle.std.proofs.lemmas.Bool.{cases_Bool, both_ways, cond-true, cond-false}
-use Rattle.std.proofs.lemmas.List.{length-take-le, take-append-drop}
-use Rattle.std.proofs.lemmas.Option.{same_Some}
-use Rattle.proto_faults.proofs.Lists.{any_from, any_to}
-use Rattle.proto_meaning.specs.Edits.{Renaming, Collides, moves, ren, rewritten, shows_mapped, target, turned}
-use Rattle.proto_meaning.specs.Linked.{IsLinked, IsRenaming}
-use Rattle.proto_meaning.specs.Names.{Reference, Symbol, Workspace, fits, hit, hits_at, same_name, sees}
-use Rattle.proto_meaning.proofs.Basics.{name_from_same, same_from_name}
-use Rattle.proto_meaning.proofs.Ren.{last_parts, turn_below-length, turn_below-more}
-use Rattle.proto_meaning.proofs.Rename.{hit_relative}
-use Rattle.proto_meaning.proofs.Symbols.{moved, ren_apart, split_last, stays}
+use Rattle.std.proofs.Common.{◌≡◌, ℕ, ◌<◌, ◌≤◌, Bool, true, false, ◌&&◌, ◌⊎◌, if◌then◌else◌, List, [], ◌∷◌, ◌++◌, length, take, drop, Some, refl, sym, ap, ap₂, ◌∙◌, inl, inr, arith, length-append, Contains, length-take-le, take-append-drop}
+use Rattle.proto_faults.proofs.Common.{cases_Bool, both_ways, cond-true, cond-false, same_Some, any_from, any_to}
+use Rattle.proto_meaning.proofs.Common.{Renaming, Collides, moves, ren, rewritten, shows_mapped, target, turned, IsLinked, IsRenaming, Reference, Symbol, Workspace, fits, hit, hits_at, same_name, sees, name_from_same, same_from_name, last_parts, turn_below-length, turn_below-more, hit_relative, moved, ren_apart, split_last, stays}
 use Rattle.proto_rename_laws.specs.Captures.{CapturesBeginAnew, HasScope, IsNewWord}
 
 both : (b c : Bool) → (b && c) ≡ true → (b ≡ true) × (c ≡ true)

@@ -1,33 +1,14 @@
 -- The changes of a rename that no case refuses are an entry, and the files after it are texts (for the crates above).
-use Rattle.std.proofs.Common.{◌≡◌, ◌≢◌, ℕ, zero, suc, ◌+◌, ◌<◌, ◌≤◌, List, [], ◌∷◌, ◌++◌, length, get_or, map, Option, Some, None, refl, sym, ap, subst, ◌∙◌, inl, inr, arith, length-append}
-use Rattle.std.specs.Prelude.{flat_map, sum_by}
-use Rattle.std.specs.List.{All, AllPairs, Contains, list_any}
-use Rattle.std.proofs.lemmas.Bool.{cases_lt, cases_order, cond-true}
-use Rattle.std.proofs.lemmas.List.Elements.{All-contains_itself, Contains-append_cases}
-use Rattle.std.proofs.lemmas.List.Sums.{sum_by-cons}
-use Rattle.proto_faults.specs.Texts.{text_limit}
+use Rattle.std.proofs.Common.{◌≡◌, ◌≢◌, ℕ, zero, suc, ◌+◌, ◌<◌, ◌≤◌, List, [], ◌∷◌, ◌++◌, length, get_or, map, Option, Some, None, refl, sym, ap, subst, ◌∙◌, inl, inr, arith, length-append, flat_map, sum_by, All, AllPairs, Contains}
+use Rattle.proto_faults.proofs.Common.{list_any, cases_lt, cases_order, cond-true, All-contains_itself, Contains-append_cases, sum_by-cons, text_limit, contains_cases, contains_head, contains_later}
 use Rattle.proto_text.specs.declared.lexer.Token.{Token}
-use Rattle.proto_text.specs.Edits.{Edit, Puts, old_len, new_len}
-use Rattle.proto_text.specs.SourceFacts.{text_at}
-use Rattle.proto_text.specs.Texts.{edit_if, token_edits, word_at}
-use Rattle.proto_text.specs.Tokens.{lexeme_at}
-use Rattle.proto_text.proofs.Once.{puts_length}
-use Rattle.proto_faults.proofs.Lists.{contains_cases, contains_head, contains_later}
-use Rattle.proto_text.proofs.OneEdit.{length_map}
-use Rattle.proto_files.specs.GivenFiles.{FileOf, AreWorkspaceFiles, file_at}
-use Rattle.proto_files.specs.WorkspacePaths.{IsBefore, IsWorkspacePath}
-use Rattle.proto_files.specs.FilesRead.{ReadOf, read_at}
+use Rattle.proto_text.proofs.Common.{Edit, Puts, old_len, new_len, text_at, edit_if, token_edits, word_at, lexeme_at, puts_length, length_map}
+use Rattle.proto_files.proofs.Common.{FileOf, AreWorkspaceFiles, file_at, IsBefore, IsWorkspacePath, ReadOf, read_at}
 use Rattle.proto_meaning.specs.Grown.{At, at}
 use Rattle.proto_imports.specs.Links.{text_of, link_skeleton}
 use Rattle.proto_entries.specs.Entries.{AreRising, BeginsBefore, IsChange, IsMeasured, ChangeOf}
 use Rattle.proto_entries.proofs.ShortPuts.{puts_are_short}
-use Rattle.proto_rename_laws.specs.Cases.{same_name, too_large}
-use Rattle.proto_rename_laws.specs.ChangesEntry.{ChangesAreEntry, IsPutIn, TextsAfter}
-use Rattle.proto_rename_laws.specs.Rewording.{in_file, NewWords}
-use Rattle.proto_rename_laws.specs.Defaults.{renamed_defaults}
-use Rattle.proto_rename_laws.specs.Places.{change_at, same_at, standing}
-use Rattle.proto_rename_laws.specs.Changes.{change_by, changes_from, spliced_length}
-use Rattle.proto_rename_laws.specs.Targets.{Target, name_map, renamed_words}
+use Rattle.proto_rename_laws.specs.Common.{same_name, too_large, ChangesAreEntry, IsPutIn, TextsAfter, in_file, NewWords, renamed_defaults, change_at, same_at, standing, change_by, changes_from, spliced_length, Target, name_map, renamed_words}
 use Rattle.proto_rename_laws.proofs.ChangesPut.{edits_at, from_changes, is_by, to_changes}
 use Rattle.proto_rename_laws.proofs.OldTexts.{old_texts}
 use Rattle.proto_rename_laws.proofs.Places.{listed}

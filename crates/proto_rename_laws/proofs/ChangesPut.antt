@@ -1,20 +1,12 @@
 -- The changes that a change of words makes put the files after it (for the crates above).
-use Rattle.std.proofs.Common.{◌≡◌, ◌≢◌, ℕ, zero, suc, ◌+◌, ◌<◌, List, [], ◌∷◌, length, get_or, Option, refl, sym, ap, subst, ◌∙◌, inl, inr, arith}
-use Rattle.std.specs.List.{AllPairs, Contains}
-use Rattle.std.proofs.lemmas.Bool.{cases_order}
-use Rattle.std.proofs.lemmas.List.Elements.{Contains-append_left, Contains-append_right, Contains-append_cases}
-use Rattle.proto_text.specs.Edits.{Edit, Puts}
-use Rattle.proto_text.specs.Texts.{token_edits}
-use Rattle.proto_faults.proofs.Lists.{contains_cases, contains_head}
-use Rattle.proto_text.proofs.OneEdit.{length_map}
-use Rattle.proto_files.specs.GivenFiles.{FileOf, file_at}
-use Rattle.proto_files.specs.FilesRead.{ReadOf, read_at}
+use Rattle.std.proofs.Common.{◌≡◌, ◌≢◌, ℕ, zero, suc, ◌+◌, ◌<◌, List, [], ◌∷◌, length, get_or, Option, refl, sym, ap, subst, ◌∙◌, inl, inr, arith, AllPairs, Contains}
+use Rattle.proto_faults.proofs.Common.{cases_order, Contains-append_left, Contains-append_right, Contains-append_cases, contains_cases, contains_head}
+use Rattle.proto_text.proofs.Common.{Edit, Puts, token_edits, length_map}
+use Rattle.proto_files.proofs.Common.{FileOf, file_at, ReadOf, read_at}
 use Rattle.proto_meaning.specs.Grown.{At}
-use Rattle.proto_entries.specs.Entries.{ChangeOf}
-use Rattle.proto_entries.specs.Putting.{EachPuts, PutsFile}
+use Rattle.proto_entries.proofs.Common.{ChangeOf, EachPuts, PutsFile}
 use Rattle.proto_rename_laws.specs.ChangesPut.{ChangesArePut}
-use Rattle.proto_rename_laws.specs.Rewording.{in_file, NewWords}
-use Rattle.proto_rename_laws.specs.Changes.{change_by, changes_from, spliced_length}
+use Rattle.proto_rename_laws.specs.Common.{in_file, NewWords, change_by, changes_from, spliced_length}
 use Rattle.proto_rename_laws.proofs.Rewording.{at_same}
 
 abbrev pub edits_at : (At → Option (List ℕ)) → ℕ → List FileOf → List ReadOf → ℕ → List Edit

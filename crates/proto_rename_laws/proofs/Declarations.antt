@@ -1,16 +1,10 @@
 -- Declarations by the files and trees that they stand in, and what their names end with (for the crates above).
-use Rattle.std.proofs.Common.{◌≡◌, ℕ, zero, suc, ◌+◌, ◌<◌, Bool, true, false, List, [], ◌∷◌, ◌++◌, length, map, refl, sym, ap, subst, ◌∙◌, inl, inr, arith}
-use Rattle.std.specs.List.{Contains}
-use Rattle.std.specs.Prelude.{slice_index_or}
-use Rattle.std.proofs.lemmas.List.Elements.{Contains-append_cases, Contains-append_left, Contains-append_right}
-use Rattle.proto_faults.proofs.Lists.{contains_cases, contains_map, from_map}
+use Rattle.std.proofs.Common.{◌≡◌, ℕ, zero, suc, ◌+◌, ◌<◌, Bool, true, false, List, [], ◌∷◌, ◌++◌, length, map, refl, sym, ap, subst, ◌∙◌, inl, inr, arith, Contains, slice_index_or}
+use Rattle.proto_faults.proofs.Common.{Contains-append_cases, Contains-append_left, Contains-append_right, contains_cases, contains_map, from_map}
 use Rattle.proto_files.specs.FilesRead.{ReadOf, read_at}
-use Rattle.proto_meaning.specs.Grown.{FileNames, At, at, declared_of, file_declared, all_declared}
+use Rattle.proto_meaning.proofs.Common.{FileNames, At, at, declared_of, file_declared, all_declared, Source, Token, EntryOf, Given, Declared, shifted_declared, shifted_source, Member, field, map_field, oneof, message, enum, service, Members, no_members, member, Items, no_items, packaged, item, package_of, Placed, place, placed, all_placed, prefixes, items_placed, file_placed, map_append}
 use Rattle.proto_meaning.specs.declared.kind.Kind.{Kind}
 use Rattle.proto_meaning.specs.declared.kind.Kind.TheVariants.{Package, Message, Entry, Enum, Service, Field, EntryField, Oneof, Value, Method}
-use Rattle.proto_meaning.specs.Skeleton.{Source, Token, EntryOf, Given, Declared, shifted_declared, shifted_source}
-use Rattle.proto_meaning.specs.Tree.{Member, field, map_field, oneof, message, enum, service, Members, no_members, member, Items, no_items, packaged, item, package_of, Placed, place, placed, all_placed, prefixes, items_placed, file_placed}
-use Rattle.proto_meaning.proofs.Edited.{map_append}
 use Rattle.proto_listing.specs.FromTree.{items_in}
 use Rattle.proto_imports.specs.Links.{names_in}
 

@@ -1,19 +1,15 @@
 -- The defaults that mean a value, by the fields that they are of (for the crates above).
-use Rattle.std.proofs.Common.{◌≡◌, ℕ, suc, ◌+◌, ◌<◌, Bool, true, false, if◌then◌else◌, List, [], ◌∷◌, length, map, flat_map, Option, codes, refl, ap, subst, ◌∙◌, inl, inr, arith}
-use Rattle.std.specs.List.{Contains}
-use Rattle.std.proofs.lemmas.List.Elements.{Contains-append_cases}
-use Rattle.proto_faults.proofs.Lists.{contains_cases, from_map}
+use Rattle.std.proofs.Common.{◌≡◌, ℕ, suc, ◌+◌, ◌<◌, Bool, true, false, if◌then◌else◌, List, [], ◌∷◌, length, map, flat_map, Option, codes, refl, ap, subst, ◌∙◌, inl, inr, arith, Contains}
+use Rattle.proto_faults.proofs.Common.{Contains-append_cases, contains_cases, from_map}
 use Rattle.proto_tree.specs.declared.piece.Header.{Header}
 use Rattle.proto_tree.specs.declared.piece.Header.TheVariants as header
 use Rattle.proto_tree.specs.declared.tree.Constant.{Constant}
 use Rattle.proto_tree.specs.declared.tree.Constant.TheVariants as constant
 use Rattle.proto_tree.specs.Tree.{Tree}
-use Rattle.proto_files.specs.FilesRead.{ReadOf, read_at}
-use Rattle.proto_files.specs.GivenFiles.{FileOf}
+use Rattle.proto_files.proofs.Common.{ReadOf, read_at, FileOf}
 use Rattle.proto_meaning.specs.Grown.{At, at}
 use Rattle.proto_imports.specs.Links.{text_of}
-use Rattle.proto_parts.specs.Options.{is_named}
-use Rattle.proto_parts.specs.Parts.{BlockOf, FieldOf, OptionOf, blocks_in, fields_in}
+use Rattle.proto_parts.proofs.Common.{is_named, BlockOf, FieldOf, OptionOf, blocks_in, fields_in}
 use Rattle.proto_checks_laws.specs.Renamed.{constant_tokens}
 use Rattle.proto_rename_laws.specs.Defaults.{default_words, defaults_from, fields_of_block, fields_of_file, means_value, renamed_default, type_meaning}
 use Rattle.proto_rename_laws.proofs.Places.{from_flat_map}

@@ -1,21 +1,16 @@
 -- Each value that a tree declares is that of an enum's block.
-use Rattle.std.proofs.Common.{◌≡◌, ℕ, true, List, [], ◌∷◌, ◌++◌, map, refl, sym, ap, subst, ◌∙◌, inl, inr, arith}
-use Rattle.std.specs.List.{Contains}
-use Rattle.std.proofs.lemmas.Bool.{eq-eqb}
-use Rattle.std.proofs.lemmas.List.Elements.{Contains-append_left, Contains-append_right, Contains-append_cases}
-use Rattle.proto_faults.proofs.Lists.{contains_cases, contains_head, contains_later, from_map}
+use Rattle.std.proofs.Common.{◌≡◌, ℕ, true, List, [], ◌∷◌, ◌++◌, map, refl, sym, ap, subst, ◌∙◌, inl, inr, arith, Contains, eq-eqb}
+use Rattle.proto_faults.proofs.Common.{Contains-append_left, Contains-append_right, Contains-append_cases, contains_cases, contains_head, contains_later, from_map}
 use Rattle.proto_tree.specs.declared.tree.Value.{Value as ValueParts}
 use Rattle.proto_tree.specs.declared.piece.Statement.{Statement}
 use Rattle.proto_tree.specs.declared.piece.Header.{Header}
 use Rattle.proto_tree.specs.declared.piece.Heading.{Heading}
-use Rattle.proto_tree.specs.Tree.{Tree, End, Leaf, Block}
-use Rattle.proto_tree.specs.References.{dotted}
+use Rattle.proto_tree.proofs.Common.{Tree, End, Leaf, Block, dotted}
 use Rattle.proto_tree.specs.declared.piece.Statement.TheVariants as statement
 use Rattle.proto_tree.specs.declared.piece.Header.TheVariants as header
 use Rattle.proto_meaning.specs.declared.kind.Kind.{Kind}
 use Rattle.proto_meaning.specs.declared.kind.Kind.TheVariants.{Message, Enum, Service, Field, Oneof, Value, Method}
-use Rattle.proto_meaning.specs.Skeleton.{Source, Token}
-use Rattle.proto_meaning.specs.Tree.{Items, Members, Placed, place, placed, all_placed, prefixes, items_placed, beside, field, map_field, message, service}
+use Rattle.proto_meaning.proofs.Common.{Source, Token, Items, Members, Placed, place, placed, all_placed, prefixes, items_placed, beside, field, map_field, message, service}
 use Rattle.proto_listing.specs.FromTree.{add_statement, block_names, field_names, file_statement, items_in, members_in, method_names, no_names, picked, value_names}
 use Rattle.proto_parts.specs.Parts.{BlockOf, blocks_in, statement_values, values_in}
 use Rattle.proto_scenes.specs.SceneOf.{is_enum_at}

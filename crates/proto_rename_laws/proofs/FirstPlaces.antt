@@ -1,20 +1,13 @@
 -- A rename that captures a reference has one least captured place (for the crates above).
-use Rattle.std.proofs.Common.{◌≡◌, ◌≤◌, ℕ, true, ◌⊎◌, ◌↔◌, List, [], ◌∷◌, refl, sym, ap, ap₂, subst, ◌∙◌, inl, inr, arith}
-use Rattle.std.specs.List.{Contains}
-use Rattle.std.proofs.lemmas.Bool.{both_ways, cases_Bool, cases_eq, cases_lt, cases_order}
+use Rattle.std.proofs.Common.{◌≡◌, ◌≤◌, ℕ, true, ◌⊎◌, ◌↔◌, List, [], ◌∷◌, refl, sym, ap, ap₂, subst, ◌∙◌, inl, inr, arith, Contains}
+use Rattle.proto_faults.proofs.Common.{both_ways, cases_Bool, cases_eq, cases_lt, cases_order, contains_cases, contains_head, contains_later}
 use Rattle.proto_case.specs.Camel.{entry_name}
 use Rattle.proto_text.specs.Texts.{offset_at}
-use Rattle.proto_faults.proofs.Lists.{contains_cases, contains_head, contains_later}
-use Rattle.proto_files.specs.GivenFiles.{file_at}
-use Rattle.proto_files.specs.FilesRead.{read_at}
-use Rattle.proto_meaning.specs.Edits.{IsCaptured, Renaming, is_captured}
-use Rattle.proto_meaning.specs.Grown.{At, at}
-use Rattle.proto_meaning.specs.Names.{Reference, Workspace}
-use Rattle.proto_meaning.specs.Skeleton.{Used, reference_of}
+use Rattle.proto_files.proofs.Common.{file_at, read_at}
+use Rattle.proto_meaning.proofs.Common.{IsCaptured, Renaming, is_captured, At, at, Reference, Workspace, Used, reference_of}
 use Rattle.proto_imports.specs.Links.{link_skeleton, names_of_files, text_of}
-use Rattle.proto_rename_laws.specs.Cases.{StandsBefore}
+use Rattle.proto_rename_laws.specs.Common.{StandsBefore, name_map}
 use Rattle.proto_rename_laws.specs.FirstPlaces.{FirstPlacesAreOne, FirstPlacesAreThere}
-use Rattle.proto_rename_laws.specs.Targets.{name_map}
 
 -- ---- the order of places
 

@@ -1,24 +1,11 @@
 -- What files declare and use stands at tokens of theirs (for the crates above).
-use Rattle.std.proofs.Common.{◌≡◌, ℕ, zero, suc, ◌+◌, ◌<◌, ◌≤◌, List, [], ◌∷◌, ◌++◌, length, map, Some, refl, sym, ap, subst, ◌∙◌, inl, inr, arith}
-use Rattle.std.specs.List.{Contains}
-use Rattle.std.proofs.lemmas.Bool.{cases_lt}
-use Rattle.std.proofs.lemmas.List.Elements.{Contains-append_cases}
+use Rattle.std.proofs.Common.{◌≡◌, ℕ, zero, suc, ◌+◌, ◌<◌, ◌≤◌, List, [], ◌∷◌, ◌++◌, length, map, Some, refl, sym, ap, subst, ◌∙◌, inl, inr, arith, Contains}
+use Rattle.proto_faults.proofs.Common.{cases_lt, Contains-append_cases, contains_cases, from_map}
 use Rattle.proto_text.specs.declared.lexer.Token.{Token as TextToken}
-use Rattle.proto_text.specs.Texts.{word_at, words}
-use Rattle.proto_text.specs.Tokens.{Lexeme, lexeme_at}
-use Rattle.proto_faults.proofs.Lists.{contains_cases, from_map}
-use Rattle.proto_text.proofs.OneEdit.{length_map}
-use Rattle.proto_files.specs.FilesRead.{ReadOf, read_at}
-use Rattle.proto_files.specs.GivenFiles.{FileOf, file_at}
-use Rattle.proto_meaning.specs.Grown.{At, at, all_used, file_used, used_in}
-use Rattle.proto_meaning.specs.Joined.{IsPlain, ArePlain}
-use Rattle.proto_meaning.specs.Skeleton.{Source, Token, EntryOf, Given, Declared, Used, shifted_source}
-use Rattle.proto_meaning.specs.Tree.{Placed, file_placed}
-use Rattle.proto_meaning.proofs.Grown.{snoc_parts}
-use Rattle.proto_listing.specs.FromTree.{file_names, items_in}
-use Rattle.proto_listing.specs.Listing.{whole, last_token}
-use Rattle.proto_listing.proofs.Growing.{token_last, entry_last}
-use Rattle.proto_listing.proofs.ReadTrees.{placed_plain, uses_plain}
+use Rattle.proto_text.proofs.Common.{word_at, words, Lexeme, lexeme_at, length_map}
+use Rattle.proto_files.proofs.Common.{ReadOf, read_at, FileOf, file_at}
+use Rattle.proto_meaning.proofs.Common.{At, at, all_used, file_used, used_in, IsPlain, ArePlain, Source, Token, EntryOf, Given, Declared, Used, shifted_source, Placed, file_placed, snoc_parts}
+use Rattle.proto_listing.proofs.Common.{file_names, items_in, whole, last_token, token_last, entry_last, placed_plain, uses_plain}
 use Rattle.proto_imports.specs.Links.{link_skeleton, names_in}
 use Rattle.proto_rename_laws.specs.Inside.{TargetsAreInside, TokensAreInside}
 use Rattle.proto_rename_laws.specs.Places.{Names, Uses}

@@ -2,6 +2,7 @@ pub mod Blocks
 pub mod Captures
 pub mod ChangesEntry
 pub mod ChangesPut
+pub mod Common
 pub mod Declarations
 pub mod DefaultTokens
 mod EnumsOfValues

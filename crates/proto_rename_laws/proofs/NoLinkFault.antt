@@ -1,28 +1,15 @@
 -- No fault of texts, the grammar, imports, names and references comes in by a rename (for the crates above).
-use Rattle.std.proofs.Common.{◌+◌, ◌≡◌, ℕ, zero, suc, ◌<◌, List, [], ◌∷◌, length, get_or, map, slice_index_or, refl, sym, subst, inl, inr, arith}
-use Rattle.std.specs.List.{Contains}
+use Rattle.std.proofs.Common.{◌+◌, ◌≡◌, ℕ, zero, suc, ◌<◌, List, [], ◌∷◌, length, get_or, map, slice_index_or, refl, sym, subst, inl, inr, arith, Contains}
 use Rattle.proto_faults.specs.declared.fault.FaultKind.{FaultKind}
 use Rattle.proto_faults.specs.FaultTable.{number_of}
 use Rattle.proto_faults.specs.declared.fault.FaultKind.TheVariants as kind
-use Rattle.proto_case.specs.Camel.{entry_name}
-use Rattle.proto_case.proofs.EntryNames.{entry_differs}
+use Rattle.proto_case.proofs.Common.{entry_name, entry_differs}
 use Rattle.proto_text.specs.declared.lexer.Token.{Token}
-use Rattle.proto_text.specs.Texts.{offset_at}
-use Rattle.proto_text.specs.Tokens.{lexeme_at}
-use Rattle.proto_text.proofs.Once.{no_fault_with_tokens, one_token_list}
+use Rattle.proto_text.proofs.Common.{offset_at, lexeme_at, no_fault_with_tokens, one_token_list}
 use Rattle.proto_text.specs.declared.fault.LexFault.TheVariants as lex
 use Rattle.proto_tree.specs.Reads.{Reads}
-use Rattle.proto_files.specs.Faults.{FaultAt, HasNoFault}
-use Rattle.proto_files.specs.GivenFiles.{FileOf, file_at, paths_of}
-use Rattle.proto_files.specs.ReadFaults.{IsText, IsTextFault, IsGrammarFault}
-use Rattle.proto_files.specs.FilesRead.{ReadOf, AreRead, read_at}
-use Rattle.proto_files.proofs.ReadOnce.{read_once}
-use Rattle.proto_meaning.specs.Faults.{Asked, Fault, ImportFault, unknown, double, cycle, NameFault, earlier, of_package, ReferenceFault, unresolved, wrong_kind, of_entry}
-use Rattle.proto_meaning.specs.Grown.{At, FileNames, IsGrown}
-use Rattle.proto_meaning.specs.Skeleton.{Skeleton}
-use Rattle.proto_meaning.proofs.Edited.{linked_after}
-use Rattle.proto_meaning.proofs.Files.{files_nested, files_woven}
-use Rattle.proto_meaning.proofs.Sound.{linked_from, names_sound, references_sound}
+use Rattle.proto_files.proofs.Common.{FaultAt, HasNoFault, FileOf, file_at, paths_of, IsText, IsTextFault, IsGrammarFault, ReadOf, AreRead, read_at, read_once}
+use Rattle.proto_meaning.proofs.Common.{Asked, Fault, ImportFault, unknown, double, cycle, NameFault, earlier, of_package, ReferenceFault, unresolved, wrong_kind, of_entry, At, FileNames, IsGrown, Skeleton, linked_after, files_nested, files_woven, linked_from, names_sound, references_sound}
 use Rattle.proto_listing.proofs.FromTree.{tree_grown}
 use Rattle.proto_imports.specs.Links.{LinkFaults, StandsAt, of_import, of_name, of_reference, all_wanted, link_skeleton, link_imports, names_in, text_of}
 use Rattle.proto_rename_laws.specs.NoLinkFault.{FilesAreWoven, FilesAreLinked, ReadFilesAreClean, NoLinkFaultComesIn}

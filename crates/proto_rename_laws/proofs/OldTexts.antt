@@ -1,17 +1,9 @@
 -- Each word that a rename changes is the old name (for the crates above).
-use Rattle.std.proofs.Common.{◌≡◌, ℕ, Bool, true, false, ◌&&◌, if◌then◌else◌, List, flat_map, Option, Some, None, refl, sym, ap, inl, inr}
-use Rattle.std.specs.List.{Contains, list_any}
-use Rattle.std.proofs.lemmas.List.Elements.{Contains-append_cases}
-use Rattle.proto_faults.proofs.Lists.{contains_cases, word_from_same}
-use Rattle.proto_meaning.specs.Edits.{target}
-use Rattle.proto_meaning.specs.Grown.{At}
-use Rattle.proto_meaning.proofs.Basics.{name_from_same}
-use Rattle.proto_meaning.proofs.Ren.{last_parts}
+use Rattle.std.proofs.Common.{◌≡◌, ℕ, Bool, true, false, ◌&&◌, if◌then◌else◌, List, flat_map, Option, Some, None, refl, sym, ap, inl, inr, Contains}
+use Rattle.proto_faults.proofs.Common.{list_any, Contains-append_cases, contains_cases, word_from_same}
+use Rattle.proto_meaning.proofs.Common.{target, At, name_from_same, last_parts}
 use Rattle.proto_imports.specs.Links.{text_of, link_skeleton}
-use Rattle.proto_rename_laws.specs.ChangesEntry.{OldTextsAreNames}
-use Rattle.proto_rename_laws.specs.Defaults.{means_value, renamed_defaults, type_meaning}
-use Rattle.proto_rename_laws.specs.Places.{change_at, front_of, renamed_places, same_at, standing}
-use Rattle.proto_rename_laws.specs.Targets.{name_map}
+use Rattle.proto_rename_laws.specs.Common.{OldTextsAreNames, means_value, renamed_defaults, type_meaning, change_at, front_of, renamed_places, same_at, standing, name_map}
 use Rattle.proto_rename_laws.proofs.DefaultTokens.{default_of_file}
 use Rattle.proto_rename_laws.proofs.Places.{from_flat_map, is_listed, stands_at}
 

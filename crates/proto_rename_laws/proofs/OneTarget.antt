@@ -1,32 +1,19 @@
 -- A name is that of one target (for the crates above).
-use Rattle.std.proofs.Common.{◌≡◌, ℕ, zero, suc, ◌<◌, ◌⊎◌, Bool, true, false, List, [], ◌∷◌, ◌++◌, length, get_or, map, find, Option, Some, None, refl, sym, ap, ap₂, subst, ◌∙◌, inl, inr, arith}
-use Rattle.std.specs.List.{Contains}
-use Rattle.std.proofs.lemmas.Bool.{cases_order, eqb-true}
-use Rattle.std.proofs.lemmas.List.{get_or-map, length-map, get_or_default}
+use Rattle.std.proofs.Common.{◌≡◌, ℕ, zero, suc, ◌<◌, ◌⊎◌, Bool, true, false, List, [], ◌∷◌, ◌++◌, length, get_or, map, find, Option, Some, None, refl, sym, ap, ap₂, subst, ◌∙◌, inl, inr, arith, Contains, eqb-true}
+use Rattle.proto_faults.proofs.Common.{cases_order, get_or-map, length-map, get_or_default, contains_map, from_map}
 use Rattle.proto_case.specs.Camel.{entry_name}
 use Rattle.proto_text.specs.Tokens.{lexeme_at}
-use Rattle.proto_faults.proofs.Lists.{contains_map, from_map}
 use Rattle.proto_tree.specs.declared.piece.Header.{Header}
 use Rattle.proto_tree.specs.declared.tree.Value.{Value as ValueParts}
-use Rattle.proto_tree.specs.Laws.{Numbered}
-use Rattle.proto_tree.specs.Tree.{flat}
-use Rattle.proto_tree.proofs.MarkLaws.{trees_are_numbered}
+use Rattle.proto_tree.proofs.Common.{Numbered, flat, trees_are_numbered}
 use Rattle.proto_tree.specs.declared.piece.Header.TheVariants as header
-use Rattle.proto_files.specs.GivenFiles.{FileOf, file_at}
-use Rattle.proto_files.specs.FilesRead.{ReadOf, AreRead, read_at}
-use Rattle.proto_meaning.specs.Faults.{place_from, place_of}
-use Rattle.proto_meaning.specs.Grown.{At, at}
-use Rattle.proto_meaning.specs.Linked.{IsLinked}
+use Rattle.proto_files.proofs.Common.{FileOf, file_at, ReadOf, AreRead, read_at}
+use Rattle.proto_meaning.proofs.Common.{place_from, place_of, At, at, IsLinked, Source, Token, EntryOf, Given, Declared, IsAimEntry, name_of, symbol_of, snoc_parts, joined_apart}
 use Rattle.proto_meaning.specs.declared.kind.Kind.TheVariants.{Package, Enum}
-use Rattle.proto_meaning.specs.Skeleton.{Source, Token, EntryOf, Given, Declared, IsAimEntry, name_of, symbol_of}
-use Rattle.proto_meaning.proofs.Grown.{snoc_parts}
-use Rattle.proto_meaning.proofs.Joined.{joined_apart}
-use Rattle.proto_imports.specs.Links.{link_skeleton, names_of_files, text_of}
+use Rattle.proto_imports.proofs.Common.{link_skeleton, names_of_files, text_of, names_are_plain}
 use Rattle.proto_parts.specs.Parts.{BlockOf, blocks_in, values_in}
 use Rattle.proto_scenes.specs.SceneOf.{is_enum_at}
-use Rattle.proto_imports.proofs.PlainNames.{names_are_plain}
-use Rattle.proto_rename_laws.specs.OneTarget.{TargetsAreOne}
-use Rattle.proto_rename_laws.specs.Targets.{HasEnum, IsNamed, Target, may_rename}
+use Rattle.proto_rename_laws.specs.Common.{TargetsAreOne, HasEnum, IsNamed, Target, may_rename}
 use Rattle.proto_rename_laws.proofs.Blocks.{one_block}
 use Rattle.proto_rename_laws.proofs.NoLinkFault.{files_are_linked, files_are_woven}
 use Rattle.proto_rename_laws.proofs.Declarations.{ends_with_token, is_written}

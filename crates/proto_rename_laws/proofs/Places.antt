@@ -1,20 +1,10 @@
 -- The texts after a rename spell the skeleton as the name map wants it (for the crates above).
-use Rattle.std.proofs.Common.{◌≡◌, ◌≢◌, ℕ, ◌==◌, Bool, true, false, ◌&&◌, ◌⊎◌, List, [], ◌∷◌, ◌++◌, map, Some, None, refl, sym, ap, ap₂, subst, ◌∙◌, inl, inr, arith, if◌then◌else◌, append_assoc}
-use Rattle.std.specs.Prelude.{flat_map}
-use Rattle.std.specs.List.{Contains, list_any}
-use Rattle.std.proofs.lemmas.Bool.{cases_Bool, cond-true, cond-false, eqb-true, eq-eqb, both_ways, false_from_ne_true}
-use Rattle.std.proofs.lemmas.List.{append-nil}
-use Rattle.std.proofs.lemmas.List.Elements.{Contains-append_left, Contains-append_right, Contains-append_cases}
+use Rattle.std.proofs.Common.{◌≡◌, ◌≢◌, ℕ, ◌==◌, Bool, true, false, ◌&&◌, ◌⊎◌, List, [], ◌∷◌, ◌++◌, map, Some, None, refl, sym, ap, ap₂, subst, ◌∙◌, inl, inr, arith, if◌then◌else◌, append_assoc, flat_map, Contains, eqb-true, eq-eqb, append-nil}
+use Rattle.proto_faults.proofs.Common.{list_any, cases_Bool, cond-true, cond-false, both_ways, false_from_ne_true, Contains-append_left, Contains-append_right, Contains-append_cases, any_from, any_to, contains_head, contains_later, contains_cases}
 use Rattle.proto_case.specs.Camel.{entry_name}
 use Rattle.proto_text.specs.Texts.{or_word}
-use Rattle.proto_faults.proofs.Lists.{any_from, any_to, contains_head, contains_later, contains_cases}
-use Rattle.proto_meaning.specs.Names.{same_name}
-use Rattle.proto_meaning.specs.Edits.{Renaming, target, rewritten}
-use Rattle.proto_meaning.specs.Grown.{At}
-use Rattle.proto_meaning.specs.Skeleton.{Source, Declared, Used, Skeleton, IsAim, renaming_of, IsRespelled}
-use Rattle.proto_meaning.proofs.Edited.{map_append}
-use Rattle.proto_rename_laws.specs.Places.{same_at, stands, front_of, standing, renamed_places, change_at, Names, Uses}
-use Rattle.proto_rename_laws.specs.Roles.{AreApart}
+use Rattle.proto_meaning.proofs.Common.{same_name, Renaming, target, rewritten, At, Source, Declared, Used, Skeleton, IsAim, renaming_of, IsRespelled, map_append}
+use Rattle.proto_rename_laws.specs.Common.{same_at, stands, front_of, standing, renamed_places, change_at, Names, Uses, AreApart}
 use Rattle.proto_rename_laws.specs.Respelling.{PlacesRespell}
 
 -- ---- tokens that are one

@@ -1,47 +1,21 @@
 -- The new word suits each place where a rename puts it (for the crates above).
-use Rattle.std.proofs.Common.{◌≡◌, ◌≢◌, ℕ, Bool, true, false, ◌⊎◌, if◌then◌else◌, List, [], ◌∷◌, ◌++◌, map, flat_map, Option, Some, None, refl, sym, ap, subst, ◌∙◌, inl, inr, arith, append_assoc, length-append}
-use Rattle.std.specs.Prelude.{not}
-use Rattle.std.specs.List.{Contains, list_any}
-use Rattle.std.proofs.lemmas.Bool.{cases_Bool, cond-true, cond-false}
-use Rattle.std.proofs.lemmas.Option.{none-some, same_Some}
-use Rattle.std.proofs.lemmas.List.{append-nil}
-use Rattle.std.proofs.lemmas.List.Elements.{Contains-append_right, Contains-append_cases}
+use Rattle.std.proofs.Common.{◌≡◌, ◌≢◌, ℕ, Bool, true, false, ◌⊎◌, if◌then◌else◌, List, [], ◌∷◌, ◌++◌, map, flat_map, Option, Some, None, refl, sym, ap, subst, ◌∙◌, inl, inr, arith, append_assoc, length-append, not, Contains, append-nil}
+use Rattle.proto_faults.proofs.Common.{list_any, cases_Bool, cond-true, cond-false, none-some, same_Some, Contains-append_right, Contains-append_cases, contains_cases, contains_head, contains_later, contains_map}
 use Rattle.proto_case.specs.Camel.{entry_name}
 use Rattle.proto_text.specs.declared.class.Class.TheVariants.{Letter}
 use Rattle.proto_text.specs.declared.kind.TokenKind.TheVariants.{Word}
 use Rattle.proto_text.specs.Pieces.{IsRun}
-use Rattle.proto_faults.proofs.Lists.{contains_cases, contains_head, contains_later, contains_map}
 use Rattle.proto_tree.specs.declared.class.Want.{Want}
-use Rattle.proto_tree.specs.Classes.{fits}
-use Rattle.proto_tree.specs.Flat.{Mark}
-use Rattle.proto_tree.specs.Laws.{Suits}
-use Rattle.proto_tree.specs.Tree.{flat}
-use Rattle.proto_tree.specs.Words.{class_by, is_listed}
-use Rattle.proto_tree.proofs.WordLaws.{word_is_word}
+use Rattle.proto_tree.proofs.Common.{fits, Mark, Suits, flat, class_by, is_listed, word_is_word}
 use Rattle.proto_tree.specs.declared.class.Class.TheVariants as class
 use Rattle.proto_tree.specs.declared.class.Want.TheVariants as want
-use Rattle.proto_files.specs.GivenFiles.{FileOf}
-use Rattle.proto_files.specs.FilesRead.{ReadOf, read_at}
+use Rattle.proto_files.proofs.Common.{FileOf, ReadOf, read_at}
 use Rattle.proto_meaning.specs.declared.kind.Kind.{Kind}
 use Rattle.proto_meaning.specs.declared.kind.Kind.TheVariants.{Package, Message, Entry, Enum, Service, Field, EntryField, Oneof, Value, Method}
-use Rattle.proto_meaning.specs.Edits.{Renaming, target}
-use Rattle.proto_meaning.specs.Grown.{At, at}
-use Rattle.proto_meaning.specs.Linked.{IsLinked}
-use Rattle.proto_meaning.specs.Names.{Reference, Symbol, Workspace, front_at, hit, is_outer, is_type, meaning, meaning_at, typed}
-use Rattle.proto_meaning.specs.Skeleton.{Token, Used, name_of, reference_of, symbol_of, spell}
-use Rattle.proto_meaning.proofs.Basics.{name_from_same}
-use Rattle.proto_meaning.proofs.Edited.{map_append}
-use Rattle.proto_meaning.proofs.Rename.{typed_is}
-use Rattle.proto_meaning.proofs.Renamed.{has_meaning, meant}
-use Rattle.proto_meaning.proofs.Symbols.{front_of, one_symbol}
+use Rattle.proto_meaning.proofs.Common.{Renaming, target, At, at, IsLinked, Reference, Symbol, Workspace, front_at, hit, is_outer, is_type, meaning, meaning_at, typed, Token, Used, name_of, reference_of, symbol_of, spell, name_from_same, map_append, typed_is, has_meaning, meant, front_of, one_symbol}
 use Rattle.proto_imports.specs.Links.{text_of, link_skeleton, names_of_files}
-use Rattle.proto_rename_laws.specs.Cases.{is_keyword_of, is_value_keyword}
-use Rattle.proto_rename_laws.specs.Defaults.{renamed_defaults}
-use Rattle.proto_rename_laws.specs.Rewording.{SuitFiles, in_file}
-use Rattle.proto_rename_laws.specs.Places.{front_of as front_before, renamed_places, same_at, standing}
-use Rattle.proto_rename_laws.specs.Roles.{HasWants}
+use Rattle.proto_rename_laws.specs.Common.{is_keyword_of, is_value_keyword, renamed_defaults, SuitFiles, in_file, front_of as front_before, renamed_places, same_at, standing, HasWants, Target, IsNamed, may_rename, name_map, renamed_words}
 use Rattle.proto_rename_laws.specs.PlacesSuit.{PlacesSuit}
-use Rattle.proto_rename_laws.specs.Targets.{Target, IsNamed, may_rename, name_map, renamed_words}
 use Rattle.proto_rename_laws.proofs.Places.{from_flat_map, is_listed as is_there, stands_at}
 
 -- ---- words that are no keywords

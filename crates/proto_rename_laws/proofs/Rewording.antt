@@ -1,28 +1,13 @@
 -- Other words at tokens of many files (for the crates above).
-use Rattle.std.specs.Prelude.{slice_index_or}
-use Rattle.std.proofs.Common.{◌≡◌, ℕ, zero, suc, ◌+◌, ◌<◌, List, [], ◌∷◌, ◌++◌, length, map, Option, Some, None, refl, sym, ap, ap₂, subst, ◌∙◌, arith}
-use Rattle.std.specs.List.{Contains}
+use Rattle.std.proofs.Common.{slice_index_or, ◌≡◌, ℕ, zero, suc, ◌+◌, ◌<◌, List, [], ◌∷◌, ◌++◌, length, map, Option, Some, None, refl, sym, ap, ap₂, subst, ◌∙◌, arith, Contains}
 use Rattle.proto_faults.specs.Texts.{or_nothing}
 use Rattle.proto_text.specs.declared.class.Class.TheVariants.{Letter, Quote}
-use Rattle.proto_text.specs.Pieces.{IsRun}
-use Rattle.proto_text.specs.Strings.{IsString}
-use Rattle.proto_text.specs.Texts.{or_word, words, IsReworded}
-use Rattle.proto_text.proofs.OneEdit.{length_map, words_are_changed, other_words_stay}
+use Rattle.proto_text.proofs.Common.{IsRun, IsString, or_word, words, IsReworded, length_map, words_are_changed, other_words_stay, value_of}
 use Rattle.proto_text.specs.declared.lexer.Token.{Token}
-use Rattle.proto_text.specs.Values.{value_of}
-use Rattle.proto_tree.specs.Laws.{Suits, PutsWords}
-use Rattle.proto_tree.specs.Tree.{Tree, End, flat}
-use Rattle.proto_tree.specs.Reads.{Reads}
-use Rattle.proto_tree.proofs.WordLaws.{edits_keep_trees}
-use Rattle.proto_files.specs.GivenFiles.{FileOf, file_at, paths_of}
-use Rattle.proto_files.specs.FilesRead.{ReadOf, AreRead, read_at}
-use Rattle.proto_meaning.specs.Faults.{Asked, imports_of}
-use Rattle.proto_meaning.specs.Grown.{At, at, FileNames, skeleton_of_files}
-use Rattle.proto_meaning.specs.Names.{Import}
-use Rattle.proto_meaning.proofs.Edited.{map_agree, map_map}
-use Rattle.proto_listing.proofs.InTokens.{import_here}
-use Rattle.proto_listing.proofs.ReadTrees.{imports_are_strings}
-use Rattle.proto_listing.specs.FromTree.{Wanted, imports_in, file_names}
+use Rattle.proto_tree.proofs.Common.{Suits, PutsWords, Tree, End, flat, Reads, edits_keep_trees}
+use Rattle.proto_files.proofs.Common.{FileOf, file_at, paths_of, ReadOf, AreRead, read_at}
+use Rattle.proto_meaning.proofs.Common.{Asked, imports_of, At, at, FileNames, skeleton_of_files, Import, map_agree, map_map}
+use Rattle.proto_listing.proofs.Common.{import_here, imports_are_strings, Wanted, imports_in, file_names}
 use Rattle.proto_imports.specs.Links.{text_of, asked_as, all_wanted, names_in, link_imports}
 use Rattle.proto_rename_laws.specs.Rewording.{in_file, SuitFiles, AreReworded, FilesAreReworded, TextsAreChanged, OtherTextsStay, SkeletonsStay, NewWords}
 

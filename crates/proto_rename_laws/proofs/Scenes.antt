@@ -1,45 +1,19 @@
 -- The scenes of files before and after a rename differ in names (for the crates above).
-use Rattle.std.proofs.Common.{◌≡◌, ℕ, zero, suc, ◌+◌, ◌<◌, ◌≤◌, ◌==◌, Bool, true, false, not, List, [], ◌∷◌, length, map, slice_index_or, slice_get, Option, Some, None, is_some, option_map, refl, sym, ap, subst, ◌∙◌, inl, inr, arith, cond}
-use Rattle.std.specs.Prelude.{codes}
-use Rattle.std.specs.Option.{option_and_then}
-use Rattle.std.specs.List.{Contains, find}
-use Rattle.std.specs.Str.{bytes_eq}
-use Rattle.std.proofs.lemmas.Bool.{cases_Bool, cases_lt, both_ways, false_from_ne_true}
-use Rattle.std.proofs.lemmas.Option.{same_Some}
-use Rattle.proto_case.specs.Camel.{entry_name}
-use Rattle.proto_case.proofs.EntryNames.{entry_differs}
+use Rattle.std.proofs.Common.{◌≡◌, ℕ, zero, suc, ◌+◌, ◌<◌, ◌≤◌, ◌==◌, Bool, true, false, not, List, [], ◌∷◌, length, map, slice_index_or, slice_get, Option, Some, None, is_some, option_map, refl, sym, ap, subst, ◌∙◌, inl, inr, arith, cond, codes, option_and_then, Contains, find, bytes_eq}
+use Rattle.proto_faults.proofs.Common.{cases_Bool, cases_lt, both_ways, false_from_ne_true, same_Some, any_agree, contains_head, contains_later, contains_map}
+use Rattle.proto_case.proofs.Common.{entry_name, entry_differs}
 use Rattle.proto_text.specs.declared.kind.TokenKind.{TokenKind}
 use Rattle.proto_text.specs.declared.kind.TokenKind.TheVariants.{Word, Number, Text, Punctuation}
-use Rattle.proto_text.specs.Texts.{changed, or_word, word_at, AreWords}
-use Rattle.proto_text.specs.Tokens.{Lexeme}
-use Rattle.proto_text.specs.Values.{value_of}
-use Rattle.proto_faults.proofs.Lists.{any_agree, contains_head, contains_later, contains_map}
+use Rattle.proto_text.proofs.Common.{changed, or_word, word_at, AreWords, Lexeme, value_of}
 use Rattle.proto_tree.specs.declared.tree.Value.{Value}
 use Rattle.proto_tree.specs.declared.piece.Statement.{Statement}
-use Rattle.proto_tree.specs.Tree.{Tree, End}
-use Rattle.proto_tree.proofs.WordLaws.{words_come_for_words}
-use Rattle.proto_tree.specs.References.{first_of}
+use Rattle.proto_tree.proofs.Common.{Tree, End, words_come_for_words, first_of}
 use Rattle.proto_tree.specs.declared.piece.Statement.TheVariants as statement
-use Rattle.proto_files.specs.GivenFiles.{FileOf}
-use Rattle.proto_files.specs.FilesRead.{ReadOf, read_at}
-use Rattle.proto_meaning.specs.Edits.{Renaming, ren, renamed}
-use Rattle.proto_meaning.specs.Faults.{place_of}
-use Rattle.proto_meaning.specs.Grown.{At, at, used_in}
-use Rattle.proto_meaning.specs.Linked.{IsRenaming}
-use Rattle.proto_meaning.specs.Names.{Workspace, Symbol, same_name, meaning}
-use Rattle.proto_meaning.specs.Skeleton.{Source, Declared, Used, Skeleton, name_of, symbol_of, reference_of, workspace_of, renaming_of}
-use Rattle.proto_meaning.proofs.Basics.{name_from_same, same_from_name}
-use Rattle.proto_meaning.proofs.Edited.{workspace_after, reference_after, name_after, aim_renaming}
-use Rattle.proto_meaning.proofs.Renamed.{each_means, has_meaning, meant}
-use Rattle.proto_meaning.proofs.Symbols.{ren_apart}
+use Rattle.proto_files.proofs.Common.{FileOf, ReadOf, read_at}
+use Rattle.proto_meaning.proofs.Common.{Renaming, ren, renamed, place_of, At, at, used_in, IsRenaming, Workspace, Symbol, same_name, meaning, Source, Declared, Used, Skeleton, name_of, symbol_of, reference_of, workspace_of, renaming_of, name_from_same, same_from_name, workspace_after, reference_after, name_after, aim_renaming, each_means, has_meaning, meant, ren_apart}
 use Rattle.proto_listing.specs.FromTree.{file_names}
-use Rattle.proto_imports.specs.Links.{text_of, link_skeleton, names_of_files}
-use Rattle.proto_imports.specs.Links.{used_named}
-use Rattle.proto_imports.specs.Links.{uses_of}
-use Rattle.proto_imports.proofs.FileUses.{use_in}
-use Rattle.proto_parts.specs.Numbers.{number_of}
-use Rattle.proto_parts.specs.Parts.{BlockOf, blocks_in, statements, values_in}
-use Rattle.proto_parts.specs.Scenes.{EnumOf, MeantOf, is_proto3, is_proto3_statement, string_of, value_or_none}
+use Rattle.proto_imports.proofs.Common.{text_of, link_skeleton, names_of_files, used_named, uses_of, use_in}
+use Rattle.proto_parts.proofs.Common.{number_of, BlockOf, blocks_in, statements, values_in, EnumOf, MeantOf, is_proto3, is_proto3_statement, string_of, value_or_none}
 use Rattle.proto_checks_laws.specs.Renamed.{DifferInNames, SameButValues}
 use Rattle.proto_scenes.specs.SceneOf.{declared_as, enum_at, enum_named, enum_within, is_enum_at, is_proto3_file, lexemes_of, meaning_of, meant_as, means_of, scene_of, starts_past_zero}
 use Rattle.proto_rename_laws.specs.Rewording.{in_file, NewWords}

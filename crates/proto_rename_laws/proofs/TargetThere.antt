@@ -1,36 +1,19 @@
 -- A name that no case refuses is that of a target (for the crates above).
-use Rattle.std.proofs.Common.{◌≡◌, ◌≢◌, ℕ, ◌+◌, ◌<◌, ◌⊎◌, Bool, true, false, List, [], ◌∷◌, ◌++◌, length, map, find, Option, Some, None, refl, sym, ap, subst, ◌∙◌, inl, inr, arith}
-use Rattle.std.specs.List.{Contains, list_any}
-use Rattle.std.specs.Str.{bytes_eq}
-use Rattle.std.proofs.lemmas.Bool.{cases_Bool, cond-false, cond-true, true≢false}
+use Rattle.std.proofs.Common.{◌≡◌, ◌≢◌, ℕ, ◌+◌, ◌<◌, ◌⊎◌, Bool, true, false, List, [], ◌∷◌, ◌++◌, length, map, find, Option, Some, None, refl, sym, ap, subst, ◌∙◌, inl, inr, arith, Contains, bytes_eq, true≢false}
+use Rattle.proto_faults.proofs.Common.{list_any, cases_Bool, cond-false, cond-true, any_from, any_to, contains_cases, from_map, same_from_word, word_from_same}
 use Rattle.proto_case.specs.Camel.{entry_name}
-use Rattle.proto_text.proofs.OneEdit.{length_map}
-use Rattle.proto_text.specs.Tokens.{lexeme_at}
-use Rattle.proto_faults.proofs.Lists.{any_from, any_to, contains_cases, from_map, same_from_word, word_from_same}
+use Rattle.proto_text.proofs.Common.{length_map, lexeme_at}
 use Rattle.proto_tree.specs.declared.tree.Value.{Value as ValueParts}
-use Rattle.proto_tree.specs.Laws.{Numbered}
-use Rattle.proto_tree.specs.Tree.{End, flat}
-use Rattle.proto_tree.proofs.MarkLaws.{trees_are_numbered}
-use Rattle.proto_files.specs.GivenFiles.{FileOf, file_at}
-use Rattle.proto_files.specs.FilesRead.{ReadOf, AreRead, read_at}
+use Rattle.proto_tree.proofs.Common.{Numbered, End, flat, trees_are_numbered}
+use Rattle.proto_files.proofs.Common.{FileOf, file_at, ReadOf, AreRead, read_at}
 use Rattle.proto_meaning.specs.declared.kind.Kind.{Kind}
 use Rattle.proto_meaning.specs.declared.kind.Kind.TheVariants.{Package, Message, Entry, Enum, Service, Field, EntryField, Oneof, Value, Method}
-use Rattle.proto_meaning.specs.Faults.{place_from, place_of}
-use Rattle.proto_meaning.specs.Grown.{At, at, declared_of}
-use Rattle.proto_meaning.specs.Joined.{joined}
-use Rattle.proto_meaning.specs.Names.{Symbol}
-use Rattle.proto_meaning.specs.Skeleton.{Source, Token, EntryOf, Given, Declared, IsAimEntry, name_of, shifted_declared, shifted_source, symbol_of}
-use Rattle.proto_meaning.specs.Tree.{package_of}
-use Rattle.proto_meaning.proofs.Edited.{map_append}
-use Rattle.proto_meaning.proofs.Grown.{snoc_parts}
+use Rattle.proto_meaning.proofs.Common.{place_from, place_of, At, at, declared_of, joined, Symbol, Source, Token, EntryOf, Given, Declared, IsAimEntry, name_of, shifted_declared, shifted_source, symbol_of, package_of, map_append, snoc_parts}
 use Rattle.proto_listing.specs.FromTree.{items_in}
 use Rattle.proto_imports.specs.Links.{link_skeleton, names_in, names_of_files, text_of}
 use Rattle.proto_parts.specs.Parts.{BlockOf, blocks_in, values_in}
 use Rattle.proto_scenes.specs.SceneOf.{is_enum_at}
-use Rattle.proto_rename_laws.specs.Cases.{kind_not_allowed, unknown_target}
-use Rattle.proto_rename_laws.specs.OneTarget.{TargetsAreThere}
-use Rattle.proto_rename_laws.specs.Places.{same_at}
-use Rattle.proto_rename_laws.specs.Targets.{HasEnum, IsNamed, Target, may_rename}
+use Rattle.proto_rename_laws.specs.Common.{kind_not_allowed, unknown_target, TargetsAreThere, same_at, HasEnum, IsNamed, Target, may_rename}
 use Rattle.proto_rename_laws.proofs.Blocks.{one_named}
 use Rattle.proto_rename_laws.proofs.NoLinkFault.{files_are_woven}
 use Rattle.proto_rename_laws.proofs.Declarations.{EndsAs, IsDeclaredBy, declared_by, ends_with_token, is_written, path_of, placed_ends, declared_there}

@@ -1,12 +1,9 @@
 -- An entry stands beside its field, and what an entry holds is named by the token of that field.
-use Rattle.std.proofs.Common.{◌≡◌, ℕ, List, [], ◌∷◌, ◌++◌, map, refl, arith}
-use Rattle.std.specs.List.{AllByRecursion, Contains}
-use Rattle.std.proofs.lemmas.List.Elements.{All-contains, All-from_recursion, Contains-append_left, Contains-append_right}
-use Rattle.proto_faults.proofs.Lists.{contains_later}
+use Rattle.std.proofs.Common.{◌≡◌, ℕ, List, [], ◌∷◌, ◌++◌, map, refl, arith, Contains}
+use Rattle.proto_faults.proofs.Common.{AllByRecursion, All-contains, All-from_recursion, Contains-append_left, Contains-append_right, contains_later}
 use Rattle.proto_meaning.specs.declared.kind.Kind.{Kind}
 use Rattle.proto_meaning.specs.declared.kind.Kind.TheVariants.{Message, Field, Value, Method}
-use Rattle.proto_meaning.specs.Skeleton.{Source, Token, EntryOf, Given}
-use Rattle.proto_meaning.specs.Tree.{Member, field, map_field, oneof, message, enum, service, Members, no_members, member, Items, no_items, packaged, item, package_of, Placed, place, placed, all_placed, prefixes, items_placed, file_placed}
+use Rattle.proto_meaning.proofs.Common.{Source, Token, EntryOf, Given, Member, field, map_field, oneof, message, enum, service, Members, no_members, member, Items, no_items, packaged, item, package_of, Placed, place, placed, all_placed, prefixes, items_placed, file_placed}
 
 -- where the name ends with no token, the field that it is of
 abbrev pub HasField : List Placed → List (Source ℕ) → Source ℕ → Type 0

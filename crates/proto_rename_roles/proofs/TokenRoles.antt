@@ -1,11 +1,7 @@
 -- The tokens of linked files have the roles that a rename wants of them (for the crates above).
-use Rattle.std.proofs.Common.{◌≡◌, ℕ, zero, suc, ◌+◌, ◌<◌, true, false, ◌⊎◌, List, [], ◌∷◌, ◌++◌, length, get_or, find, map, flat_map, Option, Some, None, is_some, refl, sym, ap, ap₂, subst, ◌∙◌, inl, inr, arith}
-use Rattle.std.specs.List.{Contains}
-use Rattle.std.proofs.lemmas.Bool.{eq-eqb}
-use Rattle.std.proofs.lemmas.List.Elements.{Contains-append_cases, Contains-append_right, Contains-get_or}
-use Rattle.std.proofs.lemmas.Option.{same_Some}
+use Rattle.std.proofs.Common.{◌≡◌, ℕ, zero, suc, ◌+◌, ◌<◌, true, false, ◌⊎◌, List, [], ◌∷◌, ◌++◌, length, get_or, find, map, flat_map, Option, Some, None, is_some, refl, sym, ap, ap₂, subst, ◌∙◌, inl, inr, arith, Contains, eq-eqb}
+use Rattle.proto_faults.proofs.Common.{Contains-append_cases, Contains-append_right, Contains-get_or, same_Some, contains_cases, contains_head, from_map}
 use Rattle.proto_case.specs.Camel.{entry_name}
-use Rattle.proto_faults.proofs.Lists.{contains_cases, contains_head, from_map}
 use Rattle.proto_text.proofs.OneEdit.{length_map}
 use Rattle.proto_tree.specs.declared.class.Class.{Class}
 use Rattle.proto_tree.specs.declared.class.Class.TheVariants as class
@@ -16,48 +12,23 @@ use Rattle.proto_tree.specs.declared.piece.Header.TheVariants as header
 use Rattle.proto_tree.specs.declared.tree.Constant.TheVariants as constant
 use Rattle.proto_tree.specs.declared.tree.FieldType.{FieldType}
 use Rattle.proto_tree.specs.declared.tree.Value.{Value as ValueParts}
-use Rattle.proto_tree.specs.Flat.{Mark}
-use Rattle.proto_tree.specs.Roles.{HasRole, Role, is_number, is_value, names, names_option, refers, role_of}
-use Rattle.proto_tree.specs.Tree.{Tree, End, Spells, flat}
-use Rattle.proto_tree.specs.Words.{classes}
-use Rattle.proto_tree.proofs.MarkLaws.{one_mark}
-use Rattle.proto_tree.proofs.Roles.{roles_are_one}
-use Rattle.proto_files.specs.FilesRead.{ReadOf, AreRead, read_at}
-use Rattle.proto_files.specs.GivenFiles.{FileOf}
+use Rattle.proto_tree.proofs.Common.{Mark, HasRole, Role, is_number, is_value, names, names_option, refers, role_of, Tree, End, Spells, flat, classes, one_mark, roles_are_one}
+use Rattle.proto_files.proofs.Common.{ReadOf, AreRead, read_at, FileOf}
 use Rattle.proto_meaning.specs.declared.kind.Kind.{Kind}
 use Rattle.proto_meaning.specs.declared.kind.Kind.TheVariants as kind
-use Rattle.proto_meaning.specs.Faults.{place_from, place_of}
-use Rattle.proto_meaning.specs.Grown.{At, at, declared_of, used_in}
-use Rattle.proto_meaning.specs.Linked.{IsLinked}
-use Rattle.proto_meaning.specs.Skeleton.{Source, Token, EntryOf, Given, Declared, Used, name_of, shifted_declared, shifted_source, spell}
-use Rattle.proto_meaning.specs.Tree.{Placed, file_placed, place}
-use Rattle.proto_meaning.proofs.Edited.{map_append}
-use Rattle.proto_meaning.proofs.Grown.{snoc_parts}
+use Rattle.proto_meaning.proofs.Common.{place_from, place_of, At, at, declared_of, used_in, IsLinked, Source, Token, EntryOf, Given, Declared, Used, name_of, shifted_declared, shifted_source, spell, Placed, file_placed, place, map_append, snoc_parts}
 use Rattle.proto_listing.specs.FromTree.{file_names, items_in}
 use Rattle.proto_listing.proofs.Roles.{declared_tokens_are_names, tokens_are_used_once, used_tokens_refer}
 use Rattle.proto_imports.specs.Links.{link_skeleton, names_in, names_of_files, text_of}
 use Rattle.proto_parts.specs.Parts.{BlockOf, FieldOf, OptionOf, blocks_in, fields_in, values_in}
-use Rattle.proto_checks_laws.specs.Declarations.{IsDeclared}
-use Rattle.proto_checks_laws.specs.Renamed.{asked_tokens}
+use Rattle.proto_checks_laws.proofs.Common.{IsDeclared, asked_tokens, blocks_are_declared, fields_are_declared, values_are_declared, options_are_of_one_field}
 use Rattle.proto_checks_laws.specs.Roles.{ValueHasRole}
-use Rattle.proto_checks_laws.proofs.Declarations.{blocks_are_declared, fields_are_declared, values_are_declared}
 use Rattle.proto_checks_laws.proofs.FieldOrder.{field_names_rise}
-use Rattle.proto_checks_laws.proofs.OneField.{options_are_of_one_field}
 use Rattle.proto_checks_laws.proofs.Roles.{defaults_are_not_asked, field_options_have_roles, names_are_not_asked, value_numbers_are_numbers}
-use Rattle.proto_rename_laws.specs.SceneOf.{is_enum_at, lexemes_of, scene_of}
-use Rattle.proto_rename_laws.specs.Defaults.{means_value, renamed_defaults, type_meaning}
-use Rattle.proto_rename_laws.specs.Places.{Names, Uses, front_of, renamed_places, standing}
-use Rattle.proto_rename_laws.specs.Roles.{AreApart, HasDefaultWords, HasEnumRoles, HasRoles, HasWants}
-use Rattle.proto_rename_laws.specs.Targets.{HasEnum, HasValue, IsEnumOf, IsNamed, Target, may_rename, name_map, renamed_words}
-use Rattle.proto_rename_laws.proofs.Declarations.{IsDeclaredBy, declared_by, declared_there, path_of}
+use Rattle.proto_rename_laws.proofs.Common.{is_enum_at, lexemes_of, scene_of, means_value, renamed_defaults, type_meaning, Names, Uses, front_of, renamed_places, standing, AreApart, HasDefaultWords, HasEnumRoles, HasRoles, HasWants, HasEnum, HasValue, IsEnumOf, IsNamed, Target, may_rename, name_map, renamed_words, IsDeclaredBy, declared_by, declared_there, path_of, name_of_file, used_by, word_of_file, files_are_linked, files_are_woven, enum_name, one_declared, one_enum, place_last, from_flat_map, stands_at, find_there, index_map}
 use Rattle.proto_rename_laws.proofs.DefaultTokens.{IsDefaultOf, default_of_file}
 use Rattle.proto_rename_roles.proofs.EntryFields.{HasField, has_field}
-use Rattle.proto_rename_laws.proofs.Inside.{name_of_file, used_by, word_of_file}
-use Rattle.proto_rename_laws.proofs.NoLinkFault.{files_are_linked, files_are_woven}
 use Rattle.proto_rename_laws.proofs.OldTexts.{changed_to}
-use Rattle.proto_rename_laws.proofs.OneTarget.{enum_name, one_declared, one_enum, place_last}
-use Rattle.proto_rename_laws.proofs.Places.{from_flat_map, stands_at}
-use Rattle.proto_rename_laws.proofs.Scenes.{find_there, index_map}
 use Rattle.proto_rename_roles.specs.TokenRoles.{AllTokensHaveRoles}
 use Rattle.proto_rename_roles.proofs.ValueMarks.{value_of_mark}
 

@@ -1,8 +1,6 @@
 -- A place that wants a value's name is that of an enum's value, in a block of the tree.
-use Rattle.std.proofs.Common.{◌≡◌, ℕ, Bool, true, false, List, [], ◌∷◌, ◌++◌, ◌⊎◌, Option, Some, None, refl, sym, ap, ◌∙◌, inl, inr, arith}
-use Rattle.std.specs.List.{Contains}
-use Rattle.std.proofs.lemmas.List.Elements.{Contains-append_left, Contains-append_right, Contains-append_cases}
-use Rattle.proto_faults.proofs.Lists.{contains_cases, contains_head, contains_later}
+use Rattle.std.proofs.Common.{◌≡◌, ℕ, Bool, true, false, List, [], ◌∷◌, ◌++◌, ◌⊎◌, Option, Some, None, refl, sym, ap, ◌∙◌, inl, inr, arith, Contains}
+use Rattle.proto_faults.proofs.Common.{Contains-append_left, Contains-append_right, Contains-append_cases, contains_cases, contains_head, contains_later}
 use Rattle.proto_tree.specs.declared.class.Class.{Class}
 use Rattle.proto_tree.specs.declared.class.Class.TheVariants as class
 use Rattle.proto_tree.specs.declared.class.Want.{Want}
@@ -34,10 +32,7 @@ use Rattle.proto_tree.specs.declared.tree.Signature.{Signature}
 use Rattle.proto_tree.specs.declared.tree.Signed.{Signed}
 use Rattle.proto_tree.specs.declared.tree.UpTo.{UpTo}
 use Rattle.proto_tree.specs.declared.tree.Value.{Value}
-use Rattle.proto_tree.specs.Answer.{IsOuter}
-use Rattle.proto_tree.specs.Flat.{Mark, mark, name, one as one_mark, only, text, word, flat_all, flat_behind, flat_constant, flat_field, flat_from, flat_header, flat_map_field, flat_method_type, flat_number, flat_option, flat_range, flat_range_end, flat_reference, flat_reserved, flat_reserved_list, flat_separated, flat_setting, flat_settings, flat_signature, flat_signed, flat_statement, flat_type, flat_up_to, flat_words}
-use Rattle.proto_tree.specs.Tree.{Tree, End, Leaf, Block, IsWellFormed, after, allows, flat, header_kind, statement_kind}
-use Rattle.proto_tree.proofs.Walks.{last_outer}
+use Rattle.proto_tree.proofs.Common.{IsOuter, Mark, mark, name, one as one_mark, only, text, word, flat_all, flat_behind, flat_constant, flat_field, flat_from, flat_header, flat_map_field, flat_method_type, flat_number, flat_option, flat_range, flat_range_end, flat_reference, flat_reserved, flat_reserved_list, flat_separated, flat_setting, flat_settings, flat_signature, flat_signed, flat_statement, flat_type, flat_up_to, flat_words, Tree, End, Leaf, Block, IsWellFormed, after, allows, flat, header_kind, statement_kind, last_outer}
 use Rattle.proto_parts.specs.Parts.{BlockOf, blocks_in, statement_values, values_in}
 use Rattle.proto_checks_laws.proofs.Outermost.{no_value}
 

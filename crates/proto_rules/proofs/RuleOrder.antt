@@ -1,11 +1,6 @@
 -- The rules by their numbers, and the order of their identifiers (for the crates above).
-use Rattle.std.proofs.Common.{◌≡◌, ◌↔◌, ℕ, zero, suc, ◌<◌, ◌≤◌, Bool, true, false, ◌&&◌, List, [], ◌∷◌, length, slice_index_or, slice_get, Some, None, bytes_eq, refl, sym, ap, ◌∙◌, arith}
-use Rattle.std.proofs.lemmas.Cmp.{by_ranked, nat_list_cmp_total, on_total, ranked, tied_itself}
-use Rattle.std.specs.Cmp.{IsTotalOrder}
-use Rattle.std.specs.Cmp.Lexicographic.{nat_list_eq_equiv, same_text, slice_cmp}
-use Rattle.std.specs.Ordering.{nat_cmp, is_lt, ordering_reverse}
-use Rattle.std.specs.declared.cmp.Ordering.{Ordering}
-use Rattle.std.specs.declared.cmp.Ordering.TheVariants.{Less, Equal, Greater}
+use Rattle.std.proofs.Common.{◌≡◌, ◌↔◌, ℕ, zero, suc, ◌<◌, ◌≤◌, Bool, true, false, ◌&&◌, List, [], ◌∷◌, length, slice_index_or, slice_get, Some, None, bytes_eq, refl, sym, ap, ◌∙◌, arith, nat_cmp, is_lt}
+use Rattle.proto_faults.proofs.Common.{by_ranked, nat_list_cmp_total, on_total, ranked, tied_itself, IsTotalOrder, nat_list_eq_equiv, same_text, slice_cmp, ordering_reverse, Ordering, Less, Equal, Greater}
 use Rattle.proto_rules.specs.declared.rule.Rule.{Rule}
 use Rattle.proto_rules.specs.declared.rule.Rule.TheVariants as rule
 use Rattle.proto_rules.specs.contracts.rule.RuleOrd.TheImpl as derived

@@ -1,29 +1,17 @@
 -- The rows of a file's enums are those that its blocks give.
-use Rattle.std.proofs.Common.{◌≡◌, ℕ, ◌==◌, Bool, true, false, cond, List, [], ◌∷◌, ◌++◌, length, Option, Some, None, option_map, refl, sym, ap, subst, ◌∙◌, inl, inr, arith}
-use Rattle.std.specs.Prelude.{nat_eq, is_some}
-use Rattle.std.specs.Option.{option_or, option_and_then}
-use Rattle.std.specs.List.{filter, find}
-use Rattle.std.proofs.lemmas.Bool.{eqb-true}
-use Rattle.std.proofs.lemmas.List.{get_or_past}
-use Rattle.std.proofs.lemmas.List.Folds.{find-append}
-use Rattle.std.proofs.lemmas.Option.{slice_get_cases}
-use Rattle.std.specs.Map.{lookup}
+use Rattle.std.proofs.Common.{◌≡◌, ℕ, ◌==◌, Bool, true, false, cond, List, [], ◌∷◌, ◌++◌, length, Option, Some, None, option_map, refl, sym, ap, subst, ◌∙◌, inl, inr, arith, nat_eq, is_some, option_and_then, filter, find, eqb-true}
+use Rattle.proto_faults.proofs.Common.{option_or, get_or_past, find-append, slice_get_cases, lookup}
 use Rattle.indexmap.specs.IndexMap.{IndexMap, IsEmpty, get}
 use Rattle.proto_text.specs.Tokens.{Lexeme}
 use Rattle.proto_tree.specs.declared.piece.Header.{Header}
 use Rattle.proto_tree.specs.declared.piece.Header.TheVariants as header
 use Rattle.proto_tree.specs.declared.tree.Block.{Block as Braced}
 use Rattle.proto_tree.specs.declared.tree.EnumItem.{EnumItem}
-use Rattle.proto_tree.specs.File.{enum_item_tree, trees}
-use Rattle.proto_tree.specs.Tree.{Tree, End}
-use Rattle.proto_files.specs.GivenFiles.{FileOf}
+use Rattle.proto_tree.proofs.Common.{enum_item_tree, trees, Tree, End}
+use Rattle.proto_files.proofs.Common.{FileOf, Each, ReadOf, AreRead}
 use Rattle.proto_meaning.specs.Grown.{at}
-use Rattle.proto_files.specs.FilesRead.{Each, ReadOf, AreRead}
-use Rattle.proto_parts.specs.Parts.{BlockOf, blocks_in}
-use Rattle.proto_parts.specs.Scenes.{EnumOf}
-use Rattle.proto_scenes.specs.Enums.{AreEnumsOf, IsEnumTable, enum_among, enum_block, enum_of_row, enums_in, is_enum, row_at}
-use Rattle.proto_scenes.specs.SceneOf.{enum_at, enum_within, is_enum_at, is_proto3_file, lexemes_of}
-use Rattle.proto_scenes.specs.declared.enum_table.EnumRow.{EnumRow}
+use Rattle.proto_parts.proofs.Common.{BlockOf, blocks_in, EnumOf}
+use Rattle.proto_scenes.specs.Common.{AreEnumsOf, IsEnumTable, enum_among, enum_block, enum_of_row, enums_in, is_enum, row_at, enum_at, enum_within, is_enum_at, is_proto3_file, lexemes_of, EnumRow}
 
 -- ---- finding among those that pass another test
 

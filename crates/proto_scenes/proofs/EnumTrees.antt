@@ -6,8 +6,7 @@ use Rattle.proto_tree.specs.declared.tree.Field.{Field}
 use Rattle.proto_tree.specs.declared.tree.Member.{Member}
 use Rattle.proto_tree.specs.declared.tree.ServiceItem.{ServiceItem}
 use Rattle.proto_tree.specs.File.{enum_item_tree, enum_tree, field_tree, member_tree, message_tree, oneof_tree, service_tree, trees}
-use Rattle.proto_parts.specs.Parts.{BlockOf}
-use Rattle.proto_parts.proofs.ItemBlocks.{no_block_in_enum, no_method_within, none_within, wanted_within}
+use Rattle.proto_parts.proofs.Common.{BlockOf, no_block_in_enum, no_method_within, none_within, wanted_within}
 use Rattle.proto_scenes.specs.Enums.{enum_block, enums_in, is_enum}
 
 pub enum_alone : (e : Braced EnumItem) → enums_in (enum_tree e) ≡ enum_block e ∷ []

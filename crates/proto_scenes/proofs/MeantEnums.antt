@@ -1,35 +1,18 @@
 -- What the references of a file mean, with the enums, as the link and the table of enums say it.
-use Rattle.std.proofs.Common.{◌≡◌, ◌≢◌, ℕ, suc, ◌<◌, Bool, true, false, cond, if◌then◌else◌, List, [], ◌∷◌, length, get_or, map, Option, Some, None, option_map, refl, sym, ap, ◌∙◌, inl, inr, arith}
-use Rattle.std.specs.Option.{option_and_then}
-use Rattle.std.specs.List.{All, AllPairs, Contains, find}
-use Rattle.std.proofs.lemmas.Option.{none-some, same_Some, slice_get-get_or}
-use Rattle.proto_faults.specs.Texts.{or_nothing}
-use Rattle.proto_files.specs.GivenFiles.{FileOf}
+use Rattle.std.proofs.Common.{◌≡◌, ◌≢◌, ℕ, suc, ◌<◌, Bool, true, false, cond, if◌then◌else◌, List, [], ◌∷◌, length, get_or, map, Option, Some, None, option_map, refl, sym, ap, ◌∙◌, inl, inr, arith, option_and_then, All, AllPairs, Contains, find}
+use Rattle.proto_faults.proofs.Common.{none-some, same_Some, slice_get-get_or, or_nothing, contains_cases, contains_head, contains_later, contains_map, from_map}
+use Rattle.proto_files.proofs.Common.{FileOf, ReadOf}
 use Rattle.proto_case.specs.Camel.{entry_name}
-use Rattle.proto_meaning.specs.Faults.{place_of}
-use Rattle.proto_names.specs.Links.{uses_of}
-use Rattle.proto_meaning.specs.Grown.{At, at}
-use Rattle.proto_meaning.specs.Joined.{joined}
-use Rattle.proto_meaning.specs.Linked.{is_package}
-use Rattle.proto_names.specs.LinkOfFiles.{IsLinkRead, TextMeant, meant_by_link, meant_by_use}
-use Rattle.proto_names.specs.Linking.{LinkOf, NameOf, name_at, own_file, own_token}
-use Rattle.proto_files.specs.FilesRead.{ReadOf}
-use Rattle.proto_names.specs.Links.{link_skeleton, names_of_files, text_of}
-use Rattle.proto_meaning.specs.Names.{Symbol, is_type, same_name}
+use Rattle.proto_meaning.proofs.Common.{place_of, At, at, joined, is_package, Symbol, is_type, same_name, Declared, Used, name_of, symbol_of, name_from_same, same_from_name, meant}
+use Rattle.proto_names.specs.Links.{uses_of, link_skeleton, names_of_files, text_of, used_named}
+use Rattle.proto_names.proofs.Common.{IsLinkRead, TextMeant, meant_by_link, meant_by_use, LinkOf, NameOf, name_at, own_file, own_token, declared_as as stands_at}
 use Rattle.proto_meaning.specs.declared.kind.Kind.{Kind}
 use Rattle.proto_meaning.specs.declared.kind.Kind.TheVariants.{Package, Message, Entry, Enum, Service, Field, EntryField, Oneof, Value, Method}
-use Rattle.proto_names.specs.Links.{used_named}
-use Rattle.proto_meaning.specs.Skeleton.{Declared, Used, name_of, symbol_of}
 use Rattle.proto_names.specs.declared.references.Meant.{Meant}
-use Rattle.proto_faults.proofs.Lists.{contains_cases, contains_head, contains_later, contains_map, from_map}
-use Rattle.proto_meaning.proofs.Basics.{name_from_same, same_from_name}
-use Rattle.proto_names.proofs.MeantNames.{declared_as as stands_at}
-use Rattle.proto_meaning.proofs.Renamed.{meant}
 use Rattle.proto_names.proofs.LinkMeanings.{rising_by}
 use Rattle.proto_parts.specs.declared.scene.MeantAt.{MeantAt}
 use Rattle.proto_parts.specs.Scenes.{EnumOf, MeantOf}
-use Rattle.proto_scenes.specs.Meanings.{enum_of_name, meant_in_table}
-use Rattle.proto_scenes.specs.SceneOf.{enum_at, enum_named, meaning_of, meant_as, means_of}
+use Rattle.proto_scenes.specs.Common.{enum_of_name, meant_in_table, enum_at, enum_named, meaning_of, meant_as, means_of}
 
 -- as the tokens of other elements rise, so do these
 pub means_rise : (xs : List MeantAt) (ys : List Meant) → map (λ m. m.token) xs ≡ map (λ m. m.token) ys → AllPairs (λ a b. a.token < b.token) ys → AllPairs (λ a b. a.token < b.token) xs

@@ -1,21 +1,13 @@
 -- What the code reads of a file is what is read of it, in any reading.
-use Rattle.std.proofs.Common.{◌≡◌, ℕ, ◌<◌, Bool, List, length, map, Some, option_map, sym, ap, ◌∙◌}
-use Rattle.std.specs.List.{find}
+use Rattle.std.proofs.Common.{◌≡◌, ℕ, ◌<◌, Bool, List, length, map, Some, option_map, sym, ap, ◌∙◌, find}
 use Rattle.indexmap.specs.IndexMap.{IndexMap}
 use Rattle.proto_text.specs.declared.lexer.Token.{Token}
 use Rattle.proto_text.specs.Tokens.{Lexeme, lexeme_at}
 use Rattle.proto_tree.specs.Tree.{Tree}
-use Rattle.proto_files.specs.GivenFiles.{FileOf, file_at}
+use Rattle.proto_files.proofs.Common.{FileOf, file_at, AreTokensOf, ReadOf, AreRead, read_at, IsTreeOf, same_tree}
 use Rattle.proto_meaning.specs.Grown.{at}
-use Rattle.proto_files.specs.FileTokens.{AreTokensOf}
-use Rattle.proto_files.specs.FilesRead.{ReadOf, AreRead, read_at}
-use Rattle.proto_files.proofs.OneReading.{IsTreeOf, same_tree}
-use Rattle.proto_parts.specs.Numbers.{past}
-use Rattle.proto_parts.specs.Parts.{blocks_in}
-use Rattle.proto_parts.specs.Scenes.{MeantOf, Scene, is_proto3, value_in}
-use Rattle.proto_scenes.specs.Enums.{AreEnumsOf, row_at}
-use Rattle.proto_scenes.specs.SceneOf.{enum_at, enum_within, is_enum_at, is_proto3_file, lexemes_of, means_of, scene_of}
-use Rattle.proto_scenes.specs.declared.enum_table.EnumRow.{EnumRow}
+use Rattle.proto_parts.proofs.Common.{past, blocks_in, MeantOf, Scene, is_proto3, value_in}
+use Rattle.proto_scenes.specs.Common.{AreEnumsOf, row_at, enum_at, enum_within, is_enum_at, is_proto3_file, lexemes_of, means_of, scene_of, EnumRow}
 
 module _ (files : List FileOf) (file : ℕ) (within : file < length files) (words : List Lexeme) (spelled : (tokens : List Token) → AreTokensOf files file tokens → words ≡ map (lexeme_at (file_at files file).bytes) tokens) (tree : Tree) (of_file : IsTreeOf (file_at files file).bytes tree) (reads : List ReadOf) (are : AreRead files reads) where
   words_are : words ≡ lexemes_of files reads file

@@ -1,3 +1,4 @@
+pub mod Common
 pub mod Enums
 pub mod Meanings
 pub mod SceneOf

@@ -1,11 +1,7 @@
 -- Words that are plain.
-use Rattle.std.proofs.Common.{◌≡◌, ℕ, Bool, true, false, ◌==◌, List, [], ◌∷◌, length, refl, sym, ◌∙◌, ap, subst, arith, not}
-use Rattle.std.specs.List.{list_any}
-use Rattle.std.specs.Str.{bytes_eq}
-use Rattle.std.proofs.lemmas.Slice.Eq.{bytes_eq-Decides}
-use Rattle.proto_text.proofs.Once.{one_token_list}
-use Rattle.proto_text.specs.Texts.{words}
-use Rattle.proto_text.specs.Tokens.{AreTokens}
+use Rattle.std.proofs.Common.{◌≡◌, ℕ, Bool, true, false, ◌==◌, List, [], ◌∷◌, length, refl, sym, ◌∙◌, ap, subst, arith, not, bytes_eq}
+use Rattle.proto_faults.proofs.Common.{list_any, bytes_eq-Decides}
+use Rattle.proto_text.proofs.Common.{one_token_list, words, AreTokens}
 use Rattle.proto_text.specs.declared.lexer.Token.{Token}
 use Rattle.proto_meaning.specs.Joined.{IsPlain, ArePlain}
 

@@ -1,12 +1,9 @@
 -- No field that is deleted is what comes in its place, told by its tokens.
-use Rattle.std.proofs.Common.{◌≡◌, ◌≢◌, ℕ, suc, ◌+◌, ◌-◌, true, Option, Some, None, List, [], ◌∷◌, ◌++◌, length, take, drop, map, codes, refl, sym, ap, ap₂, subst, ◌∙◌, arith, length-append, append_assoc, length-take, length-drop}
-use Rattle.std.proofs.lemmas.List.{length-map, length-take-le}
+use Rattle.std.proofs.Common.{◌≡◌, ◌≢◌, ℕ, suc, ◌+◌, ◌-◌, true, Option, Some, None, List, [], ◌∷◌, ◌++◌, length, take, drop, map, codes, refl, sym, ap, ap₂, subst, ◌∙◌, arith, length-append, append_assoc, length-take, length-drop, length-take-le}
+use Rattle.std.proofs.lemmas.List.{length-map}
 use Rattle.proto_text.specs.declared.kind.TokenKind.TheVariants.{Word, Punctuation}
 use Rattle.proto_text.specs.declared.lexer.Token.{Token}
-use Rattle.proto_text.specs.Edits.{Edit, Puts}
-use Rattle.proto_text.specs.Segments.{moved}
-use Rattle.proto_text.specs.Tokens.{AreTokens, Lexeme, lexeme_at}
-use Rattle.proto_text.proofs.Once.{one_token_list}
+use Rattle.proto_text.proofs.Common.{Edit, Puts, moved, AreTokens, Lexeme, lexeme_at, one_token_list}
 use Rattle.proto_tree.specs.declared.class.Class.TheVariants as class
 use Rattle.proto_tree.specs.declared.class.Want.TheVariants as want
 use Rattle.proto_tree.specs.declared.context.Context.TheVariants as context
@@ -15,18 +12,8 @@ use Rattle.proto_tree.specs.declared.piece.Statement.TheVariants as statement
 use Rattle.proto_tree.specs.declared.tree.FieldType.{FieldType}
 use Rattle.proto_tree.specs.declared.tree.FieldType.TheVariants as field_type
 use Rattle.proto_tree.specs.declared.tree.Separated.{Separated}
-use Rattle.proto_tree.specs.Classes.{fits}
-use Rattle.proto_tree.specs.Flat.{Mark, Fit, mark, only, flat_option, flat_type, flat_words, flat_statement}
-use Rattle.proto_tree.specs.Moved.{Move, shift}
-use Rattle.proto_tree.specs.Reads.{Reads}
-use Rattle.proto_tree.specs.Tree.{Tree, End, Leaf, flat}
-use Rattle.proto_tree.specs.Words.{class_by, classes}
-use Rattle.proto_tree.proofs.MarkLaws.{trees_are_numbered}
-use Rattle.proto_statement_laws.specs.Deletions.{IsDeleted, IsFieldOf, StandsAt, deletion, first_token, next_token, own, without}
-use Rattle.proto_statement_laws.specs.Statements.{reservation_tokens, semicolon, token}
-use Rattle.proto_statement_laws.proofs.Exchanged.{around}
-use Rattle.proto_statement_laws.proofs.Found.{found}
-use Rattle.proto_statement_laws.proofs.TakenOut.{close_at, closed, through}
+use Rattle.proto_tree.proofs.Common.{fits, Mark, Fit, mark, only, flat_option, flat_type, flat_words, flat_statement, Move, shift, Reads, Tree, End, Leaf, flat, class_by, classes, trees_are_numbered}
+use Rattle.proto_statement_laws.proofs.Common.{IsDeleted, IsFieldOf, StandsAt, deletion, first_token, next_token, own, without, reservation_tokens, semicolon, token, around, found, close_at, closed, through}
 
 -- ---- a text that is put as it was
 

@@ -1,10 +1,8 @@
 -- A deletion changes one file by one splice, which is an entry.
 use Rattle.std.proofs.Common.{◌≢◌, ℕ, Option, Some, None, List}
 use Rattle.proto_text.specs.declared.lexer.Token.{Token}
-use Rattle.proto_tree.specs.Reads.{Reads}
-use Rattle.proto_tree.specs.Tree.{Tree}
-use Rattle.proto_files.specs.FilesRead.{read_at}
-use Rattle.proto_files.specs.GivenFiles.{file_at}
+use Rattle.proto_tree.proofs.Common.{Reads, Tree}
+use Rattle.proto_files.proofs.Common.{read_at, file_at}
 use Rattle.proto_statement_laws.specs.Deletions.{DeletionsAreOfOneTree, IsDeleted, StandsAt, deletion}
 use Rattle.proto_statement_changes.specs.DeletionChanges.{DeletionsAreChanges, name_of_field, number_of_field, splice_of_deletion}
 use Rattle.proto_statement_changes.proofs.Apart.{from_message, from_oneof}

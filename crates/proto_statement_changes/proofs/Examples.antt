@@ -1,6 +1,5 @@
 -- The definitions on small schemas, computed.
-use Rattle.std.proofs.Common.{◌≡◌, ℕ, suc, List, [], ◌∷◌, ◌++◌, Some, None, codes, refl}
-use Rattle.std.specs.Fmt.{decimal}
+use Rattle.std.proofs.Common.{◌≡◌, ℕ, suc, List, [], ◌∷◌, ◌++◌, Some, None, codes, refl, decimal}
 use Rattle.proto_text.specs.declared.kind.TokenKind.{TokenKind}
 use Rattle.proto_text.specs.declared.kind.TokenKind.TheVariants.{Word, Number, Text, Punctuation}
 use Rattle.proto_text.specs.declared.lexer.Token.{Token}
@@ -11,9 +10,7 @@ use Rattle.proto_tree.specs.declared.tree.FieldType.TheVariants as field_type
 use Rattle.proto_tree.specs.declared.tree.Import.{Import}
 use Rattle.proto_tree.specs.Tree.{Tree, End, Leaf, Block}
 use Rattle.proto_parts.specs.Numbers.{number_of}
-use Rattle.proto_statement_laws.specs.Deletions.{deletion}
-use Rattle.proto_statement_laws.specs.Imports.{added_text, addition, drop_of, import_place}
-use Rattle.proto_statement_laws.specs.Statements.{reservation_text}
+use Rattle.proto_statement_laws.proofs.Common.{deletion, added_text, addition, drop_of, import_place, reservation_text}
 
 abbrev tok : TokenKind → ℕ → ℕ → Token
 tok kind start end = record { kind = kind; span = record { start = start; end = end } }

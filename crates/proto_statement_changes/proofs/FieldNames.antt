@@ -6,24 +6,11 @@ use Rattle.proto_text.specs.declared.kind.PieceKind.TheVariants.{Solid}
 use Rattle.proto_text.specs.declared.kind.TokenKind.{TokenKind}
 use Rattle.proto_text.specs.declared.kind.TokenKind.TheVariants.{Word}
 use Rattle.proto_text.specs.declared.lexer.Token.{Token}
-use Rattle.proto_text.specs.Pieces.{IsLexeme, IsRun}
-use Rattle.proto_text.specs.SourceFacts.{text_at}
-use Rattle.proto_text.specs.Texts.{words}
-use Rattle.proto_text.specs.Tokens.{Lexeme, lexeme_at}
-use Rattle.proto_text.proofs.OneEdit.{word_at_token}
-use Rattle.proto_text.proofs.Order.{token_is_lexeme}
+use Rattle.proto_text.proofs.Common.{IsLexeme, IsRun, text_at, words, Lexeme, lexeme_at, word_at_token, token_is_lexeme}
 use Rattle.proto_tree.specs.declared.class.Want.TheVariants as want
 use Rattle.proto_tree.specs.declared.piece.Statement.{Statement}
-use Rattle.proto_tree.specs.Classes.{fits}
-use Rattle.proto_tree.specs.Flat.{Mark, mark}
-use Rattle.proto_tree.specs.Laws.{HasStatement}
-use Rattle.proto_tree.specs.Reads.{Reads}
-use Rattle.proto_tree.specs.Tree.{Tree}
-use Rattle.proto_tree.specs.Words.{class_by}
-use Rattle.proto_tree.proofs.MarkLaws.{marks_fit, statements_have_marks}
-use Rattle.proto_tree.proofs.WordLaws.{words_only}
-use Rattle.proto_statement_laws.specs.Deletions.{IsFieldOf, StandsAt, InMessage, InOneof, Deeper, PastLeaf, PastBlock, StandsIn, First, AfterLeaf, AfterBlock}
-use Rattle.proto_statement_laws.proofs.StandsOnce.{name_mark}
+use Rattle.proto_tree.proofs.Common.{fits, Mark, mark, HasStatement, Reads, Tree, class_by, marks_fit, statements_have_marks, words_only}
+use Rattle.proto_statement_laws.proofs.Common.{IsFieldOf, StandsAt, InMessage, InOneof, Deeper, PastLeaf, PastBlock, StandsIn, First, AfterLeaf, AfterBlock, name_mark}
 
 in_items : {s : Statement} (t : Tree) → StandsIn s t → HasStatement s t
 in_items _ (First rest) = inl refl

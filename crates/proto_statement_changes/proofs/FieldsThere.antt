@@ -1,22 +1,17 @@
 -- Each declared field has its statement.
-use Rattle.std.proofs.Common.{◌≡◌, ◌⊎◌, inl, inr, ℕ, Option, Some, None, List, [], ◌∷◌, ◌++◌, map, refl, sym, ap, subst, ◌∙◌, arith}
-use Rattle.std.specs.List.{Contains}
-use Rattle.std.proofs.lemmas.List.Elements.{Contains-append_cases}
-use Rattle.proto_faults.proofs.Lists.{contains_cases, from_map}
+use Rattle.std.proofs.Common.{◌≡◌, ◌⊎◌, inl, inr, ℕ, Option, Some, None, List, [], ◌∷◌, ◌++◌, map, refl, sym, ap, subst, ◌∙◌, arith, Contains}
+use Rattle.proto_faults.proofs.Common.{Contains-append_cases, contains_cases, from_map}
 use Rattle.proto_tree.specs.declared.piece.Header.{Header}
 use Rattle.proto_tree.specs.declared.piece.Header.TheVariants as header
 use Rattle.proto_tree.specs.declared.piece.Heading.{Heading}
 use Rattle.proto_tree.specs.declared.piece.Statement.{Statement}
 use Rattle.proto_tree.specs.declared.piece.Statement.TheVariants as statement
-use Rattle.proto_tree.specs.Tree.{Tree, End, Leaf, Block}
+use Rattle.proto_tree.proofs.Common.{Tree, End, Leaf, Block, dotted}
 use Rattle.proto_meaning.specs.declared.kind.Kind.{Kind}
 use Rattle.proto_meaning.specs.declared.kind.Kind.TheVariants as kind
-use Rattle.proto_meaning.specs.Skeleton.{Source, Token, EntryOf, Given}
-use Rattle.proto_meaning.specs.Tree.{Items, Placed, all_placed, items_placed, key_word, package_of, place, placed, prefixes, map_field, value_word}
-use Rattle.proto_tree.specs.References.{dotted}
+use Rattle.proto_meaning.proofs.Common.{Source, Token, EntryOf, Given, Items, Placed, all_placed, items_placed, key_word, package_of, place, placed, prefixes, map_field, value_word}
 use Rattle.proto_listing.specs.FromTree.{block_names, field_names, items_in, members_in, method_names, no_names, picked, value_names}
-use Rattle.proto_files.specs.FilesRead.{read_at}
-use Rattle.proto_files.specs.GivenFiles.{file_at}
+use Rattle.proto_files.proofs.Common.{read_at, file_at}
 use Rattle.proto_statement_laws.specs.Deletions.{FieldsStandOnce, IsFieldOf, StandsAt, InMessage, InOneof, Deeper, PastLeaf, PastBlock, StandsIn, First, AfterLeaf, AfterBlock}
 use Rattle.proto_statement_changes.specs.DeletionChanges.{FieldAt, FieldsAreOne, FieldsAreThere}
 

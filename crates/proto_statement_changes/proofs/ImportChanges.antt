@@ -1,26 +1,15 @@
 -- An added import and a dropped one change one file by one splice, which is an entry.
 use Rattle.std.proofs.Common.{◌≡◌, ◌≢◌, ℕ, zero, suc, ◌+◌, ◌-◌, ◌<◌, ◌≤◌, List, [], ◌++◌, length, take, drop, map, ap, ◌∙◌, arith, length-append}
-use Rattle.std.proofs.lemmas.List.{length-map}
-use Rattle.proto_faults.specs.Texts.{text_limit}
+use Rattle.proto_faults.proofs.Common.{length-map, text_limit}
 use Rattle.proto_text.specs.declared.lexer.Token.{Token}
-use Rattle.proto_text.specs.Segments.{QuotedStandsForItself, bytes_between, end_before, moved}
-use Rattle.proto_text.specs.Tokens.{Lexeme, lexeme_at}
+use Rattle.proto_text.proofs.Common.{QuotedStandsForItself, bytes_between, end_before, moved, Lexeme, lexeme_at}
 use Rattle.proto_tree.specs.declared.context.Context.TheVariants as context
 use Rattle.proto_tree.specs.declared.piece.Statement.{Statement}
 use Rattle.proto_tree.specs.declared.piece.Statement.TheVariants as statement
 use Rattle.proto_tree.specs.declared.tree.Import.{Import}
-use Rattle.proto_tree.specs.Flat.{Mark}
-use Rattle.proto_tree.specs.Moved.{Move, shift}
-use Rattle.proto_tree.specs.Reads.{Reads}
-use Rattle.proto_tree.specs.Tree.{Tree, End, Leaf, flat}
-use Rattle.proto_files.specs.FilesRead.{read_at}
-use Rattle.proto_files.specs.GivenFiles.{file_at}
-use Rattle.proto_statement_laws.specs.Deletions.{own}
-use Rattle.proto_statement_laws.specs.Imports.{AdditionsAreRead, DropsAreRead, IsDropped, added_text, addition, drop_of, import_place}
-use Rattle.proto_statement_laws.proofs.Exchanged.{around}
-use Rattle.proto_statement_laws.proofs.Marks.{some_marks}
-use Rattle.proto_statement_laws.proofs.Seams.{fit_long}
-use Rattle.proto_statement_laws.proofs.TakenOut.{leaf_long}
+use Rattle.proto_tree.proofs.Common.{Mark, Move, shift, Reads, Tree, End, Leaf, flat}
+use Rattle.proto_files.proofs.Common.{read_at, file_at}
+use Rattle.proto_statement_laws.proofs.Common.{own, AdditionsAreRead, DropsAreRead, IsDropped, added_text, addition, drop_of, import_place, around, some_marks, fit_long, leaf_long}
 use Rattle.proto_statement_changes.specs.ImportChanges.{AdditionsAreChanges, DropsAreChanges, splice_of_addition, splice_of_drop}
 use Rattle.proto_statement_changes.proofs.Apart.{same_tokens}
 use Rattle.proto_statement_changes.proofs.OneFile.{changed_by}

@@ -1,4 +1,5 @@
 mod Apart
+pub mod Common
 mod DeletionChanges
 mod Examples
 pub mod FieldNames

@@ -1,24 +1,11 @@
 -- One splice that changes a file of a workspace (for the crates above).
-use Rattle.std.proofs.Common.{◌≡◌, ◌≢◌, inl, inr, ℕ, zero, suc, ◌+◌, ◌<◌, ◌≤◌, List, [], ◌∷◌, ◌++◌, length, get_or, All, refl, sym, ap, subst, ◌∙◌, arith, length-append}
-use Rattle.std.specs.Prelude.{AllPairs, Contains}
-use Rattle.std.specs.Str.{IsUtf8}
-use Rattle.std.proofs.lemmas.Bool.{cases_lt, cases_order}
-use Rattle.std.proofs.lemmas.List.{get_or-set_same, get_or-set_other, length-set}
-use Rattle.std.proofs.lemmas.List.Elements.{All-cons, All-head, All-nil}
-use Rattle.proto_faults.specs.Texts.{text_limit}
+use Rattle.std.proofs.Common.{◌≡◌, ◌≢◌, inl, inr, ℕ, zero, suc, ◌+◌, ◌<◌, ◌≤◌, List, [], ◌∷◌, ◌++◌, length, get_or, All, refl, sym, ap, subst, ◌∙◌, arith, length-append, AllPairs, Contains, IsUtf8, get_or-set_same, get_or-set_other, length-set}
+use Rattle.proto_faults.proofs.Common.{cases_lt, cases_order, All-cons, All-head, All-nil, text_limit, contains_cases, contains_head}
 use Rattle.proto_text.specs.declared.lexer.Token.{Token}
 use Rattle.proto_text.specs.Edits.{Edit, Puts}
-use Rattle.proto_faults.proofs.Lists.{contains_cases, contains_head}
-use Rattle.proto_tree.specs.Reads.{Reads}
-use Rattle.proto_tree.specs.Tree.{Tree, End}
-use Rattle.proto_files.specs.FilesRead.{ReadOf, read_at}
-use Rattle.proto_files.specs.GivenFiles.{FileOf, file_at}
-use Rattle.proto_files.specs.ReadFaults.{IsText}
-use Rattle.proto_files.specs.WorkspacePaths.{IsBefore, IsWorkspacePath}
-use Rattle.proto_files.proofs.PathOrder.{never_before_itself}
-use Rattle.proto_entries.specs.Entries.{ChangeOf, HasLengths, IsChange, IsEntry, IsMeasured}
-use Rattle.proto_entries.specs.Putting.{EachPuts, IsPut, PutsFile}
-use Rattle.proto_entries.proofs.Walks.{puts_keep_paths}
+use Rattle.proto_tree.proofs.Common.{Reads, Tree, End}
+use Rattle.proto_files.proofs.Common.{ReadOf, read_at, FileOf, file_at, IsText, IsBefore, IsWorkspacePath, never_before_itself}
+use Rattle.proto_entries.proofs.Common.{ChangeOf, HasLengths, IsChange, IsEntry, IsMeasured, EachPuts, IsPut, PutsFile, puts_keep_paths}
 use Rattle.proto_statement_changes.specs.OneFile.{AreFiles, IsChangedBy, IsTooLong, length_with, one_change, with_read, with_text}
 
 -- ---- lengths

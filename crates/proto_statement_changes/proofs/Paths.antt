@@ -1,14 +1,7 @@
 -- A workspace path stands in quotes as it is (for the crates above).
-use Rattle.std.proofs.Common.{◌≡◌, ℕ, ◌<◌, ◌≤◌, true, false, eqb, List, [], ◌∷◌, ◌++◌, refl, sym, ap, subst, ◌∙◌, inl, inr, arith}
-use Rattle.std.specs.List.{join_with_byte, list_all}
-use Rattle.std.specs.Str.{IsAscii, IsUtf8}
-use Rattle.std.proofs.lemmas.Bool.{and_parts, both_ways, cases_lt, eqb-true, false_from_ne_true}
-use Rattle.std.proofs.lemmas.Bool.Decides.{nat_tests}
-use Rattle.std.proofs.lemmas.List.Sums.{list_all-from_AllPass}
-use Rattle.std.proofs.lemmas.Str.{IsUtf8-from_ascii}
-use Rattle.std.proofs.lemmas.Str.Ascii.{IsAscii-cons, IsAscii-nil}
-use Rattle.proto_text.specs.Bytes.{Each}
-use Rattle.proto_text.specs.Segments.{is_plain}
+use Rattle.std.proofs.Common.{◌≡◌, ℕ, ◌<◌, ◌≤◌, true, false, eqb, List, [], ◌∷◌, ◌++◌, refl, sym, ap, subst, ◌∙◌, inl, inr, arith, IsAscii, IsUtf8, eqb-true}
+use Rattle.proto_faults.proofs.Common.{join_with_byte, list_all, and_parts, both_ways, cases_lt, false_from_ne_true, nat_tests, list_all-from_AllPass, IsUtf8-from_ascii, IsAscii-cons, IsAscii-nil}
+use Rattle.proto_text.proofs.Common.{Each, is_plain}
 use Rattle.proto_files.specs.WorkspacePaths.{IsWorkspacePath, is_path_byte, is_path_part}
 
 apart_from : (b n : ℕ) → is_path_byte n ≡ false → is_path_byte b ≡ true → eqb b n ≡ false

@@ -1,13 +1,7 @@
 -- A number in decimal is read as itself.
-use Rattle.std.proofs.Common.{◌≡◌, ℕ, zero, suc, ◌+◌, ◌-◌, ◌*◌, ◌<◌, ◌≤◌, Bool, true, false, ◌&&◌, ◌||◌, eqb, List, [], ◌∷◌, length, drop, get_or, refl, ap, ◌∙◌, arith, if◌then◌else◌, nat_le}
-use Rattle.std.specs.Fmt.{decimal}
-use Rattle.std.specs.Int.{IsInRange}
-use Rattle.std.proofs.lemmas.Bool.{cond-false}
-use Rattle.std.proofs.lemmas.Bool.Decides.{nat_tests}
-use Rattle.std.proofs.lemmas.Fmt.{decimal_digit, decimal_nonempty, digits_value-decimal, first_decimal}
-use Rattle.std.proofs.lemmas.Str.Parse.{FoldsDigits, IsNumeralModel, numerals_by_fold, tells_by_index}
-use Rattle.proto_text.specs.Classes.{is_digit}
-use Rattle.proto_text.specs.Strings.{number_in}
+use Rattle.std.proofs.Common.{◌≡◌, ℕ, zero, suc, ◌+◌, ◌-◌, ◌*◌, ◌<◌, ◌≤◌, Bool, true, false, ◌&&◌, ◌||◌, eqb, List, [], ◌∷◌, length, drop, get_or, refl, ap, ◌∙◌, arith, if◌then◌else◌, nat_le, decimal}
+use Rattle.proto_faults.proofs.Common.{IsInRange, cond-false, nat_tests, decimal_digit, decimal_nonempty, digits_value-decimal, first_decimal, FoldsDigits, IsNumeralModel, numerals_by_fold, tells_by_index}
+use Rattle.proto_text.proofs.Common.{is_digit, number_in}
 use Rattle.proto_parts.specs.Numbers.{number_of}
 use Rattle.proto_statement_deleted.specs.Numbers.{DecimalsAreNumbers}
 

@@ -1,32 +1,14 @@
 -- The enum of a full name, where a field is deleted: the same as before.
-use Rattle.std.proofs.Common.{◌≡◌, ◌≢◌, ℕ, zero, suc, ◌+◌, ◌<◌, inl, inr, Bool, true, false, List, [], ◌∷◌, ◌++◌, length, map, find, Option, Some, None, option_map, slice_get, refl, sym, ◌∙◌, ap, ap₂, subst, cond, arith}
-use Rattle.std.specs.List.{Contains}
-use Rattle.std.specs.Option.{option_and_then}
-use Rattle.std.proofs.lemmas.Bool.{cases_eq, both_ways, false_from_ne_true}
-use Rattle.std.proofs.lemmas.List.Elements.{Contains-append_left, Contains-append_right}
+use Rattle.std.proofs.Common.{◌≡◌, ◌≢◌, ℕ, zero, suc, ◌+◌, ◌<◌, inl, inr, Bool, true, false, List, [], ◌∷◌, ◌++◌, length, map, find, Option, Some, None, option_map, slice_get, refl, sym, ◌∙◌, ap, ap₂, subst, cond, arith, Contains, option_and_then}
+use Rattle.proto_faults.proofs.Common.{cases_eq, both_ways, false_from_ne_true, Contains-append_left, Contains-append_right, contains_head, contains_later, contains_map}
 use Rattle.proto_case.specs.Camel.{entry_name}
-use Rattle.proto_faults.proofs.Lists.{contains_head, contains_later, contains_map}
-use Rattle.proto_text.specs.Texts.{word_at}
-use Rattle.proto_text.specs.Tokens.{Lexeme}
-use Rattle.proto_tree.specs.Moved.{Move}
-use Rattle.proto_tree.specs.Tree.{Tree}
-use Rattle.proto_files.specs.FilesRead.{ReadOf, read_at}
-use Rattle.proto_files.specs.GivenFiles.{FileOf}
-use Rattle.proto_meaning.specs.Faults.{place_of}
-use Rattle.proto_meaning.specs.Grown.{At, at, all_declared, file_declared}
-use Rattle.proto_meaning.specs.Linked.{IsLinked}
-use Rattle.proto_meaning.specs.Names.{Symbol, same_name}
-use Rattle.proto_meaning.specs.Skeleton.{Declared, name_of, symbol_of}
-use Rattle.proto_meaning.specs.Tree.{Placed}
-use Rattle.proto_meaning.proofs.Basics.{name_from_same}
-use Rattle.proto_meaning.proofs.Symbols.{one_symbol}
+use Rattle.proto_text.proofs.Common.{word_at, Lexeme}
+use Rattle.proto_tree.proofs.Common.{Move, Tree}
+use Rattle.proto_files.proofs.Common.{ReadOf, read_at, FileOf}
+use Rattle.proto_meaning.proofs.Common.{place_of, At, at, all_declared, file_declared, IsLinked, Symbol, same_name, Declared, name_of, symbol_of, Placed, name_from_same, one_symbol}
 use Rattle.proto_imports.specs.Links.{link_skeleton, names_in, names_of_files, text_of}
-use Rattle.proto_parts.specs.Scenes.{EnumOf}
-use Rattle.proto_statement_described.specs.SceneOf.{declared_as, enum_at, enum_named, is_proto3_file, lexemes_of}
-use Rattle.proto_statement_described.specs.Deletions.{Reservation, WrittenField}
-use Rattle.proto_statement_described.specs.Files.{tree_at}
-use Rattle.proto_statement_described.proofs.Kept.{deletions_keep_versions}
-use Rattle.proto_parts.specs.Scenes.{string_of}
+use Rattle.proto_parts.specs.Scenes.{EnumOf, string_of}
+use Rattle.proto_statement_described.proofs.Common.{declared_as, enum_at, enum_named, is_proto3_file, lexemes_of, Reservation, WrittenField, tree_at, deletions_keep_versions}
 use Rattle.proto_statement_names.specs.Less.{goes_with_field}
 use Rattle.proto_statement_names.specs.Trees.{move_placed, placed_in}
 use Rattle.proto_statement_deleted.specs.NamedTrees.{AreNamed}

@@ -1,20 +1,15 @@
 -- The enums of a file that loses a field: each is read as before.
-use Rattle.std.proofs.Common.{◌≡◌, ℕ, zero, suc, ◌==◌, inl, inr, Bool, not, false, true, List, [], ◌∷◌, ◌++◌, map, find, Option, Some, None, option_map, slice_get, refl, sym, ◌∙◌, ap, ap₂, cond}
-use Rattle.std.proofs.lemmas.Bool.{cases_eq, eq-eqb, ne_eqb}
-use Rattle.proto_text.specs.Texts.{word_at}
-use Rattle.proto_text.specs.Tokens.{Lexeme}
+use Rattle.std.proofs.Common.{◌≡◌, ℕ, zero, suc, ◌==◌, inl, inr, Bool, not, false, true, List, [], ◌∷◌, ◌++◌, map, find, Option, Some, None, option_map, slice_get, refl, sym, ◌∙◌, ap, ap₂, cond, eq-eqb, ne_eqb}
+use Rattle.std.proofs.lemmas.Bool.{cases_eq}
+use Rattle.proto_text.proofs.Common.{word_at, Lexeme}
 use Rattle.proto_tree.specs.declared.piece.Header.{Header}
 use Rattle.proto_tree.specs.declared.piece.Header.TheVariants as header
 use Rattle.proto_tree.specs.declared.tree.Field.{Field}
 use Rattle.proto_tree.specs.declared.tree.Value.{Value}
-use Rattle.proto_tree.specs.Moved.{Move, move_header, move_tree, move_value}
-use Rattle.proto_tree.specs.Tree.{Tree, Block}
-use Rattle.proto_parts.specs.Numbers.{number_of}
-use Rattle.proto_parts.specs.Parts.{BlockOf, blocks_in, values_in}
-use Rattle.proto_parts.specs.Scenes.{EnumOf}
-use Rattle.proto_statement_described.specs.SceneOf.{enum_within, is_enum_at, starts_past_zero}
+use Rattle.proto_tree.proofs.Common.{Move, move_header, move_tree, move_value, Tree, Block}
+use Rattle.proto_parts.proofs.Common.{number_of, BlockOf, blocks_in, values_in, EnumOf}
+use Rattle.proto_statement_described.proofs.Common.{enum_within, is_enum_at, starts_past_zero, AtField, AtOneof, BehindBlock, BehindLeaf, Deeper, Found, FurtherOn, InMessage, IsAmong, IsDeletedIn, IsDeletedRight, PastBlock, PastLeaf, Reservation, WrittenField}
 use Rattle.proto_checks_laws.proofs.MovedParts.{blocks_moved, find_moved, maps_kept, move_block_of, values_moved}
-use Rattle.proto_statement_described.specs.Deletions.{AtField, AtOneof, BehindBlock, BehindLeaf, Deeper, Found, FurtherOn, InMessage, IsAmong, IsDeletedIn, IsDeletedRight, PastBlock, PastLeaf, Reservation, WrittenField}
 
 -- ---- the first that is found
 

@@ -1,15 +1,11 @@
 -- A name that no case refuses to delete is that of one field, and of its statement.
 use Rattle.std.proofs.Common.{◌≡◌, ℕ, ◌+◌, List, map, sym, ◌∙◌, ap, arith}
-use Rattle.proto_files.specs.FilesRead.{AreRead, ReadOf}
-use Rattle.proto_files.specs.GivenFiles.{FileOf}
-use Rattle.proto_meaning.specs.Grown.{At, at}
-use Rattle.proto_meaning.specs.Skeleton.{Declared, Source, Token, shifted_source}
-use Rattle.proto_meaning.proofs.Grown.{snoc_parts}
+use Rattle.proto_files.proofs.Common.{AreRead, ReadOf, FileOf}
+use Rattle.proto_meaning.proofs.Common.{At, at, Declared, Source, Token, shifted_source, snoc_parts}
 use Rattle.proto_statement_names.specs.Targets.{Target}
 use Rattle.proto_statement_names.proofs.Declarations.{declared_by, path_of}
 use Rattle.proto_statement_changes.specs.DeletionChanges.{FieldAt, FieldsAreOne as StatementsAreOne, FieldsAreThere as StatementsAreThere, IsFieldAt}
-use Rattle.proto_statement_names.specs.Cases.{IsField}
-use Rattle.proto_statement_names.proofs.Fields.{fields_are_one, fields_are_there}
+use Rattle.proto_statement_names.proofs.Common.{IsField, fields_are_one, fields_are_there}
 use Rattle.proto_statement_deleted.specs.Workspace.{FieldsAreOne, FieldsMayBeDeleted}
 
 same_token : (x y : At) → ◌≡◌ {A = Source At} (Token x) (Token y) → x ≡ y

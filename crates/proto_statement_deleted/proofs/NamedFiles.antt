@@ -1,25 +1,15 @@
 -- What the three trees of a deletion declare, use and import, as trees of a file.
-use Rattle.std.proofs.Common.{◌≡◌, ℕ, List, [], ◌∷◌, ◌++◌, map, refl, sym, ◌∙◌, ap}
-use Rattle.std.specs.List.{Contains}
-use Rattle.std.proofs.lemmas.List.{append-nil}
+use Rattle.std.proofs.Common.{◌≡◌, ℕ, List, [], ◌∷◌, ◌++◌, map, refl, sym, ◌∙◌, ap, Contains, append-nil}
 use Rattle.proto_tree.specs.declared.piece.Header.{Header}
 use Rattle.proto_tree.specs.declared.piece.Header.TheVariants as header
 use Rattle.proto_tree.specs.declared.piece.Heading.{Heading}
 use Rattle.proto_tree.specs.declared.piece.Statement.{Statement}
 use Rattle.proto_tree.specs.declared.piece.Statement.TheVariants as statement
-use Rattle.proto_tree.specs.Moved.{Move, move_header, move_separated, move_statement, move_tree}
-use Rattle.proto_tree.specs.References.{dotted}
-use Rattle.proto_tree.specs.Tree.{Tree, End, Leaf, Block}
+use Rattle.proto_tree.proofs.Common.{Move, move_header, move_separated, move_statement, move_tree, dotted, Tree, End, Leaf, Block}
 use Rattle.proto_meaning.specs.declared.kind.Kind.TheVariants as kind
-use Rattle.proto_meaning.specs.Skeleton.{Source, Token, Used, shifted_source, shifted_used}
-use Rattle.proto_meaning.specs.Tree.{Placed, all_placed, beside, items_placed, package_of, place, prefixes}
-use Rattle.proto_meaning.proofs.Edited.{map_map}
-use Rattle.proto_listing.specs.FromTree.{file_names, statement_uses, block_names, flat_uses, item_uses, items_in, member_uses, members_in, method_names, no_names, picked, value_names}
-use Rattle.proto_listing.proofs.MovedHeads.{dotted_moved}
-use Rattle.proto_statement_names.specs.Files.{MayGoAt}
-use Rattle.proto_statement_names.specs.Lists.{HasMore, IsAny}
-use Rattle.proto_statement_names.specs.Trees.{move_placed}
-use Rattle.proto_statement_names.proofs.MovedNames.{both_moved, flat_uses_moved, item_uses_moved, items_moved, member_uses_moved, names_moved, path_more, path_of, prefixes_moved}
+use Rattle.proto_meaning.proofs.Common.{Source, Token, Used, shifted_source, shifted_used, Placed, all_placed, beside, items_placed, package_of, place, prefixes, map_map}
+use Rattle.proto_listing.proofs.Common.{file_names, statement_uses, block_names, flat_uses, item_uses, items_in, member_uses, members_in, method_names, no_names, picked, value_names, dotted_moved}
+use Rattle.proto_statement_names.proofs.Common.{MayGoAt, HasMore, IsAny, move_placed, both_moved, flat_uses_moved, item_uses_moved, items_moved, member_uses_moved, names_moved, path_more, path_of, prefixes_moved}
 use Rattle.proto_statement_described.specs.Deletions.{BehindBlock, BehindLeaf, Deeper, InMessage, IsDeletedIn, Reservation, WrittenField, statement_of}
 use Rattle.proto_statement_described.proofs.DeletedHeads.{imports_less, packages_less}
 use Rattle.proto_statement_deleted.specs.NamedTrees.{TreesAreNamed}

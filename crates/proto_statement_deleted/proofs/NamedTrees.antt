@@ -1,25 +1,17 @@
 -- What the three trees of a deletion declare, use and import.
-use Rattle.std.proofs.Common.{◌≡◌, ℕ, List, [], ◌∷◌, ◌++◌, map, refl, sym, ◌∙◌, ap, ap₂, subst, append_assoc, inl, inr, arith}
-use Rattle.std.specs.List.{AllByRecursion, Contains}
-use Rattle.proto_faults.proofs.Lists.{contains_cases}
+use Rattle.std.proofs.Common.{◌≡◌, ℕ, List, [], ◌∷◌, ◌++◌, map, refl, sym, ◌∙◌, ap, ap₂, subst, append_assoc, inl, inr, arith, Contains}
+use Rattle.proto_faults.proofs.Common.{AllByRecursion, contains_cases}
 use Rattle.proto_tree.specs.declared.piece.Header.{Header}
 use Rattle.proto_tree.specs.declared.piece.Header.TheVariants as header
 use Rattle.proto_tree.specs.declared.piece.Heading.{Heading}
 use Rattle.proto_tree.specs.declared.piece.Statement.{Statement}
 use Rattle.proto_tree.specs.declared.piece.Statement.TheVariants as statement
 use Rattle.proto_tree.specs.declared.tree.Field.{Field}
-use Rattle.proto_tree.specs.Moved.{Move, move_header, move_statement, move_tree}
-use Rattle.proto_tree.specs.Tree.{Tree, End, Leaf, Block}
+use Rattle.proto_tree.proofs.Common.{Move, move_header, move_statement, move_tree, Tree, End, Leaf, Block}
 use Rattle.proto_meaning.specs.declared.kind.Kind.TheVariants as kind
-use Rattle.proto_meaning.specs.Skeleton.{Source, Token, Used, shifted_used}
-use Rattle.proto_meaning.specs.Tree.{Placed, all_placed, beside, map_field, place, placed}
-use Rattle.proto_meaning.proofs.Edited.{map_append}
+use Rattle.proto_meaning.proofs.Common.{Source, Token, Used, shifted_used, Placed, all_placed, beside, map_field, place, placed, map_append}
 use Rattle.proto_listing.specs.FromTree.{field_names, flat_uses, member_uses, members_in, no_names, picked, statement_uses, value_names}
-use Rattle.proto_statement_names.specs.Files.{MayGoAt}
-use Rattle.proto_statement_names.specs.Lists.{HasMore}
-use Rattle.proto_statement_names.specs.Trees.{move_placed}
-use Rattle.proto_statement_names.proofs.Lists.{more_back, more_front}
-use Rattle.proto_statement_names.proofs.MovedNames.{both_moved, field_names_moved, fields_picked, flat_uses_moved, member_uses_moved, members_moved, path_more, path_of, statement_moved}
+use Rattle.proto_statement_names.proofs.Common.{MayGoAt, HasMore, move_placed, more_back, more_front, both_moved, field_names_moved, fields_picked, flat_uses_moved, member_uses_moved, members_moved, path_more, path_of, statement_moved}
 use Rattle.proto_statement_described.specs.Deletions.{AtField, AtOneof, BehindBlock, BehindLeaf, Deeper, Found, FurtherOn, InMessage, IsAmong, IsDeletedIn, IsDeletedRight, OfMap, PastBlock, PastLeaf, Plain, Reservation, WrittenField, statement_of}
 
 -- ---- moved lists with more in them

@@ -1,10 +1,6 @@
 -- The tokens of a field's statement: its name and the first of its type are among them, and something stands before them.
-use Rattle.std.proofs.Common.{◌≡◌, ◌≢◌, inl, inr, ℕ, suc, ◌-◌, ◌<◌, ◌==◌, false, Option, Some, None, List, [], ◌∷◌, ◌++◌, length, drop, map, refl, sym, ap, ◌∙◌, arith, length-take, length-drop}
-use Rattle.std.specs.List.{Contains}
-use Rattle.std.proofs.lemmas.Bool.{ne_eqb}
-use Rattle.std.proofs.lemmas.List.{length-map}
-use Rattle.std.proofs.lemmas.List.Elements.{Contains-append_left, Contains-append_right}
-use Rattle.proto_faults.proofs.Lists.{contains_cases, contains_head}
+use Rattle.std.proofs.Common.{◌≡◌, ◌≢◌, inl, inr, ℕ, suc, ◌-◌, ◌<◌, ◌==◌, false, Option, Some, None, List, [], ◌∷◌, ◌++◌, length, drop, map, refl, sym, ap, ◌∙◌, arith, length-take, length-drop, Contains, ne_eqb}
+use Rattle.proto_faults.proofs.Common.{length-map, Contains-append_left, Contains-append_right, contains_cases, contains_head}
 use Rattle.proto_text.specs.declared.lexer.Token.{Token}
 use Rattle.proto_text.specs.Tokens.{Lexeme, lexeme_at}
 use Rattle.proto_tree.specs.declared.class.Class.TheVariants as class
@@ -13,21 +9,11 @@ use Rattle.proto_tree.specs.declared.piece.Statement.{Statement}
 use Rattle.proto_tree.specs.declared.tree.FieldType.{FieldType}
 use Rattle.proto_tree.specs.declared.tree.FieldType.TheVariants as field_type
 use Rattle.proto_tree.specs.declared.tree.Separated.{Separated}
-use Rattle.proto_tree.specs.Flat.{Mark, flat_all, flat_behind, flat_dotted, flat_option, flat_settings, flat_statement, flat_type, flat_words, mark, one, only, word}
-use Rattle.proto_tree.specs.Reads.{Reads}
-use Rattle.proto_tree.specs.References.{first_of}
-use Rattle.proto_tree.specs.Tree.{Tree}
-use Rattle.proto_tree.proofs.MarkLaws.{numbered_at}
+use Rattle.proto_tree.proofs.Common.{Mark, flat_all, flat_behind, flat_dotted, flat_option, flat_settings, flat_statement, flat_type, flat_words, mark, one, only, word, Reads, first_of, Tree, numbered_at, trees_are_numbered}
 use Rattle.proto_meaning.specs.Skeleton.{Source, Used}
 use Rattle.proto_listing.specs.FromTree.{statement_uses, type_uses, used_as}
-use Rattle.proto_statement_laws.specs.Deletions.{IsFieldOf, StandsAt, InMessage, InOneof, Deeper, PastLeaf, PastBlock, first_token, next_token, own, reserved_at}
-use Rattle.proto_statement_laws.proofs.Found.{found}
-use Rattle.proto_statement_laws.proofs.Marks.{some_marks}
-use Rattle.proto_statement_laws.proofs.StandsOnce.{name_mark}
-use Rattle.proto_statement_laws.proofs.TakenOut.{before_field, closed, close_at, through}
-use Rattle.proto_tree.proofs.MarkLaws.{trees_are_numbered}
-use Rattle.proto_statement_described.specs.Deletions.{OfMap, Plain, WrittenField, name_of, number_of, statement_of}
-use Rattle.proto_statement_described.proofs.Kept.{new_tokens_are_own}
+use Rattle.proto_statement_laws.proofs.Common.{IsFieldOf, StandsAt, InMessage, InOneof, Deeper, PastLeaf, PastBlock, first_token, next_token, own, reserved_at, found, some_marks, name_mark, before_field, closed, close_at, through}
+use Rattle.proto_statement_described.proofs.Common.{OfMap, Plain, WrittenField, name_of, number_of, statement_of, new_tokens_are_own}
 use Rattle.proto_statement_deleted.specs.Trees.{to_old}
 
 -- ---- something stands before the statement

@@ -1,39 +1,18 @@
 -- What is read of files of which one loses a field.
-use Rattle.std.proofs.Common.{◌≡◌, ◌≢◌, ℕ, ◌+◌, ◌<◌, inl, inr, List, [], ◌∷◌, ◌++◌, length, map, Option, Some, None, refl, sym, ◌∙◌, ap, ap₂, subst, arith}
-use Rattle.std.specs.List.{Contains}
-use Rattle.std.proofs.lemmas.Bool.{cases_lt}
-use Rattle.std.proofs.lemmas.List.{append-nil}
+use Rattle.std.proofs.Common.{◌≡◌, ◌≢◌, ℕ, ◌+◌, ◌<◌, inl, inr, List, [], ◌∷◌, ◌++◌, length, map, Option, Some, None, refl, sym, ◌∙◌, ap, ap₂, subst, arith, Contains, append-nil}
+use Rattle.proto_faults.proofs.Common.{cases_lt, contains_map, from_map}
 use Rattle.proto_case.specs.Camel.{entry_name}
-use Rattle.proto_faults.proofs.Lists.{contains_map, from_map}
-use Rattle.proto_text.specs.Texts.{word_at}
-use Rattle.proto_text.specs.Tokens.{Lexeme}
-use Rattle.proto_tree.specs.Moved.{Move}
-use Rattle.proto_tree.specs.Tree.{Tree, End}
-use Rattle.proto_files.specs.FilesRead.{ReadOf}
-use Rattle.proto_files.specs.GivenFiles.{FileOf}
-use Rattle.proto_meaning.specs.Grown.{used_in}
-use Rattle.proto_meaning.specs.Joined.{joined}
-use Rattle.proto_meaning.specs.Linked.{IsLinked}
-use Rattle.proto_meaning.specs.Names.{Reference, meaning}
-use Rattle.proto_meaning.specs.Skeleton.{Used, reference_of, shifted_used}
-use Rattle.proto_meaning.proofs.Edited.{map_agree, map_append, map_map}
-use Rattle.proto_meaning.proofs.Renamed.{has_meaning, meant}
+use Rattle.proto_text.proofs.Common.{word_at, Lexeme}
+use Rattle.proto_tree.proofs.Common.{Move, Tree, End}
+use Rattle.proto_files.proofs.Common.{ReadOf, FileOf}
+use Rattle.proto_meaning.proofs.Common.{used_in, joined, IsLinked, Reference, meaning, Used, reference_of, shifted_used, map_agree, map_append, map_map, has_meaning, meant}
 use Rattle.proto_listing.specs.FromTree.{file_names}
-use Rattle.proto_imports.specs.Links.{link_skeleton, names_of_files, text_of}
-use Rattle.proto_imports.specs.Links.{used_named}
-use Rattle.proto_imports.specs.Links.{uses_of}
-use Rattle.proto_imports.proofs.FileUses.{use_in}
+use Rattle.proto_imports.proofs.Common.{link_skeleton, names_of_files, text_of, used_named, uses_of, use_in}
 use Rattle.proto_parts.specs.Scenes.{EnumOf, MeantOf, Scene}
-use Rattle.proto_statement_described.specs.SceneOf.{enum_named, is_proto3_file, meaning_of, meant_as, means_of}
+use Rattle.proto_statement_described.proofs.Common.{enum_named, is_proto3_file, meaning_of, meant_as, means_of, Reservation, WrittenField, scene_at, tree_at, HasTokens, move_meant}
 use Rattle.proto_checks_laws.proofs.MovedParts.{maps_moved}
-use Rattle.proto_statement_described.specs.Deletions.{Reservation, WrittenField}
-use Rattle.proto_statement_described.specs.Files.{scene_at, tree_at}
-use Rattle.proto_statement_described.specs.Scenes.{HasTokens, move_meant}
-use Rattle.proto_statement_names.specs.Kept.{MeanTheSame}
-use Rattle.proto_statement_names.specs.Lists.{HasMore}
+use Rattle.proto_statement_names.proofs.Common.{MeanTheSame, HasMore, more_has, index_past}
 use Rattle.proto_statement_names.proofs.Less.{type_stays as type_keeps}
-use Rattle.proto_statement_names.proofs.Lists.{more_has}
-use Rattle.proto_statement_names.proofs.Scenes.{index_past}
 use Rattle.proto_statement_deleted.specs.Scenes.{IsReadWithout, OtherScenesStay, ScenesHaveTokens}
 use Rattle.proto_statement_deleted.proofs.Declared.{named, new_text, old_text, other_lexemes, other_texts, other_version, same_version, type_stays}
 use Rattle.proto_statement_deleted.proofs.NamedFiles.{used_more}

@@ -1,9 +1,6 @@
 -- Without a fault of the checks the number of each field is below 2^64.
-use Rattle.std.proofs.Common.{◌≡◌, ◌⊎◌, inl, inr, ℕ, suc, ◌<◌, ◌^◌, pos, int_le, Bool, true, false, not, Option, Some, None, List, [], ◌∷◌, ◌++◌, map, flat_map, refl, ◌∙◌, subst, arith}
-use Rattle.std.specs.List.{Contains}
-use Rattle.std.proofs.lemmas.Bool.{and_parts}
-use Rattle.std.proofs.lemmas.List.Elements.{Contains-append_left, Contains-append_right}
-use Rattle.proto_faults.proofs.Lists.{contains_cases, contains_head, contains_later, contains_map}
+use Rattle.std.proofs.Common.{◌≡◌, ◌⊎◌, inl, inr, ℕ, suc, ◌<◌, ◌^◌, pos, int_le, Bool, true, false, not, Option, Some, None, List, [], ◌∷◌, ◌++◌, map, flat_map, refl, ◌∙◌, subst, arith, Contains}
+use Rattle.proto_faults.proofs.Common.{and_parts, Contains-append_left, Contains-append_right, contains_cases, contains_head, contains_later, contains_map}
 use Rattle.proto_tree.specs.declared.context.Context.{Context}
 use Rattle.proto_tree.specs.declared.context.Context.TheVariants as context
 use Rattle.proto_tree.specs.declared.piece.Header.{Header}
@@ -14,22 +11,16 @@ use Rattle.proto_tree.specs.Tree.{Tree, Leaf, Block, IsWellFormed, after, header
 use Rattle.proto_files.specs.FilesRead.{read_at}
 use Rattle.proto_numbers.specs.declared.flaw.Flaw.{Flaw}
 use Rattle.proto_numbers.specs.declared.numbers.NumberAt.{NumberAt}
-use Rattle.proto_numbers.specs.Flaws.{flaw_if}
-use Rattle.proto_numbers.specs.NumberFlaws.{field_number_flaws, is_field_number, is_within, most_field, number_of_field as numbered, outside, range_of}
-use Rattle.proto_parts.specs.Parts.{BlockOf, FieldOf, blocks_in, closed_ranges, fields_from, fields_in, options_in, statement_fields, statements}
-use Rattle.proto_parts.specs.Scenes.{Scene, number_at}
-use Rattle.proto_checks.specs.FieldFlaws.{field_flaws, option_flaws}
-use Rattle.proto_checks.specs.FileFlaws.{block_flaws, flaws_in_blocks, message_flaws}
+use Rattle.proto_numbers.proofs.Common.{flaw_if, field_number_flaws, is_field_number, is_within, most_field, number_of_field as numbered, outside, range_of}
+use Rattle.proto_parts.proofs.Common.{BlockOf, FieldOf, blocks_in, closed_ranges, fields_from, fields_in, options_in, statement_fields, statements, Scene, number_at, number_of as number_of_digits}
+use Rattle.proto_checks.proofs.Common.{field_flaws, option_flaws, block_flaws, flaws_in_blocks, message_flaws}
 use Rattle.proto_checks_laws.proofs.DeletedFlaws.{nil_parts}
 use Rattle.proto_parts.specs.declared.options.Element.TheVariants as element
-use Rattle.proto_statement_described.specs.Checked.{fault_of, flaws_of, of_flaw}
+use Rattle.proto_statement_described.proofs.Common.{fault_of, flaws_of, of_flaw, OfMap, Plain, WrittenField, field_of, number_of, statement_of, scene_at}
 use Rattle.proto_faults.specs.declared.fault.FaultKind.{FaultKind}
 use Rattle.proto_faults.specs.declared.fault.FaultKind.TheVariants as kind
 use Rattle.proto_text.specs.Texts.{word_at}
-use Rattle.proto_parts.specs.Numbers.{number_of as number_of_digits}
 use Rattle.proto_statement_laws.specs.Deletions.{StandsAt, InMessage, InOneof, Deeper, PastLeaf, PastBlock, StandsIn, First, AfterLeaf, AfterBlock}
-use Rattle.proto_statement_described.specs.Deletions.{OfMap, Plain, WrittenField, field_of, number_of, statement_of}
-use Rattle.proto_statement_described.specs.Files.{scene_at}
 use Rattle.proto_statement_deleted.specs.Fields.{NumbersAreSmall}
 use Rattle.proto_statement_deleted.proofs.Trees.{in_oneof, was_message}
 use Rattle.proto_statement_deleted.proofs.Written.{written}

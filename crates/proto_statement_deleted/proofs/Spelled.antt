@@ -2,12 +2,7 @@
 use Rattle.std.proofs.Common.{◌≡◌, ℕ, List, [], ◌∷◌, ◌++◌, map, refl, sym, ◌∙◌, ap, ap₂}
 use Rattle.proto_case.specs.Camel.{entry_name}
 use Rattle.proto_tree.specs.Moved.{Move}
-use Rattle.proto_meaning.specs.Faults.{place_from, place_of}
-use Rattle.proto_meaning.specs.Grown.{At, at, declared_of, used_in}
-use Rattle.proto_meaning.specs.Names.{Reference}
-use Rattle.proto_meaning.specs.Skeleton.{Declared, EntryOf, Given, Source, Token, Used, name_of, reference_of, shifted_declared, shifted_source, shifted_used, spell}
-use Rattle.proto_meaning.specs.Tree.{Placed}
-use Rattle.proto_meaning.proofs.Edited.{map_agree, map_append, map_map}
+use Rattle.proto_meaning.proofs.Common.{place_from, place_of, At, at, declared_of, used_in, Reference, Declared, EntryOf, Given, Source, Token, Used, name_of, reference_of, shifted_declared, shifted_source, shifted_used, spell, Placed, map_agree, map_append, map_map}
 use Rattle.proto_statement_names.specs.Trees.{move_placed}
 
 -- other tokens with the same texts

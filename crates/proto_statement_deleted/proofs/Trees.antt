@@ -1,11 +1,8 @@
 -- One tree without the field and without the reservation, and from it both others.
-use Rattle.std.proofs.Common.{◌≡◌, ◌⊎◌, inl, inr, ℕ, suc, ◌+◌, ◌-◌, ◌≤◌, true, false, Option, Some, None, List, [], ◌∷◌, ◌++◌, length, take, drop, map, refl, sym, ap, ap₂, subst, ◌∙◌, arith, length-append, length-take, length-drop}
-use Rattle.std.proofs.lemmas.List.{drop-drop, length-map, take-append-drop}
-use Rattle.std.proofs.lemmas.List.Elements.{Contains-append_left, Contains-append_right}
-use Rattle.proto_faults.proofs.Lists.{contains_head, contains_later}
+use Rattle.std.proofs.Common.{◌≡◌, ◌⊎◌, inl, inr, ℕ, suc, ◌+◌, ◌-◌, ◌≤◌, true, false, Option, Some, None, List, [], ◌∷◌, ◌++◌, length, take, drop, map, refl, sym, ap, ap₂, subst, ◌∙◌, arith, length-append, length-take, length-drop, drop-drop, take-append-drop}
+use Rattle.proto_faults.proofs.Common.{length-map, Contains-append_left, Contains-append_right, contains_head, contains_later}
 use Rattle.proto_text.specs.declared.lexer.Token.{Token}
-use Rattle.proto_text.specs.Segments.{moved}
-use Rattle.proto_text.specs.Tokens.{Lexeme, lexeme_at}
+use Rattle.proto_text.proofs.Common.{moved, Lexeme, lexeme_at}
 use Rattle.proto_tree.specs.declared.class.Class.TheVariants as class
 use Rattle.proto_tree.specs.declared.context.Context.{Context}
 use Rattle.proto_tree.specs.declared.context.Context.TheVariants as context
@@ -18,25 +15,11 @@ use Rattle.proto_tree.specs.declared.piece.Statement.{Statement}
 use Rattle.proto_tree.specs.declared.piece.Statement.TheVariants as statement
 use Rattle.proto_tree.specs.declared.tree.Field.{Field}
 use Rattle.proto_tree.specs.declared.tree.MapField.{MapField}
-use Rattle.proto_tree.specs.Flat.{Fit, Mark, one, flat_header, flat_statement}
-use Rattle.proto_tree.specs.Moved.{Move, move_header, move_heading, move_statement, move_tree, shift}
-use Rattle.proto_tree.specs.Reads.{Reads}
-use Rattle.proto_tree.specs.Tree.{Tree, End, Leaf, Block, flat, statement_kind, header_kind, allows, after, IsWellFormed, joined, Spells}
-use Rattle.proto_tree.specs.Words.{classes}
-use Rattle.proto_tree.proofs.Faults.{one_tree}
-use Rattle.proto_tree.proofs.MarkLaws.{trees_are_numbered}
+use Rattle.proto_tree.proofs.Common.{Fit, Mark, one, flat_header, flat_statement, Move, move_header, move_heading, move_statement, move_tree, shift, Reads, Tree, End, Leaf, Block, flat, statement_kind, header_kind, allows, after, IsWellFormed, joined, Spells, classes, one_tree, trees_are_numbered, header_kind_moved, kind_moved}
 use Rattle.proto_parts.specs.Parts.{BlockOf, FieldOf, blocks_in, fields_in, statements}
 use Rattle.proto_checks.specs.FileFlaws.{is_empty}
-use Rattle.proto_statement_laws.specs.Deletions.{StandsAt, InMessage as StandsInMessage, InOneof as StandsInOneof, Deeper as StandsDeeper, PastLeaf as StandsPastLeaf, PastBlock as StandsPastBlock, StandsIn, First, AfterLeaf, AfterBlock, first_token, next_token, own, reserved_at, without}
-use Rattle.proto_statement_laws.specs.Exchanges.{IsExchanged, Here, Later, Inside, Behind, before, MovesBy}
-use Rattle.proto_statement_laws.specs.Statements.{reservation, reservation_tokens}
-use Rattle.proto_statement_laws.proofs.Exchanged.{around, cut, statements_are_exchanged}
-use Rattle.proto_statement_laws.proofs.Found.{found}
-use Rattle.proto_statement_laws.proofs.Marks.{moves_by, moves_in}
-use Rattle.proto_tree.proofs.MoveLaws.{header_kind_moved, kind_moved}
-use Rattle.proto_statement_laws.proofs.NewStatements.{reservation_fits}
+use Rattle.proto_statement_laws.proofs.Common.{StandsAt, InMessage as StandsInMessage, InOneof as StandsInOneof, Deeper as StandsDeeper, PastLeaf as StandsPastLeaf, PastBlock as StandsPastBlock, StandsIn, First, AfterLeaf, AfterBlock, first_token, next_token, own, reserved_at, without, IsExchanged, Here, Later, Inside, Behind, before, MovesBy, reservation, reservation_tokens, around, cut, statements_are_exchanged, found, moves_by, moves_in, reservation_fits, before_field, before_it, block_long, closed, close_at, leaf_long, through, through_message}
 use Rattle.proto_statement_laws.proofs.Reversed.{statement_long, tree_long}
-use Rattle.proto_statement_laws.proofs.TakenOut.{before_field, before_it, block_long, closed, close_at, leaf_long, through, through_message}
 use Rattle.proto_statement_described.specs.Deletions.{AtField, AtOneof, BehindBlock, BehindLeaf, Deeper, Found, FurtherOn, InMessage, IsAmong, IsDeletedIn, IsDeletedRight, OfMap, PastBlock, PastLeaf, Plain, Reservation, WrittenField, name_of, reserved, statement_of}
 use Rattle.proto_statement_deleted.specs.Trees.{HasFellows, TreesAreDeleted, reservation_at, to_new, to_old}
 

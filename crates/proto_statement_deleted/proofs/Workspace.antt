@@ -1,47 +1,24 @@
 -- The deletion of a field from a workspace, where no case refuses it.
-use Rattle.std.proofs.Common.{◌≡◌, ℕ, ◌+◌, ◌<◌, ◌^◌, ◌==◌, false, List, [], ◌∷◌, length, take, drop, map, slice_get, pos, sym, ◌∙◌, ap, ap₂, subst, arith, length-take}
-use Rattle.std.proofs.lemmas.Bool.{cases_lt, cond-true, lt-ltb}
-use Rattle.std.proofs.Common.{ltb, ◌-◌}
+use Rattle.std.proofs.Common.{◌≡◌, ℕ, ◌+◌, ◌<◌, ◌^◌, ◌==◌, false, List, [], ◌∷◌, length, take, drop, map, slice_get, pos, sym, ◌∙◌, ap, ap₂, subst, arith, length-take, lt-ltb, ltb, ◌-◌}
+use Rattle.std.proofs.lemmas.Bool.{cases_lt, cond-true}
 use Rattle.proto_text.specs.declared.class.Class.TheVariants.{Letter}
 use Rattle.proto_text.specs.declared.kind.TokenKind.TheVariants.{Text}
 use Rattle.proto_text.specs.declared.lexer.Token.{Token}
-use Rattle.proto_text.specs.Pieces.{IsRun}
-use Rattle.proto_text.specs.Segments.{moved, quoted}
-use Rattle.proto_text.specs.Texts.{word_at}
-use Rattle.proto_text.specs.Tokens.{Lexeme, lexeme_at}
-use Rattle.proto_text.specs.Values.{StandsFor}
-use Rattle.proto_text.proofs.Values.{value_again}
+use Rattle.proto_text.proofs.Common.{IsRun, moved, quoted, word_at, Lexeme, lexeme_at, StandsFor, value_again}
 use Rattle.proto_tree.specs.declared.piece.Statement.{Statement}
-use Rattle.proto_tree.specs.Moved.{Move}
-use Rattle.proto_tree.specs.Reads.{Reads}
-use Rattle.proto_tree.specs.Tree.{Tree, End}
-use Rattle.proto_files.specs.FilesRead.{ReadOf, read_at}
-use Rattle.proto_files.specs.GivenFiles.{FileOf, file_at}
-use Rattle.proto_meaning.specs.Grown.{at}
-use Rattle.proto_meaning.specs.Linked.{IsLinked}
+use Rattle.proto_tree.proofs.Common.{Move, Reads, Tree, End}
+use Rattle.proto_files.proofs.Common.{ReadOf, read_at, FileOf, file_at}
+use Rattle.proto_meaning.proofs.Common.{at, IsLinked}
 use Rattle.proto_entries.proofs.Puts.{puts_are_once}
 use Rattle.proto_imports.specs.Links.{names_of_files}
-use Rattle.proto_parts.specs.Numbers.{number_of as value_of_digits}
-use Rattle.proto_parts.specs.Scenes.{string_of, value_or_none}
-use Rattle.proto_statement_described.specs.SceneOf.{lexemes_of}
+use Rattle.proto_parts.proofs.Common.{number_of as value_of_digits, string_of, value_or_none}
+use Rattle.proto_statement_described.proofs.Common.{lexemes_of, IsDeletedIn, Reservation, Reserves, WrittenField, name_of, number_of, statement_of, IsDeletion, scene_at, others_keep_apart, scenes_are_moved, deletions_leave_no_fault, deletions_map_descriptors}
 use Rattle.proto_statement_names.proofs.NoLinkFault.{files_are_linked, read_files_are_clean}
-use Rattle.proto_statement_laws.specs.Deletions.{IsDeleted, StandsAt, first_token, own, reserved_at, without}
-use Rattle.proto_statement_laws.specs.Exchanges.{LexemesAreMoved}
-use Rattle.proto_statement_laws.specs.Statements.{reservation_tokens}
-use Rattle.proto_statement_laws.proofs.NewStatements.{word_is_string}
+use Rattle.proto_statement_laws.proofs.Common.{IsDeleted, StandsAt, first_token, own, reserved_at, without, LexemesAreMoved, reservation_tokens, word_is_string}
 use Rattle.proto_statement_laws.proofs.TextLaws.{Laws as TextLaws}
-use Rattle.proto_statement_changes.specs.DeletionChanges.{DeletionsAreChanges, FieldAt, IsFieldDeleted, changes_of_deletion, name_of_field, number_of_field}
-use Rattle.proto_statement_changes.specs.OneFile.{with_read, with_text}
-use Rattle.proto_statement_names.specs.Cases.{IsAlone, last_of_oneof}
-use Rattle.proto_statement_names.specs.Clean.{AreClean}
-use Rattle.proto_statement_names.specs.Files.{IsFieldLess}
-use Rattle.proto_statement_names.specs.Kept.{MeanTheSame}
+use Rattle.proto_statement_changes.proofs.Common.{DeletionsAreChanges, FieldAt, IsFieldDeleted, changes_of_deletion, name_of_field, number_of_field, with_read, with_text}
+use Rattle.proto_statement_names.proofs.Common.{IsAlone, last_of_oneof, AreClean, IsFieldLess, MeanTheSame}
 use Rattle.proto_statement_names.proofs.Kept.{deletions_keep_links, deletions_keep_meanings}
-use Rattle.proto_statement_described.specs.Deletions.{IsDeletedIn, Reservation, Reserves, WrittenField, name_of, number_of, statement_of}
-use Rattle.proto_statement_described.specs.Files.{IsDeletion, scene_at}
-use Rattle.proto_statement_described.proofs.Kept.{others_keep_apart}
-use Rattle.proto_statement_described.proofs.MovedScenes.{scenes_are_moved}
-use Rattle.proto_statement_described.proofs.OneFile.{deletions_leave_no_fault, deletions_map_descriptors}
 use Rattle.proto_statement_deleted.specs.Scenes.{IsReadWithout}
 use Rattle.proto_statement_deleted.specs.Trees.{HasFellows, reservation_at, to_new, to_old}
 use Rattle.proto_statement_deleted.specs.Workspace.{AreLeft, DeletionsAreDeletions, DeletionsAreLess, DeletionsAreMade, DeletionsAreMapped, DeletionsLeaveFiles, DeletionsLeaveNoFault, DeletionsMeanTheSame, IsAllowed}

@@ -1,37 +1,26 @@
 -- The descriptor of a file without a field is the old one, mapped.
-use Rattle.std.proofs.Common.{◌≡◌, ℕ, ℤ, ◌+◌, ◌==◌, ◌||◌, length, true, false, List, [], ◌∷◌, ◌++◌, map, flat_map, Option, None, codes, refl, sym, ◌∙◌, ap, ap₂, if◌then◌else◌}
-use Rattle.std.specs.List.{list_any}
-use Rattle.std.proofs.lemmas.Bool.{cond-false, cond-true, eq-eqb}
-use Rattle.std.proofs.lemmas.Grind.{flat_map-append}
-use Rattle.std.proofs.lemmas.List.{map-append}
+use Rattle.std.proofs.Common.{◌≡◌, ℕ, ℤ, ◌+◌, ◌==◌, ◌||◌, length, true, false, List, [], ◌∷◌, ◌++◌, map, flat_map, Option, None, codes, refl, sym, ◌∙◌, ap, ap₂, if◌then◌else◌, eq-eqb}
+use Rattle.proto_faults.proofs.Common.{list_any, cond-false, cond-true, flat_map-append, map-append}
 use Rattle.proto_text.proofs.OneEdit.{length_map}
 use Rattle.proto_tree.specs.declared.piece.Statement.{Statement}
 use Rattle.proto_tree.specs.declared.piece.Statement.TheVariants as statement
 use Rattle.proto_tree.specs.declared.piece.Header.TheVariants as header
 use Rattle.proto_tree.specs.declared.tree.MapField.{MapField}
-use Rattle.proto_tree.specs.Moved.{Move, move_map_field, move_range, move_statement, move_tree}
-use Rattle.proto_tree.specs.Tree.{Tree, End, Leaf, Block}
-use Rattle.proto_parts.specs.Parts.{FieldOf, extension_ranges, fields_in, options_in, reserved_names, reserved_ranges, statement_options, statements}
-use Rattle.proto_parts.specs.Scenes.{Scene, number_at, text, value}
+use Rattle.proto_tree.proofs.Common.{Move, move_map_field, move_range, move_statement, move_tree, Tree, End, Leaf, Block}
+use Rattle.proto_parts.proofs.Common.{FieldOf, extension_ranges, fields_in, options_in, reserved_names, reserved_ranges, statement_options, statements, Scene, number_at, text, value, truth_option}
 use Rattle.proto_numbers.specs.NumberFlaws.{range_of}
-use Rattle.proto_checks_laws.proofs.MovedParts.{flat_moved, maps_kept, extension_ranges_moved, move_field_of, move_option_of, options_moved, reserved_ranges_moved, statement_names_moved, statement_options_moved}
-use Rattle.proto_listing.specs.FromTree.{Wanted, imports_in, items_in}
-use Rattle.proto_listing.specs.Moved.{move_wanted}
+use Rattle.proto_checks_laws.proofs.Common.{flat_moved, maps_kept, extension_ranges_moved, move_field_of, move_option_of, options_moved, reserved_ranges_moved, statement_names_moved, statement_options_moved, range_moved}
+use Rattle.proto_listing.proofs.Common.{Wanted, imports_in, items_in, move_wanted}
 use Rattle.proto_meaning.specs.Tree.{package_of}
 use Rattle.proto_descriptors.specs.declared.file.Syntax.TheVariants as syntax
 use Rattle.proto_described.specs.Described.{field_number, file_options, package_named, package_prefix, public_places, services_described, below, entry_described, message_options, enums_described, field_described, message_described, messages_described, number_range, oneof_names}
 use Rattle.proto_descriptors.specs.declared.message.NumberRange.{NumberRange}
-use Rattle.proto_parts.specs.Options.{truth_option}
-use Rattle.proto_checks_laws.proofs.MovedFlaws.{range_moved}
 use Rattle.proto_descriptors.specs.Descriptors.{FieldDesc, MessageDesc, Messages, NoMessages, Message}
-use Rattle.proto_statement_described.specs.Deletions.{Deeper, AtField, AtOneof, BehindBlock, BehindLeaf, InMessage, IsDeletedIn, IsDeletedRight, PastBlock, PastLeaf, Plain, OfMap, Reservation, Reserves, WrittenField, field_of, name_of, reserved, statement_of}
+use Rattle.proto_statement_described.specs.Common.{Deeper, AtField, AtOneof, BehindBlock, BehindLeaf, InMessage, IsDeletedIn, IsDeletedRight, PastBlock, PastLeaf, Plain, OfMap, Reservation, Reserves, WrittenField, field_of, name_of, reserved, statement_of, at_place, places_before, with_more, without_place, DeletionsAreMapped, field_place, is_its, is_named_at, mapped_messages, range_of_field, statements_before, without_entry, without_field, IsMovedScene}
 use Rattle.proto_statement_described.proofs.Parts.{IsReader, named_one, no_ranges, no_words, nothing_with, numbered_one, new_fields, new_read, old_fields, old_read, outer_fields, outer_statements}
-use Rattle.proto_statement_described.specs.Lists.{at_place, places_before, with_more, without_place}
-use Rattle.proto_statement_described.specs.Mapped.{DeletionsAreMapped, field_place, is_its, is_named_at, mapped_messages, range_of_field, statements_before, without_entry, without_field}
 use Rattle.proto_statement_described.proofs.DeletedHeads.{imports_less, packages_less}
 use Rattle.proto_statement_described.proofs.MovedImports.{publics_moved}
 use Rattle.proto_statement_described.proofs.Places.{IsParted, at_is, none_in, none_moved, parted, place_is, some_behind, with_is, without_is}
-use Rattle.proto_statement_described.specs.Scenes.{IsMovedScene}
 use Rattle.proto_statement_described.proofs.MovedDescriptors.{each_same, enum_same, enums_same, entry_same, field_same, message_same, messages_same, oneofs_same, ranges_same, truths, services_same, service_same, package_same, options_same}
 
 -- ---- imports that are moved

@@ -1,12 +1,6 @@
 -- A file without a flaw has none after a field is deleted and its number and name are reserved.
-use Rattle.std.proofs.Common.{◌≡◌, ◌≢◌, ℕ, ℤ, ◌==◌, Bool, true, false, List, [], ◌∷◌, ◌++◌, map, flat_map, Option, None, refl, sym, ◌∙◌, ap, ap₂, subst, if◌then◌else◌}
-use Rattle.std.specs.List.{AllByRecursion, Contains}
-use Rattle.std.specs.Str.{bytes_eq}
-use Rattle.std.proofs.lemmas.List.{map-append}
-use Rattle.std.proofs.lemmas.Bool.{both_ways, eq-eqb, false_from_ne_true}
-use Rattle.std.proofs.lemmas.List.Elements.{All-from_recursion, Contains-append_left, Contains-append_right}
-use Rattle.proto_faults.proofs.Lists.{contains_head, contains_later, contains_map, word_from_same}
-use Rattle.std.proofs.lemmas.Grind.{flat_map-append}
+use Rattle.std.proofs.Common.{◌≡◌, ◌≢◌, ℕ, ℤ, ◌==◌, Bool, true, false, List, [], ◌∷◌, ◌++◌, map, flat_map, Option, None, refl, sym, ◌∙◌, ap, ap₂, subst, if◌then◌else◌, Contains, bytes_eq, eq-eqb}
+use Rattle.proto_faults.proofs.Common.{AllByRecursion, map-append, both_ways, false_from_ne_true, All-from_recursion, Contains-append_left, Contains-append_right, contains_head, contains_later, contains_map, word_from_same, flat_map-append}
 use Rattle.proto_faults.specs.declared.fault.FaultKind.{FaultKind}
 use Rattle.proto_faults.specs.declared.fault.FaultKind.TheVariants as kind
 use Rattle.proto_tree.specs.declared.piece.Header.{Header}
@@ -14,24 +8,17 @@ use Rattle.proto_tree.specs.declared.piece.Header.TheVariants as header
 use Rattle.proto_tree.specs.declared.piece.Statement.{Statement}
 use Rattle.proto_tree.specs.declared.tree.Range.{Range}
 use Rattle.proto_tree.specs.declared.tree.Field.{Field}
-use Rattle.proto_tree.specs.Moved.{Move, move_header, move_range, move_statement, move_tree}
-use Rattle.proto_tree.specs.Tree.{Tree, Block, joined}
-use Rattle.proto_parts.specs.Options.{is_one_of}
-use Rattle.proto_parts.specs.Parts.{BlockOf, FieldOf, blocks_in, closed_ranges, enum_ranges, extension_words, fields_in, options_in, reserved_names, reserved_names_in, statement_options, statement_values, statements}
-use Rattle.proto_parts.specs.Scenes.{Scene, number_at, text, value}
+use Rattle.proto_tree.proofs.Common.{Move, move_header, move_range, move_statement, move_tree, Tree, Block, joined}
+use Rattle.proto_parts.proofs.Common.{is_one_of, BlockOf, FieldOf, blocks_in, closed_ranges, enum_ranges, extension_words, fields_in, options_in, reserved_names, reserved_names_in, statement_options, statement_values, statements, Scene, number_at, text, value}
 use Rattle.proto_parts.specs.declared.options.Element.TheVariants as element
 use Rattle.proto_numbers.specs.declared.flaw.Flaw.{Flaw}
 use Rattle.proto_numbers.specs.declared.numbers.NumberAt.{NumberAt}
 use Rattle.proto_parts.specs.declared.ranges.RangeAt.{RangeAt}
 use Rattle.proto_checks_laws.specs.Deleted.{range_of_one}
-use Rattle.proto_checks.specs.FieldFlaws.{field_flaws, option_flaws}
-use Rattle.proto_checks.specs.FileFlaws.{allows_alias, block_flaws, first_value_flaws, enum_flaws, extension_flaws, flaws_in_blocks, is_empty, json_clashes, message_flaws, name_flaws, value_option_flaws, with_reserved_name, reserved_again}
-use Rattle.proto_numbers.specs.Flaws.{flaw_if, marked}
-use Rattle.proto_checks_laws.specs.Imports.{IsMoved, moved}
-use Rattle.proto_numbers.specs.NumberFlaws.{field_number_flaws, broken_ranges, enum_range_of, is_value_number, least_value, most_value, number_of_field, number_of_value, outside, overlaps, range_of, repeated_numbers, reserved_numbers}
+use Rattle.proto_checks.proofs.Common.{field_flaws, option_flaws, allows_alias, block_flaws, first_value_flaws, enum_flaws, extension_flaws, flaws_in_blocks, is_empty, json_clashes, message_flaws, name_flaws, value_option_flaws, with_reserved_name, reserved_again}
+use Rattle.proto_numbers.proofs.Common.{flaw_if, marked, field_number_flaws, broken_ranges, enum_range_of, is_value_number, least_value, most_value, number_of_field, number_of_value, outside, overlaps, range_of, repeated_numbers, reserved_numbers}
+use Rattle.proto_checks_laws.proofs.Common.{IsMoved, moved, statement_ranges_moved, statement_words_moved, maps_kept, maps_moved, move_block_of, move_field_of, move_option_of, statement_names_moved, statement_options_moved, blocks_moved, statements_moved, options_moved, empty_kept, Moves, block_moved, clashes_moved, each, field_moved, field_number_moved, field_numbers_moved, if_moved, move_number_at, move_range_at, names_moved, option_flaws_moved, range_moved}
 use Rattle.proto_checks_laws.proofs.DeletedFlaws.{nil_joined, nil_parts, deletions_keep_json_names, deletions_keep_names, deletions_keep_numbers}
-use Rattle.proto_checks_laws.proofs.MovedParts.{statement_ranges_moved, statement_words_moved, maps_kept, maps_moved, move_block_of, move_field_of, move_option_of, statement_names_moved, statement_options_moved, blocks_moved, statements_moved, options_moved, empty_kept}
-use Rattle.proto_checks_laws.proofs.MovedFlaws.{Moves, block_moved, clashes_moved, each, field_moved, field_number_moved, field_numbers_moved, if_moved, move_number_at, move_range_at, names_moved, option_flaws_moved, range_moved}
 use Rattle.proto_statement_described.specs.Deletions.{Deeper, AtField, AtOneof, BehindBlock, BehindLeaf, Found, FurtherOn, InMessage, IsAmong, IsDeletedIn, IsDeletedRight, PastBlock, PastLeaf, FieldNamesDiffer, DeletionsBringNoFlaw, Reservation, Reserves, WrittenField, field_of, name_of, reserved}
 use Rattle.proto_statement_described.proofs.Parts.{IsWith, named_one, new_fields, no_ranges, no_words, nothing_with, numbered_one, new_read, old_fields, old_read, outer_fields, outer_statements}
 

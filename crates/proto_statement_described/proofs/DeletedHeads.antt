@@ -1,11 +1,8 @@
 -- The package and the imports of a tree without a field (for the crates above).
 use Rattle.std.proofs.Common.{◌≡◌, map}
-use Rattle.proto_tree.specs.Moved.{Move, move_tree}
-use Rattle.proto_tree.specs.Tree.{Tree}
+use Rattle.proto_tree.proofs.Common.{Move, move_tree, Tree}
 use Rattle.proto_meaning.specs.Tree.{package_of}
-use Rattle.proto_listing.specs.FromTree.{imports_in, items_in}
-use Rattle.proto_listing.specs.Moved.{move_wanted}
-use Rattle.proto_listing.proofs.MovedHeads.{block_package, imports_moved, leaf_imports, leaf_package, package_moved}
+use Rattle.proto_listing.proofs.Common.{imports_in, items_in, move_wanted, block_package, imports_moved, leaf_imports, leaf_package, package_moved}
 use Rattle.proto_statement_described.specs.Deletions.{BehindBlock, BehindLeaf, Deeper, InMessage, IsDeletedIn, Reservation, WrittenField}
 
 pub packages_less : (g k : Move) (w : WrittenField) (r : Reservation) (x t u : Tree) → IsDeletedIn g k w r x t u → (package_of (items_in t) ≡ map g (package_of (items_in x))) × (package_of (items_in u) ≡ map k (package_of (items_in x)))

@@ -1,24 +1,15 @@
 -- In linked files, fields of a message that stand at different tokens have different names.
-use Rattle.std.proofs.Common.{◌≡◌, ◌≢◌, ℕ, zero, suc, ◌+◌, ◌<◌, ◌⊎◌, None, List, [], ◌∷◌, ◌++◌, length, map, refl, sym, ap, subst, ◌∙◌, inl, inr, arith}
-use Rattle.std.specs.List.{AllPairs, Contains}
-use Rattle.std.proofs.lemmas.List.{map-append}
+use Rattle.std.proofs.Common.{◌≡◌, ◌≢◌, ℕ, zero, suc, ◌+◌, ◌<◌, ◌⊎◌, None, List, [], ◌∷◌, ◌++◌, length, map, refl, sym, ap, subst, ◌∙◌, inl, inr, arith, AllPairs, Contains}
+use Rattle.proto_faults.proofs.Common.{map-append, contains_cases, contains_map}
 use Rattle.proto_case.specs.Camel.{entry_name}
-use Rattle.proto_faults.proofs.Lists.{contains_cases, contains_map}
 use Rattle.proto_tree.specs.declared.piece.Header.TheVariants as header
 use Rattle.proto_tree.specs.Tree.{Tree}
-use Rattle.proto_files.specs.FilesRead.{AreRead, ReadOf, read_at}
-use Rattle.proto_files.specs.GivenFiles.{FileOf}
+use Rattle.proto_files.proofs.Common.{AreRead, ReadOf, read_at, FileOf}
 use Rattle.proto_meaning.specs.declared.kind.Kind.TheVariants as kind
-use Rattle.proto_meaning.specs.Grown.{At, at, all_declared}
-use Rattle.proto_meaning.specs.Linked.{AreApart, IsLinked}
-use Rattle.proto_meaning.specs.Skeleton.{Declared, Source, Token, name_of, shifted_source, spell, symbol_of}
-use Rattle.proto_meaning.specs.Tree.{file_placed, place}
-use Rattle.proto_meaning.proofs.Files.{FileAt, declared_to, declares}
-use Rattle.proto_meaning.proofs.Grown.{snoc_parts}
+use Rattle.proto_meaning.proofs.Common.{At, at, all_declared, AreApart, IsLinked, Declared, Source, Token, name_of, shifted_source, spell, symbol_of, file_placed, place, FileAt, declared_to, declares, snoc_parts}
 use Rattle.proto_listing.specs.FromTree.{items_in}
 use Rattle.proto_imports.specs.Links.{names_in, names_of_files, text_of}
-use Rattle.proto_checks_laws.specs.Declarations.{IsDeclared}
-use Rattle.proto_checks_laws.proofs.Declarations.{blocks_are_declared}
+use Rattle.proto_checks_laws.proofs.Common.{IsDeclared, blocks_are_declared}
 use Rattle.proto_desc.specs.SceneOf.{lexemes_of, scene_of}
 use Rattle.proto_statement_described.specs.Deletions.{FieldNamesDiffer}
 

@@ -1,18 +1,12 @@
 -- Moved indices stay apart, and the version of a file stays (for the crates above).
-use Rattle.std.proofs.Common.{◌≡◌, ℕ, ◌+◌, ◌-◌, ◌<◌, ◌≤◌, ◌⊎◌, inl, inr, Bool, ◌||◌, List, refl, sym, ap, ◌∙◌, arith, ltb}
-use Rattle.std.specs.Prelude.{codes}
-use Rattle.std.specs.Str.{bytes_eq}
-use Rattle.std.specs.List.{list_any}
-use Rattle.std.proofs.lemmas.Bool.{cases_lt, cond-true, cond-false, lt-ltb, le-ltb}
+use Rattle.std.proofs.Common.{◌≡◌, ℕ, ◌+◌, ◌-◌, ◌<◌, ◌≤◌, ◌⊎◌, inl, inr, Bool, ◌||◌, List, refl, sym, ap, ◌∙◌, arith, ltb, codes, bytes_eq, lt-ltb, le-ltb}
+use Rattle.proto_faults.proofs.Common.{list_any, cases_lt, cond-true, cond-false}
 use Rattle.proto_text.specs.Segments.{moved}
 use Rattle.proto_tree.specs.declared.piece.Statement.{Statement}
 use Rattle.proto_tree.specs.declared.piece.Statement.TheVariants as statement
-use Rattle.proto_tree.specs.Moved.{Move, move_statement, move_tree}
-use Rattle.proto_tree.specs.Tree.{Tree, End, Leaf, Block}
-use Rattle.proto_parts.specs.Parts.{statements}
-use Rattle.proto_parts.specs.Scenes.{is_proto3, is_proto3_statement}
-use Rattle.proto_checks_laws.specs.Imports.{without_imports}
-use Rattle.proto_checks_laws.proofs.MovedParts.{any_kept, statements_moved}
+use Rattle.proto_tree.proofs.Common.{Move, move_statement, move_tree, Tree, End, Leaf, Block}
+use Rattle.proto_parts.proofs.Common.{statements, is_proto3, is_proto3_statement}
+use Rattle.proto_checks_laws.proofs.Common.{without_imports, any_kept, statements_moved}
 use Rattle.proto_statement_described.specs.Kept.{DeletionsKeepVersions, ImportsKeepVersions, NewTokensAreOwn, OthersKeepApart}
 use Rattle.proto_statement_described.proofs.Parts.{outer_statements}
 

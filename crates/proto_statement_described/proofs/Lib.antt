@@ -1,3 +1,4 @@
+pub mod Common
 mod DeletedDescriptors
 mod DeletedFlaws
 pub mod DeletedHeads

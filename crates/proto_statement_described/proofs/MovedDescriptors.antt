@@ -1,7 +1,6 @@
 -- The descriptor of a file whose tokens are moved.
 use Rattle.std.proofs.Common.{◌≡◌, ℕ, Bool, true, false, ◌&&◌, ◌||◌, if◌then◌else◌, List, [], ◌∷◌, map, flat_map, find, Option, Some, None, option_map, is_some, codes, option_and_then, refl, sym, ◌∙◌, ap, ap₂}
-use Rattle.std.specs.Fmt.{signed_decimal}
-use Rattle.proto_faults.specs.Texts.{or_nothing}
+use Rattle.proto_faults.proofs.Common.{signed_decimal, or_nothing}
 use Rattle.proto_tree.specs.declared.tree.Constant.{Constant}
 use Rattle.proto_tree.specs.declared.tree.Constant.TheVariants as constant
 use Rattle.proto_tree.specs.declared.tree.FieldType.{FieldType as WrittenType}
@@ -14,29 +13,20 @@ use Rattle.proto_tree.specs.declared.tree.Signed.{Signed}
 use Rattle.proto_tree.specs.declared.tree.Value.{Value}
 use Rattle.proto_tree.specs.declared.piece.Statement.TheVariants as statement
 use Rattle.proto_tree.specs.declared.piece.Header.TheVariants as header
-use Rattle.proto_tree.specs.Moved.{Move, move_constant, move_map_field, move_option, move_range, move_reference, move_signature, move_signed, move_tree, move_type, move_value}
-use Rattle.proto_tree.specs.Tree.{Tree, End, Leaf, Block}
+use Rattle.proto_tree.proofs.Common.{Move, move_constant, move_map_field, move_option, move_range, move_reference, move_signature, move_signed, move_tree, move_type, move_value, Tree, End, Leaf, Block}
 use Rattle.proto_case.specs.Camel.{entry_name}
-use Rattle.proto_listing.specs.FromTree.{imports_in, items_in}
-use Rattle.proto_listing.proofs.MovedHeads.{package_moved}
-use Rattle.proto_meaning.specs.Joined.{joined}
-use Rattle.proto_meaning.specs.Tree.{key_word, package_of, value_word}
-use Rattle.proto_parts.specs.Options.{is_named, text_of, text_option, truth_named, truth_option, value_named, word_of, word_option}
-use Rattle.proto_parts.specs.Parts.{FieldOf, OptionOf, enum_ranges, extension_ranges, fields_in, options_in, reserved_names_in, reserved_ranges, settings_of, statements, values_in}
-use Rattle.proto_parts.specs.Scenes.{MeantOf, Scene, meant_by, text, value}
-use Rattle.proto_parts.specs.Labels.{has_label}
-use Rattle.proto_checks_laws.specs.Imports.{IsMoved, without_imports}
+use Rattle.proto_listing.proofs.Common.{imports_in, items_in, package_moved}
+use Rattle.proto_meaning.proofs.Common.{joined, key_word, package_of, value_word}
+use Rattle.proto_parts.proofs.Common.{is_named, text_of, text_option, truth_named, truth_option, value_named, word_of, word_option, FieldOf, OptionOf, enum_ranges, extension_ranges, fields_in, options_in, reserved_names_in, reserved_ranges, settings_of, statements, values_in, MeantOf, Scene, meant_by, text, value, has_label}
+use Rattle.proto_checks_laws.proofs.Common.{IsMoved, without_imports, enum_ranges_moved, extension_ranges_moved, fields_moved, file_options_moved, find_moved, flat_kept, given_moved, maps_kept, move_field_of, move_option_of, options_moved, reserved_names_moved, reserved_ranges_moved, settings_moved, some_kept, values_moved, enum_range_moved, json_name_moved, label_moved, named_moved, number_moved, range_moved, signed_moved, text_moved, word_moved}
 use Rattle.proto_numbers.specs.NumberFlaws.{enum_range_of, range_of}
-use Rattle.proto_checks_laws.proofs.MovedParts.{enum_ranges_moved, extension_ranges_moved, fields_moved, file_options_moved, find_moved, flat_kept, given_moved, maps_kept, move_field_of, move_option_of, options_moved, reserved_names_moved, reserved_ranges_moved, settings_moved, some_kept, values_moved}
-use Rattle.proto_checks_laws.proofs.MovedFlaws.{enum_range_moved, json_name_moved, label_moved, named_moved, number_moved, range_moved, signed_moved, text_moved, word_moved}
 use Rattle.proto_described.specs.Described.{absolute, below, default_number, default_text, entry_described, entry_field, enum_described, enums_described, field_described, field_number, field_type_name, field_type_of, file_described, file_options, is_map, label_of, message_described, messages_described, method_described, methods_described, mode_named, level_named, number_range, oneof_names, package_named, package_prefix, public_places, scalar_type, service_described, services_described, type_name_of, type_of, type_text, value_described, value_number, value_range}
 use Rattle.proto_descriptors.specs.declared.field.FieldType.{FieldType}
 use Rattle.proto_descriptors.specs.declared.field.FieldType.TheVariants as field_type
 use Rattle.proto_descriptors.specs.declared.field.Label.TheVariants as label
 use Rattle.proto_descriptors.specs.declared.file.Syntax.TheVariants as syntax
 use Rattle.proto_descriptors.specs.Descriptors.{EnumDesc, MessageDesc, Messages, NoMessages, Message, MethodDesc, ServiceDesc}
-use Rattle.proto_statement_described.specs.Imports.{with_imports}
-use Rattle.proto_statement_described.specs.Scenes.{IsMovedScene}
+use Rattle.proto_statement_described.specs.Common.{with_imports, IsMovedScene}
 
 and_then_map : {A B C : Type 0} (f : A → B) (h : B → Option C) (o : Option A) → option_and_then h (option_map f o) ≡ option_and_then (λ x. h (f x)) o
 and_then_map f h None = refl

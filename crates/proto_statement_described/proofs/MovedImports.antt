@@ -1,26 +1,14 @@
 -- The descriptor of a file with an import more, and with one less, is the old one, mapped.
-use Rattle.std.proofs.Common.{◌≡◌, ℕ, suc, ◌+◌, ◌-◌, ◌<◌, ◌≤◌, ◌==◌, ◌||◌, Bool, true, false, if◌then◌else◌, List, [], ◌∷◌, ◌++◌, length, map, flat_map, refl, sym, ◌∙◌, ap, ap₂, arith, append_assoc}
-use Rattle.std.specs.Prelude.{nat_lt}
-use Rattle.std.specs.List.{All, Contains, list_any}
-use Rattle.std.specs.Str.{bytes_eq}
-use Rattle.std.proofs.lemmas.Bool.{cond-false, cond-true, eq-eqb, ne_eqb}
-use Rattle.std.proofs.lemmas.Bool.Decides.{nat_tests}
-use Rattle.std.proofs.lemmas.Grind.{flat_map-append}
-use Rattle.std.proofs.lemmas.List.{append-nil, map-append}
-use Rattle.std.proofs.lemmas.List.Elements.{All-contains}
-use Rattle.proto_faults.proofs.Lists.{contains_head, contains_later, same_from_word}
+use Rattle.std.proofs.Common.{◌≡◌, ℕ, suc, ◌+◌, ◌-◌, ◌<◌, ◌≤◌, ◌==◌, ◌||◌, Bool, true, false, if◌then◌else◌, List, [], ◌∷◌, ◌++◌, length, map, flat_map, refl, sym, ◌∙◌, ap, ap₂, arith, append_assoc, nat_lt, All, Contains, bytes_eq, eq-eqb, ne_eqb, append-nil}
+use Rattle.proto_faults.proofs.Common.{list_any, cond-false, cond-true, nat_tests, flat_map-append, map-append, All-contains, contains_head, contains_later, same_from_word}
 use Rattle.proto_text.proofs.OneEdit.{length_map}
-use Rattle.proto_tree.specs.Moved.{Move}
-use Rattle.proto_tree.specs.Tree.{Tree}
-use Rattle.proto_listing.specs.FromTree.{Wanted, imports_in}
-use Rattle.proto_listing.specs.Moved.{move_wanted}
+use Rattle.proto_tree.proofs.Common.{Move, Tree}
+use Rattle.proto_listing.proofs.Common.{Wanted, imports_in, move_wanted}
 use Rattle.proto_parts.specs.Scenes.{Scene, value}
 use Rattle.proto_checks_laws.proofs.MovedParts.{maps_kept}
 use Rattle.proto_described.specs.Described.{file_described, public_places}
 use Rattle.proto_descriptors.specs.Descriptors.{FileDesc}
-use Rattle.proto_statement_described.specs.Imports.{AdditionsAreMapped, DropsAreMapped, HasImport, lowered, with_imports}
-use Rattle.proto_statement_described.specs.Lists.{places_before, without_place}
-use Rattle.proto_statement_described.specs.Scenes.{IsMovedScene}
+use Rattle.proto_statement_described.specs.Common.{AdditionsAreMapped, DropsAreMapped, HasImport, lowered, with_imports, places_before, without_place, IsMovedScene}
 use Rattle.proto_statement_described.proofs.MovedDescriptors.{imports_alone}
 use Rattle.proto_statement_described.proofs.Places.{place_is, without_is}
 

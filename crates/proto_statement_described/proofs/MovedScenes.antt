@@ -1,16 +1,10 @@
 -- A scene with the tokens of another at moved indices reads the same (for the crates above).
-use Rattle.std.proofs.Common.{◌≡◌, ◌≢◌, ℕ, zero, suc, ◌==◌, inl, inr, Bool, true, false, Option, Some, None, List, [], ◌∷◌, ◌++◌, map, find, option_map, slice_get, refl, sym, ap, ap₂, ◌∙◌}
-use Rattle.std.specs.Prelude.{cond}
-use Rattle.std.specs.List.{Contains}
-use Rattle.std.specs.Option.{option_and_then}
-use Rattle.std.proofs.lemmas.Bool.{cases_eq, eq-eqb, ne_eqb}
-use Rattle.proto_faults.proofs.Lists.{contains_head, contains_later}
-use Rattle.proto_text.specs.Texts.{word_at}
-use Rattle.proto_text.specs.Tokens.{Lexeme}
+use Rattle.std.proofs.Common.{◌≡◌, ◌≢◌, ℕ, zero, suc, ◌==◌, inl, inr, Bool, true, false, Option, Some, None, List, [], ◌∷◌, ◌++◌, map, find, option_map, slice_get, refl, sym, ap, ap₂, ◌∙◌, cond, Contains, option_and_then, eq-eqb, ne_eqb}
+use Rattle.proto_faults.proofs.Common.{cases_eq, contains_head, contains_later}
+use Rattle.proto_text.proofs.Common.{word_at, Lexeme}
 use Rattle.proto_tree.specs.declared.tree.Reference.{Reference}
 use Rattle.proto_tree.specs.declared.tree.Separated.{Separated}
-use Rattle.proto_tree.specs.Moved.{Move, move_option, move_reference, move_separated}
-use Rattle.proto_tree.specs.References.{first_of}
+use Rattle.proto_tree.proofs.Common.{Move, move_option, move_reference, move_separated, first_of}
 use Rattle.proto_parts.specs.Scenes.{MeantOf, Scene, meant_by, string_of}
 use Rattle.proto_statement_described.specs.Scenes.{HasTokens, ScenesAreMoved, move_meant}
 

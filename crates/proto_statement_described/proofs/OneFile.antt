@@ -1,25 +1,17 @@
 -- Files of which one is read otherwise: the checks of all, and their descriptors (for the crates above).
-use Rattle.std.proofs.Common.{◌≡◌, ◌≢◌, ℕ, zero, suc, ◌+◌, ◌<◌, List, [], ◌∷◌, length, map, refl, sym, ap, ap₂, subst, ◌∙◌, inl, inr, arith}
-use Rattle.std.specs.List.{Contains}
-use Rattle.std.proofs.lemmas.Bool.{cases_eq}
-use Rattle.proto_faults.proofs.Lists.{contains_head}
+use Rattle.std.proofs.Common.{◌≡◌, ◌≢◌, ℕ, zero, suc, ◌+◌, ◌<◌, List, [], ◌∷◌, length, map, refl, sym, ap, ap₂, subst, ◌∙◌, inl, inr, arith, Contains}
+use Rattle.proto_faults.proofs.Common.{cases_eq, contains_head}
 use Rattle.proto_tree.specs.Tree.{Tree}
-use Rattle.proto_files.specs.Faults.{HasNoFault}
-use Rattle.proto_files.specs.FilesRead.{AreRead, ReadOf, read_at}
-use Rattle.proto_files.specs.GivenFiles.{FileOf, file_at}
-use Rattle.proto_files.proofs.ReadOnce.{read_once}
+use Rattle.proto_files.proofs.Common.{HasNoFault, AreRead, ReadOf, read_at, FileOf, file_at, read_once}
 use Rattle.proto_parts.specs.Scenes.{Scene}
 use Rattle.proto_numbers.specs.declared.flaw.Flaw.{Flaw}
 use Rattle.proto_checks.specs.FileFlaws.{file_flaws}
-use Rattle.proto_checks_laws.specs.Imports.{moved}
-use Rattle.proto_checks_laws.proofs.MovedFlaws.{imports_move_flaws}
+use Rattle.proto_checks_laws.proofs.Common.{moved, imports_move_flaws}
 use Rattle.proto_described.specs.Described.{file_described}
 use Rattle.proto_descriptors.specs.Descriptors.{FileDesc}
 use Rattle.proto_desc.specs.Checked.{CheckFaults, described_from, fault_of, flaws_of, of_flaw}
 use Rattle.proto_statement_described.specs.Files.{AdditionsLeaveNoFault, AdditionsMapDescriptors, DeletionsLeaveNoFault, DeletionsMapDescriptors, DropsLeaveNoFault, DropsMapDescriptors, OthersStay, scene_at, tree_at}
-use Rattle.proto_statement_described.specs.Imports.{with_dependency, without_dependency}
-use Rattle.proto_statement_described.specs.Lists.{changed_at}
-use Rattle.proto_statement_described.specs.Mapped.{mapped_deletion}
+use Rattle.proto_statement_described.specs.Common.{with_dependency, without_dependency, changed_at, mapped_deletion}
 use Rattle.proto_statement_described.proofs.DeletedDescriptors.{deletions_are_mapped}
 use Rattle.proto_statement_described.proofs.DeletedFlaws.{deletions_bring_no_flaw, map_nil}
 use Rattle.proto_statement_described.proofs.FieldNames.{field_names_differ}

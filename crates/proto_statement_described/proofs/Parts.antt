@@ -1,12 +1,10 @@
 -- The parts of a tree with a field put in, and of one with a reservation put in.
 use Rattle.std.proofs.Common.{◌≡◌, ℕ, suc, List, [], ◌∷◌, ◌++◌, map, flat_map, Option, Some, None, refl, sym, ◌∙◌, ap, ap₂, subst, append_assoc}
-use Rattle.std.proofs.lemmas.List.{map-append}
-use Rattle.std.proofs.lemmas.Grind.{flat_map-append}
+use Rattle.proto_faults.proofs.Common.{map-append, flat_map-append}
 use Rattle.proto_tree.specs.declared.piece.Header.TheVariants as header
 use Rattle.proto_tree.specs.declared.piece.Statement.{Statement}
 use Rattle.proto_tree.specs.declared.tree.Field.{Field}
-use Rattle.proto_tree.specs.Moved.{Move, move_statement, move_tree}
-use Rattle.proto_tree.specs.Tree.{Tree, End, Leaf, Block, joined}
+use Rattle.proto_tree.proofs.Common.{Move, move_statement, move_tree, Tree, End, Leaf, Block, joined}
 use Rattle.proto_parts.specs.Parts.{FieldOf, closed_ranges, extension_ranges, extension_words, fields_from, plain_field, reserved_names, reserved_ranges, statement_fields, statement_options, statements}
 use Rattle.proto_checks_laws.proofs.MovedParts.{fields_moved, move_field_of, statement_fields_moved}
 use Rattle.proto_statement_described.specs.Deletions.{Deeper, AtField, AtOneof, BehindBlock, BehindLeaf, Found, FurtherOn, InMessage, IsAmong, IsDeletedIn, IsDeletedRight, PastBlock, PastLeaf, Plain, OfMap, Reservation, WrittenField, field_of, name_of, number_of, reserved, statement_of}

@@ -1,18 +1,13 @@
 -- Places in lists, and the place of the field in the old tree.
-use Rattle.std.proofs.Common.{◌≡◌, ℕ, suc, ◌==◌, Bool, true, false, ◌||◌, List, [], ◌∷◌, ◌++◌, length, map, flat_map, None, refl, sym, ◌∙◌, ap, ap₂}
-use Rattle.std.specs.List.{list_any}
-use Rattle.std.proofs.lemmas.Bool.{cond-false, cond-true, eq-eqb}
-use Rattle.std.proofs.lemmas.List.Folds.{list_any-append}
+use Rattle.std.proofs.Common.{◌≡◌, ℕ, suc, ◌==◌, Bool, true, false, ◌||◌, List, [], ◌∷◌, ◌++◌, length, map, flat_map, None, refl, sym, ◌∙◌, ap, ap₂, eq-eqb}
+use Rattle.proto_faults.proofs.Common.{list_any, cond-false, cond-true, list_any-append}
 use Rattle.proto_tree.specs.declared.piece.Header.TheVariants as header
 use Rattle.proto_tree.specs.declared.piece.Statement.{Statement}
 use Rattle.proto_tree.specs.declared.tree.Field.{Field}
-use Rattle.proto_tree.specs.Moved.{Move, move_statement, move_tree}
-use Rattle.proto_tree.specs.Tree.{Tree}
+use Rattle.proto_tree.proofs.Common.{Move, move_statement, move_tree, Tree}
 use Rattle.proto_parts.specs.Parts.{FieldOf, fields_in, statement_fields, statements}
 use Rattle.proto_checks_laws.proofs.MovedParts.{fields_moved, flat_moved, move_field_of, statement_fields_moved, statements_moved}
-use Rattle.proto_statement_described.specs.Deletions.{AtField, AtOneof, Found, FurtherOn, IsAmong, IsDeletedRight, OfMap, PastBlock, PastLeaf, Plain, Reservation, WrittenField, name_of, reserved, statement_of}
-use Rattle.proto_statement_described.specs.Lists.{at_place, places_before, with_more, without_place}
-use Rattle.proto_statement_described.specs.Mapped.{declare, is_its, is_named_at, statements_before}
+use Rattle.proto_statement_described.specs.Common.{AtField, AtOneof, Found, FurtherOn, IsAmong, IsDeletedRight, OfMap, PastBlock, PastLeaf, Plain, Reservation, WrittenField, name_of, reserved, statement_of, at_place, places_before, with_more, without_place, declare, is_its, is_named_at, statements_before}
 
 -- ---- lists
 

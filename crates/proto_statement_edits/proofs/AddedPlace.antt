@@ -1,21 +1,12 @@
 -- The place of an added import.
-use Rattle.std.proofs.Common.{◌≡◌, ℕ, suc, ◌<◌, ◌≤◌, List, [], length, get_or, Option, refl, sym, ap, ap₂, subst, ◌∙◌, arith}
-use Rattle.std.specs.Str.{IsCharBoundary}
-use Rattle.std.proofs.lemmas.List.{length-map}
-use Rattle.std.proofs.lemmas.Str.{IsUtf8-nil}
-use Rattle.proto_text.specs.Classes.{class_of}
-use Rattle.proto_text.specs.Segments.{end_before, quoted}
-use Rattle.proto_text.specs.SourceFacts.{IsSpan}
-use Rattle.proto_text.specs.Strings.{IsString}
-use Rattle.proto_text.specs.Tokens.{lexeme_at}
+use Rattle.std.proofs.Common.{◌≡◌, ℕ, suc, ◌<◌, ◌≤◌, List, [], length, get_or, Option, refl, sym, ap, ap₂, subst, ◌∙◌, arith, IsCharBoundary}
+use Rattle.proto_faults.proofs.Common.{length-map, IsUtf8-nil}
+use Rattle.proto_text.proofs.Common.{class_of, end_before, quoted, IsSpan, IsString, lexeme_at}
 use Rattle.proto_text.specs.declared.lexer.Token.{Token}
 use Rattle.proto_text.specs.declared.source.Span.{Span}
-use Rattle.proto_tree.specs.Reads.{Reads}
-use Rattle.proto_tree.specs.Tree.{Tree}
-use Rattle.proto_files.specs.FilesRead.{ReadOf, read_at}
-use Rattle.proto_files.specs.GivenFiles.{FileOf, file_at}
-use Rattle.proto_statement_laws.specs.Deletions.{splice}
-use Rattle.proto_statement_laws.specs.Imports.{AdditionsAreRead, added_text, import_place}
+use Rattle.proto_tree.proofs.Common.{Reads, Tree}
+use Rattle.proto_files.proofs.Common.{ReadOf, read_at, FileOf, file_at}
+use Rattle.proto_statement_laws.proofs.Common.{splice, AdditionsAreRead, added_text, import_place}
 use Rattle.proto_statement_changes.specs.ImportChanges.{splice_of_addition}
 use Rattle.proto_statement_edits.specs.ImportPlaces.{behind_all, ends_of, place_behind}
 use Rattle.proto_statement_edits.proofs.ImportEnds.{place_is}

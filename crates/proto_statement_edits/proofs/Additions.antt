@@ -1,26 +1,16 @@
 -- When an added import is refused.
-use Rattle.std.proofs.Common.{◌≡◌, ◌⊎◌, ℕ, ◌+◌, ◌<◌, List, length, Some, None, refl, sym, ap, subst, ◌∙◌, inl, inr, arith, string_bytes}
-use Rattle.std.specs.List.{Contains}
+use Rattle.std.proofs.Common.{◌≡◌, ◌⊎◌, ℕ, ◌+◌, ◌<◌, List, length, Some, None, refl, sym, ap, subst, ◌∙◌, inl, inr, arith, string_bytes, Contains}
 use Rattle.std.proofs.lemmas.Option.{none-some, same_Some}
 use Rattle.proto_case.specs.Camel.{entry_name}
 use Rattle.proto_text.specs.Texts.{offset_at}
-use Rattle.proto_files.specs.FilesRead.{ReadOf, AreRead, read_at}
-use Rattle.proto_files.specs.GivenFiles.{FileOf, file_at}
-use Rattle.proto_files.proofs.ReadOnce.{read_once}
+use Rattle.proto_files.proofs.Common.{ReadOf, AreRead, read_at, FileOf, file_at, read_once}
 use Rattle.proto_entries.specs.declared.refusal.Refusal.{Refusal}
 use Rattle.proto_entries.specs.declared.refusal.Refusal.TheVariants as refusal
-use Rattle.proto_imports.specs.Links.{link_imports, link_skeleton, names_of_files, text_of}
-use Rattle.proto_meaning.specs.Cycles.{Leads}
-use Rattle.proto_meaning.specs.Edits.{IsOvertaken}
-use Rattle.proto_meaning.specs.Grown.{At, at, used_in}
-use Rattle.proto_meaning.specs.Names.{Workspace}
-use Rattle.proto_meaning.specs.Skeleton.{Used, reference_of}
-use Rattle.proto_imports.specs.Links.{uses_of}
-use Rattle.proto_captures.specs.CapturedPlaces.{IsCapturedPlace, StandsAtToken}
+use Rattle.proto_imports.specs.Links.{link_imports, link_skeleton, names_of_files, text_of, uses_of}
+use Rattle.proto_meaning.proofs.Common.{Leads, IsOvertaken, At, at, used_in, Workspace, Used, reference_of}
+use Rattle.proto_captures.proofs.Common.{IsCapturedPlace, StandsAtToken, IsFirstPlace, StandsBefore}
 use Rattle.proto_captures.specs.Overtaking.{IsFirstOvertaken, Overtakes}
-use Rattle.proto_captures.specs.Cases.{IsFirstPlace, StandsBefore}
-use Rattle.proto_statement_changes.specs.ImportChanges.{splice_of_addition}
-use Rattle.proto_statement_changes.specs.OneFile.{IsTooLong}
+use Rattle.proto_statement_changes.proofs.Common.{splice_of_addition, IsTooLong}
 use Rattle.proto_statement_names.specs.Cases.{AdditionCase, IsImported, IsNoFile, IsOvertakenIn, IsPlaceOf, already_imported, captured, cycle, unknown_file, unknown_path, with_added}
 use Rattle.proto_statement_edits.specs.Edits.{IsAdditionCase, IsAdditionRefusal, IsLeastOf, RefusesAddition, by_name, too_large}
 use Rattle.proto_names.proofs.UsesOfFiles.{from_use, use_there}

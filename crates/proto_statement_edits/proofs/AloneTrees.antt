@@ -1,9 +1,6 @@
 -- Whether a field is alone in a oneof of trees that stand one behind another; and that this is so by their blocks.
-use Rattle.std.proofs.Common.{◌≡◌, ◌⊎◌, ℕ, ◌≤◌, Bool, true, false, ◌||◌, List, [], ◌∷◌, ◌++◌, length, map, refl, sym, ap, ◌∙◌, inl, inr, arith}
-use Rattle.std.specs.List.{Contains}
-use Rattle.std.proofs.lemmas.Bool.{both_ways, eq-eqb, eqb-true, or_cases, or_left, or_right}
-use Rattle.std.proofs.lemmas.List.Elements.{Contains-append_cases, Contains-append_left, Contains-append_right}
-use Rattle.proto_faults.proofs.Lists.{contains_cases, contains_head, contains_later}
+use Rattle.std.proofs.Common.{◌≡◌, ◌⊎◌, ℕ, ◌≤◌, Bool, true, false, ◌||◌, List, [], ◌∷◌, ◌++◌, length, map, refl, sym, ap, ◌∙◌, inl, inr, arith, Contains, eq-eqb, eqb-true}
+use Rattle.proto_faults.proofs.Common.{both_ways, or_cases, or_left, or_right, Contains-append_cases, Contains-append_left, Contains-append_right, contains_cases, contains_head, contains_later}
 use Rattle.proto_parts.specs.Parts.{BlockOf, FieldOf, blocks_in, fields_in}
 use Rattle.proto_statement_edits.specs.FieldPlaces.{alone_in, is_only}
 use Rattle.proto_tree.specs.declared.context.Context.{Context}
@@ -15,8 +12,7 @@ use Rattle.proto_tree.specs.declared.tree.Block.{Block as Braced}
 use Rattle.proto_tree.specs.declared.tree.Field.{Field}
 use Rattle.proto_tree.specs.declared.tree.Member.{Member}
 use Rattle.proto_tree.specs.declared.tree.Signature.{Signature}
-use Rattle.proto_tree.specs.File.{field_tree, member_tree, message_tree, oneof_tree, trees}
-use Rattle.proto_tree.specs.Tree.{Tree, End, Leaf, Block, IsWellFormed, after, header_kind, joined, statement_kind}
+use Rattle.proto_tree.proofs.Common.{field_tree, member_tree, message_tree, oneof_tree, trees, Tree, End, Leaf, Block, IsWellFormed, after, header_kind, joined, statement_kind}
 
 or_assoc : (a b c : Bool) → ((a || b) || c) ≡ (a || (b || c))
 or_assoc true b c = refl

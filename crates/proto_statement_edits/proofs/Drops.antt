@@ -2,16 +2,12 @@
 use Rattle.std.proofs.Common.{◌≡◌, ◌⊎◌, ℕ, ◌<◌, List, length, Some, None, refl, sym, ap, subst, ◌∙◌, inl, inr, arith, string_bytes}
 use Rattle.std.proofs.lemmas.Option.{none-some, same_Some}
 use Rattle.proto_text.specs.Texts.{offset_at}
-use Rattle.proto_files.specs.FilesRead.{ReadOf, AreRead, read_at}
-use Rattle.proto_files.specs.GivenFiles.{FileOf, file_at}
-use Rattle.proto_files.proofs.ReadOnce.{read_once}
+use Rattle.proto_files.proofs.Common.{ReadOf, AreRead, read_at, FileOf, file_at, read_once}
 use Rattle.proto_entries.specs.declared.refusal.Refusal.{Refusal}
 use Rattle.proto_entries.specs.declared.refusal.Refusal.TheVariants as refusal
-use Rattle.proto_meaning.specs.Grown.{At}
-use Rattle.proto_meaning.specs.Skeleton.{Used}
+use Rattle.proto_meaning.proofs.Common.{At, Used}
 use Rattle.proto_names.specs.declared.link.RefId.{RefId}
-use Rattle.proto_captures.specs.CapturedPlaces.{StandsAtToken}
-use Rattle.proto_captures.specs.Cases.{IsFirstPlace}
+use Rattle.proto_captures.proofs.Common.{StandsAtToken, IsFirstPlace}
 use Rattle.proto_statement_names.specs.Cases.{DropCase, IsImported, IsNeededIn, IsNoFile, IsPlaceOf, needed, no_such_file, not_imported}
 use Rattle.proto_statement_edits.specs.Edits.{IsDropCase, IsDropRefusal}
 use Rattle.proto_statement_edits.specs.Steps.{IsFirstNeeded, IsNeededAtToken}

@@ -2,24 +2,15 @@
 use Rattle.std.proofs.Common.{◌≡◌, ℕ, ◌<◌, true, false, List, length, sym, ap, subst, ◌∙◌, inl, inr, arith}
 use Rattle.std.proofs.lemmas.Bool.{both_ways}
 use Rattle.proto_tree.specs.declared.context.Context.TheVariants as context
-use Rattle.proto_files.specs.Faults.{HasNoFault}
-use Rattle.proto_files.specs.FilesRead.{ReadOf, AreRead, read_at}
-use Rattle.proto_files.specs.GivenFiles.{FileOf, file_at}
-use Rattle.proto_files.proofs.ReadOnce.{read_once}
+use Rattle.proto_files.proofs.Common.{HasNoFault, ReadOf, AreRead, read_at, FileOf, file_at, read_once}
 use Rattle.proto_entries.specs.declared.refusal.Refusal.TheVariants as refusal
 use Rattle.proto_imports.specs.Links.{LinkFaults}
 use Rattle.proto_meaning.specs.Grown.{At, at}
-use Rattle.proto_captures.specs.Targets.{Target}
-use Rattle.proto_captures.proofs.Inside.{tokens_are_inside}
-use Rattle.proto_statement_changes.specs.DeletionChanges.{FieldAt, FieldsAreOne, splice_of_deletion}
-use Rattle.proto_statement_changes.specs.OneFile.{IsTooLong}
-use Rattle.proto_statement_names.specs.Cases.{IsAlone, last_of_oneof}
-use Rattle.proto_statement_names.proofs.Fields.{fields_are_one}
-use Rattle.proto_statement_edits.specs.FieldPlaces.{alone_in}
+use Rattle.proto_captures.proofs.Common.{Target, tokens_are_inside}
+use Rattle.proto_statement_changes.proofs.Common.{FieldAt, FieldsAreOne, splice_of_deletion, IsTooLong}
+use Rattle.proto_statement_names.proofs.Common.{IsAlone, last_of_oneof, fields_are_one}
+use Rattle.proto_statement_edits.specs.Common.{alone_in, IsDeletionCase, IsDeletionRefusal, IsFieldNamed, RefusesDeletion, by_name, too_large, IsFieldToken, FieldName}
 use Rattle.proto_statement_edits.proofs.AloneTrees.{HoldsAlone, alone_holds, holds_alone}
-use Rattle.proto_statement_edits.specs.Edits.{IsDeletionCase, IsDeletionRefusal, IsFieldNamed, RefusesDeletion, by_name, too_large}
-use Rattle.proto_statement_edits.specs.Fields.{IsFieldToken}
-use Rattle.proto_statement_edits.specs.declared.deleting.FieldName.{FieldName}
 use Rattle.proto_statement_edits.proofs.FieldNamed.{IsFree, IsWhich, which}
 
 module _ (files : List FileOf) (reads : List ReadOf) (are : AreRead files reads) (name : List ℕ) (field : FieldName) (is : IsFieldToken files reads name field) where

@@ -1,34 +1,17 @@
 -- Cases 1 and 2 of a deletion, by what a link has of the name.
-use Rattle.std.proofs.Common.{◌≡◌, ◌≢◌, ◌⊎◌, ℕ, ◌<◌, true, false, List, get_or, Option, Some, None, option_map, refl, sym, ap, subst, ◌∙◌, inl, inr, arith}
-use Rattle.std.specs.List.{Contains}
-use Rattle.std.specs.Option.{option_and_then}
-use Rattle.std.proofs.lemmas.Bool.{both_ways, cond-false}
-use Rattle.std.proofs.lemmas.List.{get_or_default}
-use Rattle.std.proofs.lemmas.Option.{none-some, same_Some}
-use Rattle.proto_files.specs.Faults.{HasNoFault}
-use Rattle.proto_files.specs.FilesRead.{ReadOf, AreRead}
-use Rattle.proto_files.specs.GivenFiles.{FileOf, file_at as file_of_place}
-use Rattle.proto_files.proofs.ReadOnce.{read_once}
+use Rattle.std.proofs.Common.{◌≡◌, ◌≢◌, ◌⊎◌, ℕ, ◌<◌, true, false, List, get_or, Option, Some, None, option_map, refl, sym, ap, subst, ◌∙◌, inl, inr, arith, Contains, option_and_then}
+use Rattle.proto_faults.proofs.Common.{both_ways, cond-false, get_or_default, none-some, same_Some}
+use Rattle.proto_files.proofs.Common.{HasNoFault, ReadOf, AreRead, FileOf, file_at as file_of_place, read_once}
 use Rattle.proto_entries.specs.declared.refusal.Refusal.TheVariants as refusal
 use Rattle.proto_imports.specs.Links.{LinkFaults, names_of_files}
 use Rattle.proto_meaning.specs.declared.kind.Kind.{Kind}
 use Rattle.proto_meaning.specs.declared.kind.Kind.TheVariants.{Field, Package}
-use Rattle.proto_meaning.specs.Faults.{place_from, place_of}
-use Rattle.proto_meaning.specs.Grown.{at}
-use Rattle.proto_meaning.specs.Joined.{joined}
-use Rattle.proto_meaning.specs.Linked.{is_package}
-use Rattle.proto_meaning.specs.Names.{Symbol}
-use Rattle.proto_names.specs.LinkOfFiles.{HoldsNames, IsLinkOf}
-use Rattle.proto_names.specs.Linking.{LinkOf, NameOf, file_at, name_at, own_file, own_token, text_at, token_at}
-use Rattle.proto_captures.specs.Cases.{IsUnknown}
-use Rattle.proto_captures.specs.Targets.{Target}
-use Rattle.proto_captures.proofs.OneTarget.{place_last}
-use Rattle.proto_statement_changes.specs.DeletionChanges.{FieldAt, splice_of_deletion}
-use Rattle.proto_statement_changes.specs.OneFile.{IsTooLong}
-use Rattle.proto_statement_names.specs.Cases.{DeletionCase, IsAlone, IsField, kind_not_allowed, last_of_oneof, unknown_target}
-use Rattle.proto_statement_names.proofs.Fields.{fields_are_there}
-use Rattle.proto_statement_edits.specs.Edits.{IsDeletionCase, IsDeletionRefusal, IsFieldNamed, RefusesDeletion, by_name, too_large}
-use Rattle.proto_statement_edits.specs.Fields.{is_field, is_field_kind}
+use Rattle.proto_meaning.proofs.Common.{place_from, place_of, at, joined, is_package, Symbol}
+use Rattle.proto_names.proofs.Common.{HoldsNames, IsLinkOf, LinkOf, NameOf, file_at, name_at, own_file, own_token, text_at, token_at}
+use Rattle.proto_captures.proofs.Common.{IsUnknown, Target, place_last}
+use Rattle.proto_statement_changes.proofs.Common.{FieldAt, splice_of_deletion, IsTooLong}
+use Rattle.proto_statement_names.proofs.Common.{DeletionCase, IsAlone, IsField, kind_not_allowed, last_of_oneof, unknown_target, fields_are_there}
+use Rattle.proto_statement_edits.specs.Common.{IsDeletionCase, IsDeletionRefusal, IsFieldNamed, RefusesDeletion, by_name, too_large, is_field, is_field_kind}
 use Rattle.proto_statement_edits.proofs.Needed.{named_at}
 
 -- ---- the cases by their numbers

@@ -1,39 +1,18 @@
 -- The statement of the field of a name, and what is known of it.
-use Rattle.std.proofs.Common.{◌≡◌, ℕ, suc, ◌+◌, ◌<◌, ◌≤◌, ◌^◌, min, List, [], ◌∷◌, ◌++◌, codes, length, map, Option, Some, None, refl, sym, ap, ap₂, subst, ◌∙◌, arith, length-append}
-use Rattle.std.specs.Prelude.{option_map}
-use Rattle.std.proofs.lemmas.List.{length-map}
-use Rattle.std.proofs.lemmas.Option.{none-some, same_Some}
+use Rattle.std.proofs.Common.{◌≡◌, ℕ, suc, ◌+◌, ◌<◌, ◌≤◌, ◌^◌, min, List, [], ◌∷◌, ◌++◌, codes, length, map, Option, Some, None, refl, sym, ap, ap₂, subst, ◌∙◌, arith, length-append, option_map}
+use Rattle.proto_faults.proofs.Common.{length-map, none-some, same_Some}
 use Rattle.proto_text.specs.declared.lexer.Token.{Token as TextToken}
-use Rattle.proto_text.specs.Segments.{bytes_between, end_before}
-use Rattle.proto_text.specs.Texts.{offset_at, word_at}
-use Rattle.proto_text.specs.Tokens.{Lexeme, lexeme_at}
-use Rattle.proto_text.proofs.Once.{one_token_list}
+use Rattle.proto_text.proofs.Common.{bytes_between, end_before, offset_at, word_at, Lexeme, lexeme_at, one_token_list}
 use Rattle.proto_tree.specs.declared.class.Class.TheVariants as class
 use Rattle.proto_tree.specs.declared.piece.Statement.{Statement}
-use Rattle.proto_tree.specs.Flat.{Mark, one}
-use Rattle.proto_tree.specs.Reads.{Reads}
-use Rattle.proto_tree.specs.Tree.{Tree, flat}
-use Rattle.proto_tree.proofs.MarkLaws.{trees_are_numbered}
-use Rattle.proto_files.specs.FilesRead.{ReadOf, AreRead, read_at}
-use Rattle.proto_files.specs.GivenFiles.{FileOf, file_at}
-use Rattle.proto_meaning.specs.Faults.{place_from, place_of as place_of_declared}
-use Rattle.proto_meaning.specs.Grown.{At, at}
-use Rattle.proto_meaning.specs.Skeleton.{Declared, Source, Token, shifted_source}
+use Rattle.proto_tree.proofs.Common.{Mark, one, Reads, Tree, flat, trees_are_numbered}
+use Rattle.proto_files.proofs.Common.{ReadOf, AreRead, read_at, FileOf, file_at}
+use Rattle.proto_meaning.proofs.Common.{place_from, place_of as place_of_declared, At, at, Declared, Source, Token, shifted_source}
 use Rattle.proto_parts.specs.Numbers.{number_of, past}
-use Rattle.proto_captures.proofs.Declarations.{IsDeclaredBy, declared_by, path_of}
-use Rattle.proto_captures.proofs.OneTarget.{place_last}
-use Rattle.proto_statement_laws.specs.Deletions.{IsFieldOf, StandsAt, begins, deletion, first_token, next_token, splice}
-use Rattle.proto_statement_laws.specs.Statements.{reservation_text}
-use Rattle.proto_statement_laws.proofs.Found.{found}
-use Rattle.proto_statement_laws.proofs.Marks.{some_marks}
-use Rattle.proto_statement_laws.proofs.Seams.{fit_long}
-use Rattle.proto_statement_laws.proofs.TakenOut.{close_at, closed}
+use Rattle.proto_captures.proofs.Common.{IsDeclaredBy, declared_by, path_of, place_last}
+use Rattle.proto_statement_laws.proofs.Common.{IsFieldOf, StandsAt, begins, deletion, first_token, next_token, splice, reservation_text, found, some_marks, fit_long, close_at, closed}
 use Rattle.proto_statement_changes.specs.DeletionChanges.{FieldAt, FieldsAreThere, IsFieldAt, name_of_field, number_of_field, splice_of_deletion}
-use Rattle.proto_statement_edits.specs.FieldPlaces.{FieldAt as FoundAt, field_in, last_token, number_token, place_of}
-use Rattle.proto_statement_edits.specs.declared.fields.FieldPlace.{FieldPlace}
-use Rattle.proto_statement_edits.specs.Edits.{IsFieldNamed}
-use Rattle.proto_statement_edits.specs.Fields.{IsFieldToken, StandsInOrder, last_by, last_of, text_by, text_if}
-use Rattle.proto_statement_edits.specs.declared.deleting.FieldName.{FieldName}
+use Rattle.proto_statement_edits.specs.Common.{FieldAt as FoundAt, field_in, last_token, number_token, place_of, FieldPlace, IsFieldNamed, IsFieldToken, StandsInOrder, last_by, last_of, text_by, text_if, FieldName}
 use Rattle.proto_statement_edits.proofs.FieldCases.{file_there}
 use Rattle.proto_statement_edits.proofs.FieldEnds.{field_last}
 use Rattle.proto_statement_edits.proofs.FieldStands.{none_missing, stands_found}

@@ -1,10 +1,8 @@
 -- The first field of a name token in trees that stand one behind another.
-use Rattle.std.proofs.Common.{◌≡◌, ℕ, List, ◌++◌, Option, Some, None, refl, sym, ap, ◌∙◌}
-use Rattle.std.specs.Prelude.{option_map}
+use Rattle.std.proofs.Common.{◌≡◌, ℕ, List, ◌++◌, Option, Some, None, refl, sym, ap, ◌∙◌, option_map}
 use Rattle.std.proofs.lemmas.Option.{none-some}
 use Rattle.proto_statement_laws.specs.Deletions.{first_of, first_token}
-use Rattle.proto_statement_edits.specs.declared.fields.FieldPlace.{FieldPlace}
-use Rattle.proto_statement_edits.specs.FieldPlaces.{FieldAt, field_among, field_if, field_in, or_else, place_of}
+use Rattle.proto_statement_edits.specs.Common.{FieldPlace, FieldAt, field_among, field_if, field_in, or_else, place_of}
 use Rattle.proto_tree.specs.declared.piece.Header.TheVariants as header
 use Rattle.proto_tree.specs.declared.class.Want.TheVariants as want
 use Rattle.proto_tree.specs.declared.piece.Statement.TheVariants as statement
@@ -13,9 +11,7 @@ use Rattle.proto_tree.specs.declared.tree.Field.{Field}
 use Rattle.proto_tree.specs.declared.tree.FieldType.{FieldType}
 use Rattle.proto_tree.specs.declared.tree.FieldType.TheVariants as field_type
 use Rattle.proto_tree.specs.declared.tree.Separated.{Separated}
-use Rattle.proto_tree.specs.File.{field_tree, oneof_tree, trees}
-use Rattle.proto_tree.specs.Flat.{Mark, flat_option, flat_type, flat_words, only}
-use Rattle.proto_tree.specs.Tree.{Tree, End, Leaf, Block, joined}
+use Rattle.proto_tree.proofs.Common.{field_tree, oneof_tree, trees, Mark, flat_option, flat_type, flat_words, only, Tree, End, Leaf, Block, joined}
 
 -- ---- the first token
 

@@ -1,11 +1,9 @@
 -- The last `;` of each kind in trees that stand one behind another, and the place that they give.
-use Rattle.std.proofs.Common.{◌≡◌, ℕ, suc, List, [], ◌∷◌, ◌++◌, Option, Some, None, refl, ap, ◌∙◌}
-use Rattle.std.specs.Prelude.{flat_map}
+use Rattle.std.proofs.Common.{◌≡◌, ℕ, suc, List, [], ◌∷◌, ◌++◌, Option, Some, None, refl, ap, ◌∙◌, flat_map}
 use Rattle.proto_parts.specs.Parts.{statements}
 use Rattle.proto_statement_laws.specs.Imports.{behind_import, behind_package, behind_syntax, import_place, last_from}
 use Rattle.proto_statement_edits.specs.declared.import_places.LastEnds.{LastEnds}
-use Rattle.proto_statement_edits.specs.FieldPlaces.{or_else}
-use Rattle.proto_statement_edits.specs.ImportPlaces.{behind_all, ends_in, ends_of, place_behind, with_statement}
+use Rattle.proto_statement_edits.specs.Common.{or_else, behind_all, ends_in, ends_of, place_behind, with_statement}
 use Rattle.proto_tree.specs.declared.piece.Statement.TheVariants as statement
 use Rattle.proto_tree.specs.Tree.{Tree, End, Leaf, Block, joined}
 

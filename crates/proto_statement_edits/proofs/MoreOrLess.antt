@@ -1,24 +1,12 @@
 -- The imports of files with one import more, and without the import of a path.
-use Rattle.std.proofs.Common.{◌≡◌, ◌↔◌, ℕ, ◌<◌, Bool, true, false, ◌==◌, not, List, [], ◌∷◌, ◌++◌, length, get_or, filter, refl, sym, ◌∙◌, ap, subst, inl, inr, arith, slice_set, Option, Some, None, option_map}
-use Rattle.std.specs.List.{Contains}
-use Rattle.std.specs.Str.{bytes_eq}
-use Rattle.std.proofs.lemmas.Bool.{and_from, and_parts, both_ways, cases_eq, eqb-true, eq-eqb}
-use Rattle.std.proofs.lemmas.List.{length-map}
-use Rattle.std.proofs.lemmas.List.Elements.{Contains-append_cases, Contains-append_left, Contains-append_right}
-use Rattle.std.proofs.lemmas.List.Quantifiers.{position-Some}
-use Rattle.std.proofs.lemmas.Option.{none-some, same_Some}
-use Rattle.proto_faults.proofs.Lists.{contains_cases, contains_head, same_from_word, word_from_same}
-use Rattle.proto_files.specs.FilesRead.{ReadOf}
-use Rattle.proto_files.specs.GivenFiles.{FileOf, paths_of}
-use Rattle.proto_meaning.specs.Faults.{Asked, file_of, import_at, imports_of}
-use Rattle.proto_meaning.specs.Names.{Import}
-use Rattle.proto_imports.specs.Importing.{all_imports, import_from}
-use Rattle.proto_imports.specs.Links.{link_imports}
+use Rattle.std.proofs.Common.{◌≡◌, ◌↔◌, ℕ, ◌<◌, Bool, true, false, ◌==◌, not, List, [], ◌∷◌, ◌++◌, length, get_or, filter, refl, sym, ◌∙◌, ap, subst, inl, inr, arith, slice_set, Option, Some, None, option_map, Contains, bytes_eq, eqb-true, eq-eqb}
+use Rattle.proto_faults.proofs.Common.{and_from, and_parts, both_ways, cases_eq, length-map, Contains-append_cases, Contains-append_left, Contains-append_right, position-Some, none-some, same_Some, contains_cases, contains_head, same_from_word, word_from_same}
+use Rattle.proto_files.proofs.Common.{ReadOf, FileOf, paths_of}
+use Rattle.proto_meaning.proofs.Common.{Asked, file_of, import_at, imports_of, Import}
+use Rattle.proto_imports.proofs.Common.{all_imports, import_from, link_imports, in_filter, of_filter}
 use Rattle.proto_imports.specs.declared.import.FileImport.{FileImport}
-use Rattle.proto_imports.proofs.SeenFiles.{in_filter, of_filter}
-use Rattle.proto_statement_names.specs.Cases.{IsPlaceOf, asked_in, is_import_of}
+use Rattle.proto_statement_names.proofs.Common.{IsPlaceOf, asked_in, is_import_of, import_own, own_import, set_imports}
 use Rattle.proto_statement_names.proofs.Imports.{asked_import, import_asked}
-use Rattle.proto_statement_names.proofs.SameImports.{import_own, own_import, set_imports}
 
 -- two paths at one place are one
 pub one_path : (paths : List (List ℕ)) (a b : List ℕ) (k : ℕ) → file_of paths a ≡ Some k → file_of paths b ≡ Some k → a ≡ b

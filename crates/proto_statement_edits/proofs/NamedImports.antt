@@ -1,39 +1,20 @@
 -- The import of a path is found by the value of its string.
-use Rattle.std.proofs.Common.{◌≡◌, ℕ, zero, suc, ◌+◌, ◌<◌, ◌≤◌, Bool, true, false, List, [], ◌∷◌, length, get_or, drop, map, Option, Some, None, refl, sym, ap, subst, ◌∙◌, inl, inr, arith}
-use Rattle.std.specs.Prelude.{if◌then◌else◌, is_some}
-use Rattle.std.specs.List.{Contains}
-use Rattle.std.specs.Option.{option_and_then}
-use Rattle.std.proofs.lemmas.Bool.{both_ways, cases_Bool, cond-false, cond-true}
+use Rattle.std.proofs.Common.{◌≡◌, ℕ, zero, suc, ◌+◌, ◌<◌, ◌≤◌, Bool, true, false, List, [], ◌∷◌, length, get_or, drop, map, Option, Some, None, refl, sym, ap, subst, ◌∙◌, inl, inr, arith, if◌then◌else◌, is_some, Contains, option_and_then}
+use Rattle.proto_faults.proofs.Common.{both_ways, cases_Bool, cond-false, cond-true, drop_all, length-map, Contains-append_cases, Contains-append_left, Contains-append_right, or_nothing, contains_cases, contains_head, contains_map, from_map, same_from_word, word_from_same}
 use Rattle.std.proofs.Math.Seq.{drop-cons}
-use Rattle.std.proofs.lemmas.List.{drop_all, length-map}
-use Rattle.std.proofs.lemmas.List.Elements.{Contains-append_cases, Contains-append_left, Contains-append_right}
-use Rattle.proto_faults.specs.Texts.{or_nothing}
 use Rattle.proto_text.specs.declared.kind.PieceKind.TheVariants.{Solid}
 use Rattle.proto_text.specs.declared.kind.TokenKind.{TokenKind}
 use Rattle.proto_text.specs.declared.kind.TokenKind.TheVariants.{Word, Number, Text, Punctuation}
-use Rattle.proto_text.specs.Pieces.{IsLexeme}
-use Rattle.proto_text.specs.Strings.{IsString}
-use Rattle.proto_text.specs.Texts.{word_at}
-use Rattle.proto_text.specs.Tokens.{Lexeme, lexeme_at}
-use Rattle.proto_text.specs.Values.{is_value, value_of}
-use Rattle.proto_faults.proofs.Lists.{contains_cases, contains_head, contains_map, from_map, same_from_word, word_from_same}
-use Rattle.proto_text.proofs.Order.{tokens_are_lexemes}
-use Rattle.proto_text.proofs.Values.{strings_have_values, value_again, value_is_value_of}
+use Rattle.proto_text.proofs.Common.{IsLexeme, IsString, word_at, Lexeme, lexeme_at, is_value, value_of, tokens_are_lexemes, strings_have_values, value_again, value_is_value_of}
 use Rattle.proto_tree.specs.declared.piece.Statement.{Statement}
 use Rattle.proto_tree.specs.declared.piece.Statement.TheVariants as statement
 use Rattle.proto_tree.specs.declared.tree.File.{File}
 use Rattle.proto_tree.specs.declared.tree.Import.{Import}
 use Rattle.proto_tree.specs.declared.tree.Item.{Item}
-use Rattle.proto_tree.specs.File.{item_tree, tree_of_file, trees}
-use Rattle.proto_tree.specs.Tree.{Tree, End, Leaf, Block}
-use Rattle.proto_files.specs.FilesRead.{ReadOf, AreRead, read_at}
-use Rattle.proto_files.specs.GivenFiles.{FileOf, file_at}
-use Rattle.proto_files.specs.StringTokens.{is_string, string_at}
-use Rattle.proto_listing.specs.FromTree.{Wanted, imports_in, statement_imports}
-use Rattle.proto_listing.proofs.InTokens.{import_here as path_here}
-use Rattle.proto_listing.proofs.ReadTrees.{imports_are_strings}
-use Rattle.proto_meaning.specs.Faults.{Asked}
-use Rattle.proto_meaning.specs.Grown.{At}
+use Rattle.proto_tree.proofs.Common.{item_tree, tree_of_file, trees, Tree, End, Leaf, Block}
+use Rattle.proto_files.proofs.Common.{ReadOf, AreRead, read_at, FileOf, file_at, is_string, string_at}
+use Rattle.proto_listing.proofs.Common.{Wanted, imports_in, statement_imports, import_here as path_here, imports_are_strings}
+use Rattle.proto_meaning.proofs.Common.{Asked, At}
 use Rattle.proto_imports.specs.Links.{all_wanted, asked_as, text_of}
 use Rattle.proto_statement_laws.specs.Deletions.{AfterBlock, AfterLeaf, First, StandsIn}
 use Rattle.proto_statement_changes.specs.OneFile.{word_of}

@@ -1,38 +1,14 @@
 -- The first reference that needs an import is the first that means a name of a file that is not marked.
-use Rattle.std.proofs.Common.{◌≡◌, ℕ, zero, suc, ◌+◌, ◌<◌, Bool, true, false, not, List, [], ◌∷◌, ◌++◌, length, get_or, map, take, Option, Some, None, option_map, refl, sym, ap, subst, ◌∙◌, inl, inr, arith}
-use Rattle.std.specs.Prelude.{find, slice_index_or}
-use Rattle.std.specs.Global.{Vec}
-use Rattle.std.specs.List.{AllPairs, Contains}
-use Rattle.std.specs.Option.{option_and_then}
-use Rattle.std.proofs.lemmas.Bool.{both_ways, cases_Bool, cond-false, cond-true}
-use Rattle.std.proofs.lemmas.List.{get_or_default}
-use Rattle.std.proofs.lemmas.Option.{none-some, same_Some}
+use Rattle.std.proofs.Common.{◌≡◌, ℕ, zero, suc, ◌+◌, ◌<◌, Bool, true, false, not, List, [], ◌∷◌, ◌++◌, length, get_or, map, take, Option, Some, None, option_map, refl, sym, ap, subst, ◌∙◌, inl, inr, arith, find, slice_index_or, AllPairs, Contains, option_and_then}
+use Rattle.proto_faults.proofs.Common.{Vec, both_ways, cases_Bool, cond-false, cond-true, get_or_default, none-some, same_Some, contains_cases, contains_head, contains_later, contains_map, from_map}
 use Rattle.proto_case.specs.Camel.{entry_name}
-use Rattle.proto_faults.proofs.Lists.{contains_cases, contains_head, contains_later, contains_map, from_map}
-use Rattle.proto_files.specs.Faults.{HasNoFault}
-use Rattle.proto_files.specs.FilesRead.{ReadOf, AreRead}
-use Rattle.proto_files.specs.GivenFiles.{FileOf}
-use Rattle.proto_imports.specs.Links.{LinkFaults, link_skeleton, names_of_files, text_of}
-use Rattle.proto_meaning.specs.Edits.{IsNeeded}
-use Rattle.proto_meaning.specs.Grown.{At, at, used_in}
-use Rattle.proto_meaning.specs.Joined.{ArePlain, joined}
-use Rattle.proto_meaning.specs.Linked.{IsLinked, is_package}
-use Rattle.proto_meaning.specs.Marks.{MarksSeen}
-use Rattle.proto_meaning.specs.Names.{Reference, Symbol, Workspace, hit, is_type, meaning, meaning_at, sees, shows, typed}
-use Rattle.proto_meaning.specs.Skeleton.{Used, reference_of}
+use Rattle.proto_files.proofs.Common.{HasNoFault, ReadOf, AreRead, FileOf}
+use Rattle.proto_imports.specs.Links.{LinkFaults, link_skeleton, names_of_files, text_of, uses_of, used_named}
+use Rattle.proto_meaning.proofs.Common.{IsNeeded, At, at, used_in, ArePlain, joined, IsLinked, is_package, MarksSeen, Reference, Symbol, Workspace, hit, is_type, meaning, meaning_at, sees, shows, typed, Used, reference_of, joined_apart, typed_is, package_from, one_symbol, shown}
 use Rattle.proto_meaning.specs.declared.kind.Kind.{Kind}
-use Rattle.proto_meaning.proofs.Joined.{joined_apart}
-use Rattle.proto_meaning.proofs.Rename.{typed_is}
-use Rattle.proto_meaning.proofs.Sound.{package_from}
-use Rattle.proto_meaning.proofs.Symbols.{one_symbol, shown}
-use Rattle.proto_imports.specs.Links.{uses_of}
-use Rattle.proto_names.specs.LinkOfFiles.{HoldsNames, IsLinkOf, TextMeant, meant_by_link, meant_by_use}
-use Rattle.proto_names.specs.Linking.{LinkOf, NameOf, file_at, name_at, own_file, text_at}
+use Rattle.proto_names.proofs.Common.{HoldsNames, IsLinkOf, TextMeant, meant_by_link, meant_by_use, LinkOf, NameOf, file_at, name_at, own_file, text_at, from_use, use_there}
 use Rattle.proto_names.specs.declared.references.Meant.{Meant}
-use Rattle.proto_captures.specs.Cases.{StandsBefore}
-use Rattle.proto_captures.proofs.NoLinkFault.{files_are_linked}
-use Rattle.proto_names.proofs.UsesOfFiles.{from_use, use_there}
-use Rattle.proto_imports.specs.Links.{used_named}
+use Rattle.proto_captures.proofs.Common.{StandsBefore, files_are_linked}
 use Rattle.proto_statement_names.specs.Cases.{IsNeededIn, with_dropped}
 use Rattle.proto_statement_edits.specs.Steps.{AreSeenIn, IsFirstNeeded, first_hidden, hidden_in, is_hidden}
 

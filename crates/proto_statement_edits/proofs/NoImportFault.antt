@@ -2,9 +2,7 @@
 use Rattle.std.proofs.Common.{◌≡◌, ℕ, List, refl, ap, subst, ◌∙◌}
 use Rattle.proto_faults.specs.declared.fault.FaultKind.{FaultKind}
 use Rattle.proto_faults.specs.declared.fault.FaultKind.TheVariants as kind
-use Rattle.proto_files.specs.Faults.{FaultAt, HasNoFault}
-use Rattle.proto_files.specs.FilesRead.{ReadOf, AreRead, read_at}
-use Rattle.proto_files.specs.GivenFiles.{FileOf, file_at, paths_of}
+use Rattle.proto_files.proofs.Common.{FaultAt, HasNoFault, ReadOf, AreRead, read_at, FileOf, file_at, paths_of}
 use Rattle.proto_text.specs.Texts.{offset_at}
 use Rattle.proto_meaning.specs.Faults.{Asked, Fault, ImportFault, IsLeast, cycle, double, fault, file_of, unknown}
 use Rattle.proto_imports.specs.Links.{LinkFaults, all_wanted, of_import, text_of}

@@ -1,21 +1,13 @@
 -- What files see with other imports.
-use Rattle.std.proofs.Common.{◌≡◌, ◌↔◌, ℕ, ◌<◌, Bool, false, List, [], ◌∷◌, ◌++◌, length, get_or, map, filter, not, ◌==◌, refl, sym, ap, subst, ◌∙◌, arith, slice_set}
-use Rattle.std.specs.Prelude.{Result, Ok, Err, IfOk}
-use Rattle.std.specs.Global.{Vec}
-use Rattle.std.specs.List.{Contains}
-use Rattle.std.proofs.lemmas.List.{length-map, length-set, map-set}
-use Rattle.proto_files.specs.FilesRead.{ReadOf, AreRead}
-use Rattle.proto_files.specs.GivenFiles.{FileOf}
-use Rattle.proto_imports.specs.Importing.{all_imports, import_from}
-use Rattle.proto_imports.specs.Links.{link_imports, names_in, names_of_files}
+use Rattle.std.proofs.Common.{◌≡◌, ◌↔◌, ℕ, ◌<◌, Bool, false, List, [], ◌∷◌, ◌++◌, length, get_or, map, filter, not, ◌==◌, refl, sym, ap, subst, ◌∙◌, arith, slice_set, Result, Ok, Err, IfOk, Contains, length-set}
+use Rattle.proto_faults.proofs.Common.{Vec, length-map, map-set}
+use Rattle.proto_files.proofs.Common.{ReadOf, AreRead, FileOf}
+use Rattle.proto_imports.proofs.Common.{all_imports, import_from, link_imports, names_in, names_of_files}
 use Rattle.proto_imports.specs.declared.import.FileImport.{FileImport}
-use Rattle.proto_meaning.specs.Edits.{import_of, with_imports}
-use Rattle.proto_meaning.specs.Marks.{MarksSeen}
-use Rattle.proto_meaning.specs.Names.{Import, Workspace}
-use Rattle.proto_statement_names.specs.Cases.{IsPlaceOf, with_added, with_dropped}
+use Rattle.proto_meaning.proofs.Common.{import_of, with_imports, MarksSeen, Import, Workspace}
+use Rattle.proto_statement_names.proofs.Common.{IsPlaceOf, with_added, with_dropped, same_marks}
 use Rattle.proto_statement_edits.specs.Steps.{AreImportsOf, AreSeenIn}
 use Rattle.proto_statement_edits.proofs.MoreOrLess.{one_less, one_more}
-use Rattle.proto_statement_names.proofs.SameImports.{same_marks}
 
 pub if_both : {A E : Type 0} {P Q R : A → Type 0} (r : Result A E) → IfOk r P → IfOk r Q → ((x : A) → P x → Q x → R x) → IfOk r R
 if_both (Ok x) p q f = f x p q

@@ -7,14 +7,8 @@ use Rattle.proto_tree.specs.declared.class.Class.TheVariants as class
 use Rattle.proto_tree.specs.declared.piece.Statement.{Statement}
 use Rattle.proto_tree.specs.declared.piece.Statement.TheVariants as statement
 use Rattle.proto_tree.specs.declared.tree.Import.{Import}
-use Rattle.proto_tree.specs.Flat.{Mark, flat_header, flat_statement, one}
-use Rattle.proto_tree.specs.Laws.{Numbered}
-use Rattle.proto_tree.specs.Reads.{Reads}
-use Rattle.proto_tree.specs.Tree.{Tree, flat}
-use Rattle.proto_tree.proofs.MarkLaws.{trees_are_numbered}
-use Rattle.proto_statement_laws.specs.Deletions.{AfterBlock, AfterLeaf, First, StandsIn, first_token, next_token}
-use Rattle.proto_statement_laws.proofs.Marks.{numbered_among, numbered_first, numbered_last, some_marks}
-use Rattle.proto_statement_laws.proofs.Seams.{fit_long}
+use Rattle.proto_tree.proofs.Common.{Mark, flat_header, flat_statement, one, Numbered, Reads, Tree, flat, trees_are_numbered}
+use Rattle.proto_statement_laws.proofs.Common.{AfterBlock, AfterLeaf, First, StandsIn, first_token, next_token, numbered_among, numbered_first, numbered_last, some_marks, fit_long}
 
 pub record IsPart (ms whole : List Mark) : Type 0 where
   pub front : List Mark

@@ -1,13 +1,8 @@
 -- From the start of one token to the end of another.
-use Rattle.std.proofs.Common.{◌≡◌, ℕ, zero, suc, ◌<◌, ◌≤◌, List, [], ◌∷◌, length, get_or, refl, sym, subst, ◌∙◌, arith}
-use Rattle.std.specs.Str.{IsCharBoundary}
-use Rattle.proto_text.specs.Segments.{end_before}
-use Rattle.proto_text.specs.SourceFacts.{IsSpan}
-use Rattle.proto_text.specs.Texts.{offset_at}
-use Rattle.proto_text.specs.Tokens.{AreTokens}
+use Rattle.std.proofs.Common.{◌≡◌, ℕ, zero, suc, ◌<◌, ◌≤◌, List, [], ◌∷◌, length, get_or, refl, sym, subst, ◌∙◌, arith, IsCharBoundary}
+use Rattle.proto_text.proofs.Common.{end_before, IsSpan, offset_at, AreTokens, tokens_are_in_order}
 use Rattle.proto_text.specs.declared.lexer.Token.{Token}
 use Rattle.proto_text.specs.declared.source.Span.{Span}
-use Rattle.proto_text.proofs.Order.{tokens_are_in_order}
 use Rattle.proto_text.proofs.Spans.{token_spans}
 
 pub offset_is : (ts : List Token) (i : ℕ) (d : Token) → i < length ts → offset_at ts i ≡ (get_or ts i d).span.start

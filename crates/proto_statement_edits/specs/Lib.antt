@@ -1,3 +1,4 @@
+pub mod Common
 pub mod Edits
 pub mod FieldPlaces
 pub mod Fields

@@ -1,39 +1,19 @@
 -- An added import that no case refuses leaves files without a fault, and one descriptor with an import more.
-use Rattle.std.proofs.Common.{◌≡◌, ℕ, zero, suc, ◌+◌, List, [], ◌∷◌, ◌++◌, length, map, take, drop, Some, None, refl, sym, ◌∙◌, ap, subst, arith, length-take}
-use Rattle.std.specs.Prelude.{slice_get}
-use Rattle.std.proofs.lemmas.List.{append-nil}
+use Rattle.std.proofs.Common.{◌≡◌, ℕ, zero, suc, ◌+◌, List, [], ◌∷◌, ◌++◌, length, map, take, drop, Some, None, refl, sym, ◌∙◌, ap, subst, arith, length-take, slice_get, append-nil}
 use Rattle.proto_text.specs.declared.kind.TokenKind.TheVariants.{Text}
-use Rattle.proto_text.specs.Segments.{QuotedStandsForItself, moved, quoted}
-use Rattle.proto_text.specs.Tokens.{Lexeme, lexeme_at}
-use Rattle.proto_text.specs.Values.{value_of}
-use Rattle.proto_text.proofs.Values.{value_again}
+use Rattle.proto_text.proofs.Common.{QuotedStandsForItself, moved, quoted, Lexeme, lexeme_at, value_of, value_again}
 use Rattle.proto_tree.specs.declared.tree.Import.{Import}
 use Rattle.proto_tree.specs.Tree.{Tree}
-use Rattle.proto_files.specs.FilesRead.{ReadOf}
-use Rattle.proto_files.specs.GivenFiles.{FileOf, paths_of}
-use Rattle.proto_files.specs.WorkspacePaths.{IsWorkspacePath}
+use Rattle.proto_files.proofs.Common.{ReadOf, FileOf, paths_of, IsWorkspacePath}
 use Rattle.proto_meaning.specs.Faults.{file_of}
-use Rattle.proto_listing.specs.FromTree.{imports_in}
-use Rattle.proto_listing.specs.Moved.{move_wanted}
+use Rattle.proto_listing.proofs.Common.{imports_in, move_wanted}
 use Rattle.proto_parts.specs.Scenes.{string_of, value, value_or_none as value_by_kind}
 use Rattle.proto_descriptors.specs.Descriptors.{FileDesc}
-use Rattle.proto_statement_described.specs.SceneOf.{lexemes_of}
-use Rattle.proto_statement_described.specs.Checked.{AreDescribed}
-use Rattle.proto_statement_laws.specs.Exchanges.{LexemesAreMoved}
-use Rattle.proto_statement_laws.specs.Imports.{import_place}
-use Rattle.proto_statement_laws.specs.Insertions.{IsInsertion}
-use Rattle.proto_statement_laws.specs.Statements.{import_at, import_tokens, token}
-use Rattle.proto_statement_changes.specs.ImportChanges.{AdditionsAreChanges}
-use Rattle.proto_statement_changes.specs.OneFile.{AreFiles, with_read, with_text}
-use Rattle.proto_statement_names.specs.Cases.{unknown_path}
-use Rattle.proto_statement_names.specs.Clean.{AreClean}
-use Rattle.proto_statement_names.specs.Kept.{AdditionsKeepLinks, AdditionsKeepMeanings, IsAdded, MeanTheSame}
-use Rattle.proto_statement_described.specs.Files.{IsAddition, scene_at, tree_at}
-use Rattle.proto_statement_described.specs.Imports.{with_dependency}
-use Rattle.proto_statement_described.specs.Lists.{changed_at}
-use Rattle.proto_statement_described.proofs.OneFile.{additions_leave_no_fault, additions_map_descriptors}
-use Rattle.proto_statement_imports.specs.MovedFiles.{AreMoved}
-use Rattle.proto_statement_imports.specs.Workspaces.{AdditionsAreMade, AreFaultless, MayAdd}
+use Rattle.proto_statement_described.proofs.Common.{lexemes_of, AreDescribed, IsAddition, scene_at, tree_at, with_dependency, changed_at, additions_leave_no_fault, additions_map_descriptors}
+use Rattle.proto_statement_laws.proofs.Common.{LexemesAreMoved, import_place, IsInsertion, import_at, import_tokens, token}
+use Rattle.proto_statement_changes.proofs.Common.{AdditionsAreChanges, AreFiles, with_read, with_text}
+use Rattle.proto_statement_names.proofs.Common.{unknown_path, AreClean, AdditionsKeepLinks, AdditionsKeepMeanings, IsAdded, MeanTheSame}
+use Rattle.proto_statement_imports.specs.Common.{AreMoved, AdditionsAreMade, AreFaultless, MayAdd}
 use Rattle.proto_statement_imports.proofs.ChangedFile.{IsChange, is_change, lexemes_here, tree_here}
 use Rattle.proto_statement_imports.proofs.FilePlaces.{place_named, place_within}
 use Rattle.proto_statement_imports.proofs.ImportFaults.{none_or}

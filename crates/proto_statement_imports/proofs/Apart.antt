@@ -5,12 +5,9 @@ use Rattle.proto_tree.specs.declared.context.Context.TheVariants as context
 use Rattle.proto_tree.specs.declared.piece.Statement.{Statement}
 use Rattle.proto_tree.specs.declared.piece.Statement.TheVariants as statement
 use Rattle.proto_tree.specs.declared.tree.Import.{Import}
-use Rattle.proto_tree.specs.Moved.{Move, move_header, move_statement, move_tree}
-use Rattle.proto_tree.specs.Tree.{Tree, End, Leaf, Block, statement_kind, header_kind, after, inside}
-use Rattle.proto_tree.proofs.Walks.{inside_inner}
+use Rattle.proto_tree.proofs.Common.{Move, move_header, move_statement, move_tree, Tree, End, Leaf, Block, statement_kind, header_kind, after, inside, inside_inner}
 use Rattle.proto_checks_laws.specs.Imports.{without_imports}
-use Rattle.proto_statement_laws.specs.Exchanges.{IsExchanged, Here, Later, Inside, Behind}
-use Rattle.proto_statement_laws.proofs.ImportLists.{none_inside}
+use Rattle.proto_statement_laws.proofs.Common.{IsExchanged, Here, Later, Inside, Behind, none_inside}
 
 -- ---- without imports
 

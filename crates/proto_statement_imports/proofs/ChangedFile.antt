@@ -1,18 +1,14 @@
 -- Files of which one has another text, and what is read of them, place by place (for the crates above).
-use Rattle.std.proofs.Common.{◌≡◌, ◌≢◌, ℕ, zero, suc, ◌<◌, List, [], ◌∷◌, ◌++◌, length, map, refl, sym, ap, ap₂, subst, inl, inr, arith}
-use Rattle.std.specs.Prelude.{slice_index_or, slice_set}
+use Rattle.std.proofs.Common.{◌≡◌, ◌≢◌, ℕ, zero, suc, ◌<◌, List, [], ◌∷◌, ◌++◌, length, map, refl, sym, ap, ap₂, subst, inl, inr, arith, slice_index_or, slice_set, get_or-set_other, get_or-set_same, length-set}
 use Rattle.std.proofs.Math.Seq.{map-set_same}
 use Rattle.std.proofs.lemmas.Bool.{cases_eq}
-use Rattle.std.proofs.lemmas.List.{get_or-set_other, get_or-set_same, length-set}
 use Rattle.proto_text.specs.declared.lexer.Token.{Token}
 use Rattle.proto_text.specs.Tokens.{lexeme_at}
 use Rattle.proto_tree.specs.Tree.{Tree, End}
-use Rattle.proto_files.specs.FilesRead.{ReadOf, read_at}
-use Rattle.proto_files.specs.GivenFiles.{FileOf, file_at, paths_of}
-use Rattle.proto_statement_described.specs.SceneOf.{lexemes_of}
+use Rattle.proto_files.proofs.Common.{ReadOf, read_at, FileOf, file_at, paths_of}
+use Rattle.proto_statement_described.proofs.Common.{lexemes_of, tree_at}
 use Rattle.proto_statement_changes.specs.OneFile.{with_read, with_text}
 use Rattle.proto_statement_names.specs.Files.{IsOneFile}
-use Rattle.proto_statement_described.specs.Files.{tree_at}
 
 -- ---- one element of a list
 

@@ -1,14 +1,10 @@
 -- Each declaration has a token, so it keeps its place where tokens are moved (for the crates above).
-use Rattle.std.proofs.Common.{◌≡◌, ℕ, ◌+◌, List, [], ◌∷◌, ◌++◌, map, refl, subst, inl, inr, arith}
-use Rattle.std.specs.List.{Contains}
+use Rattle.std.proofs.Common.{◌≡◌, ℕ, ◌+◌, List, [], ◌∷◌, ◌++◌, map, refl, subst, inl, inr, arith, Contains}
 use Rattle.proto_faults.proofs.Lists.{contains_cases}
 use Rattle.proto_files.specs.FilesRead.{ReadOf, read_at}
 use Rattle.proto_meaning.specs.declared.kind.Kind.{Kind}
 use Rattle.proto_meaning.specs.declared.kind.Kind.TheVariants.{Field, Method, Value}
-use Rattle.proto_meaning.specs.Faults.{place_from, place_of}
-use Rattle.proto_meaning.specs.Grown.{At, all_declared, at}
-use Rattle.proto_meaning.specs.Skeleton.{Declared, EntryOf, Given, Source, Token, shifted_declared, shifted_source}
-use Rattle.proto_meaning.specs.Tree.{Items, Member, Members, Placed, all_placed, enum, field, file_placed, item, items_placed, key_word, map_field, member, message, no_items, no_members, oneof, package_of, packaged, place, placed, prefixes, service, value_word}
+use Rattle.proto_meaning.proofs.Common.{place_from, place_of, At, all_declared, at, Declared, EntryOf, Given, Source, Token, shifted_declared, shifted_source, Items, Member, Members, Placed, all_placed, enum, field, file_placed, item, items_placed, key_word, map_field, member, message, no_items, no_members, oneof, package_of, packaged, place, placed, prefixes, service, value_word}
 use Rattle.proto_listing.specs.FromTree.{items_in}
 use Rattle.proto_imports.specs.Links.{names_in}
 use Rattle.proto_statement_names.proofs.Declarations.{declared_by}

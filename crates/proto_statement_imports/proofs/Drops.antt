@@ -1,48 +1,22 @@
 -- A dropped import that no case refuses leaves files without a fault, and one descriptor with an import less.
-use Rattle.std.proofs.Common.{◌≡◌, ℕ, false, List, ◌∷◌, length, get_or, map, Some, sym, ◌∙◌, ap, subst}
-use Rattle.std.specs.Prelude.{is_some}
-use Rattle.std.specs.List.{Contains}
-use Rattle.std.specs.Str.{bytes_eq}
-use Rattle.std.proofs.lemmas.List.Elements.{Contains-append_right, Contains-get_or}
-use Rattle.proto_faults.specs.Texts.{or_nothing}
-use Rattle.proto_text.specs.Segments.{moved}
-use Rattle.proto_text.specs.Tokens.{Lexeme, lexeme_at}
-use Rattle.proto_text.specs.Values.{value_of}
-use Rattle.proto_faults.proofs.Lists.{contains_head, contains_map, fails_from, word_from_same}
-use Rattle.proto_text.proofs.Values.{value_again}
+use Rattle.std.proofs.Common.{◌≡◌, ℕ, false, List, ◌∷◌, length, get_or, map, Some, sym, ◌∙◌, ap, subst, is_some, Contains, bytes_eq}
+use Rattle.proto_faults.proofs.Common.{Contains-append_right, Contains-get_or, or_nothing, contains_head, contains_map, fails_from, word_from_same}
+use Rattle.proto_text.proofs.Common.{moved, Lexeme, lexeme_at, value_of, value_again}
 use Rattle.proto_tree.specs.declared.piece.Statement.TheVariants as statement
 use Rattle.proto_tree.specs.declared.tree.Import.{Import}
-use Rattle.proto_tree.specs.Moved.{Move}
-use Rattle.proto_tree.specs.Tree.{Tree, End, Leaf}
-use Rattle.proto_files.specs.FilesRead.{ReadOf}
-use Rattle.proto_files.specs.GivenFiles.{FileOf, paths_of}
-use Rattle.proto_meaning.specs.Faults.{file_of}
-use Rattle.proto_meaning.specs.Grown.{at}
-use Rattle.proto_meaning.specs.Names.{Reference, Workspace}
-use Rattle.proto_meaning.proofs.Following.{Follows, follows_first}
-use Rattle.proto_listing.specs.FromTree.{Wanted, imports_in}
-use Rattle.proto_listing.specs.Moved.{move_wanted}
+use Rattle.proto_tree.proofs.Common.{Move, Tree, End, Leaf}
+use Rattle.proto_files.proofs.Common.{ReadOf, FileOf, paths_of}
+use Rattle.proto_meaning.proofs.Common.{file_of, at, Reference, Workspace, Follows, follows_first}
+use Rattle.proto_listing.proofs.Common.{Wanted, imports_in, move_wanted}
 use Rattle.proto_imports.specs.Links.{asked_as, names_of_files, text_of}
 use Rattle.proto_parts.specs.Scenes.{value}
 use Rattle.proto_descriptors.specs.Descriptors.{FileDesc}
-use Rattle.proto_statement_described.specs.SceneOf.{lexemes_of}
-use Rattle.proto_statement_described.specs.Checked.{AreDescribed}
-use Rattle.proto_statement_laws.specs.Deletions.{own}
-use Rattle.proto_statement_laws.specs.Exchanges.{LexemesAreMoved}
-use Rattle.proto_statement_laws.specs.Insertions.{IsInsertion}
-use Rattle.proto_statement_changes.specs.ImportChanges.{DropsAreChanges}
-use Rattle.proto_statement_changes.specs.OneFile.{AreFiles, with_read, with_text}
-use Rattle.proto_statement_names.specs.Clean.{AreClean}
-use Rattle.proto_statement_names.specs.Files.{IsImportMore}
-use Rattle.proto_statement_names.specs.Kept.{DropsKeepLinks, DropsKeepMeanings, IsDropped, MeanTheSame}
+use Rattle.proto_statement_described.proofs.Common.{lexemes_of, AreDescribed, IsDrop, scene_at, tree_at, HasImport, without_dependency, changed_at, IsMovedScene, drops_leave_no_fault, drops_map_descriptors}
+use Rattle.proto_statement_laws.proofs.Common.{own, LexemesAreMoved, IsInsertion}
+use Rattle.proto_statement_changes.proofs.Common.{DropsAreChanges, AreFiles, with_read, with_text}
+use Rattle.proto_statement_names.proofs.Common.{AreClean, IsImportMore, DropsKeepLinks, DropsKeepMeanings, IsDropped, MeanTheSame}
 use Rattle.proto_statement_names.proofs.NamesOut.{imports_are_more}
-use Rattle.proto_statement_described.specs.Files.{IsDrop, scene_at, tree_at}
-use Rattle.proto_statement_described.specs.Imports.{HasImport, without_dependency}
-use Rattle.proto_statement_described.specs.Lists.{changed_at}
-use Rattle.proto_statement_described.specs.Scenes.{IsMovedScene}
-use Rattle.proto_statement_described.proofs.OneFile.{drops_leave_no_fault, drops_map_descriptors}
-use Rattle.proto_statement_imports.specs.MovedFiles.{AreMoved}
-use Rattle.proto_statement_imports.specs.Workspaces.{AreFaultless, DropsAreMade, MayDrop}
+use Rattle.proto_statement_imports.specs.Common.{AreMoved, AreFaultless, DropsAreMade, MayDrop}
 use Rattle.proto_statement_imports.proofs.ChangedFile.{IsChange, change_back, is_change, lexemes_here, tree_here}
 use Rattle.proto_statement_imports.proofs.ImportFaults.{follows_those, names_file, not_twice}
 use Rattle.proto_statement_imports.proofs.Inserted.{IsInserted, are_moved, has_import, import_more, wanted_by}

@@ -1,14 +1,9 @@
 -- A path that is a file's, and its place (for the crates above).
-use Rattle.std.proofs.Common.{◌≡◌, ℕ, ◌<◌, List, [], length, sym, ◌∙◌, subst, arith}
-use Rattle.std.specs.Prelude.{slice_index_or}
-use Rattle.std.specs.Str.{bytes_eq}
-use Rattle.std.proofs.lemmas.List.Quantifiers.{position-Some}
-use Rattle.proto_faults.proofs.Lists.{word_from_same}
+use Rattle.std.proofs.Common.{◌≡◌, ℕ, ◌<◌, List, [], length, sym, ◌∙◌, subst, arith, slice_index_or, bytes_eq}
+use Rattle.proto_faults.proofs.Common.{position-Some, word_from_same}
 use Rattle.proto_text.proofs.OneEdit.{length_map}
-use Rattle.proto_files.specs.GivenFiles.{AreWorkspaceFiles, FileOf, file_at, paths_of}
-use Rattle.proto_files.specs.WorkspacePaths.{IsWorkspacePath}
-use Rattle.proto_statement_names.proofs.Scenes.{index_map}
-use Rattle.proto_statement_names.specs.Cases.{IsPlaceOf}
+use Rattle.proto_files.proofs.Common.{AreWorkspaceFiles, FileOf, file_at, paths_of, IsWorkspacePath}
+use Rattle.proto_statement_names.proofs.Common.{index_map, IsPlaceOf}
 
 module _ (files : List FileOf) (path : List ℕ) (k : ℕ) (is : IsPlaceOf files path k) where
   pub place_within : k < length files

@@ -1,29 +1,18 @@
 -- Which statement imports a path, and that it is one.
-use Rattle.std.proofs.Common.{◌≡◌, ℕ, suc, ◌+◌, ◌<◌, ◌⊎◌, ◌==◌, List, [], ◌∷◌, ◌++◌, length, map, refl, sym, ◌∙◌, ap, subst, inl, inr, arith}
-use Rattle.std.specs.List.{Contains, list_any}
-use Rattle.std.specs.Str.{bytes_eq}
-use Rattle.std.proofs.lemmas.Bool.{and_from, and_parts, cases_Bool, eq-eqb, eqb-true, true≢false}
-use Rattle.std.proofs.lemmas.List.Elements.{Contains-append_cases, Contains-append_right}
-use Rattle.proto_faults.specs.Texts.{or_nothing}
-use Rattle.proto_text.specs.Values.{StandsFor}
-use Rattle.proto_faults.proofs.Lists.{any_from, any_to, contains_cases, contains_head, from_map, same_from_word, word_from_same}
-use Rattle.proto_text.proofs.Values.{strings_have_values, value_again}
+use Rattle.std.proofs.Common.{◌≡◌, ℕ, suc, ◌+◌, ◌<◌, ◌⊎◌, ◌==◌, List, [], ◌∷◌, ◌++◌, length, map, refl, sym, ◌∙◌, ap, subst, inl, inr, arith, Contains, bytes_eq, eq-eqb, eqb-true, true≢false}
+use Rattle.proto_faults.proofs.Common.{list_any, and_from, and_parts, cases_Bool, Contains-append_cases, Contains-append_right, or_nothing, any_from, any_to, contains_cases, contains_head, from_map, same_from_word, word_from_same}
+use Rattle.proto_text.proofs.Common.{StandsFor, strings_have_values, value_again}
 use Rattle.proto_tree.specs.declared.piece.Header.{Header}
 use Rattle.proto_tree.specs.declared.piece.Statement.{Statement}
 use Rattle.proto_tree.specs.declared.piece.Statement.TheVariants as statement
 use Rattle.proto_tree.specs.declared.tree.Import.{Import}
 use Rattle.proto_tree.specs.Tree.{Tree, End, Leaf, Block}
-use Rattle.proto_files.specs.FilesRead.{AreRead, ReadOf, read_at}
-use Rattle.proto_files.specs.GivenFiles.{FileOf, file_at, paths_of}
-use Rattle.proto_meaning.specs.Faults.{Asked, file_of}
-use Rattle.proto_meaning.specs.Grown.{At}
-use Rattle.proto_meaning.proofs.Following.{Follows}
-use Rattle.proto_listing.specs.FromTree.{Wanted, imports_in, statement_imports}
-use Rattle.proto_listing.proofs.ReadTrees.{imports_are_strings}
+use Rattle.proto_files.proofs.Common.{AreRead, ReadOf, read_at, FileOf, file_at, paths_of}
+use Rattle.proto_meaning.proofs.Common.{Asked, file_of, At, Follows}
+use Rattle.proto_listing.proofs.Common.{Wanted, imports_in, statement_imports, imports_are_strings}
 use Rattle.proto_imports.specs.Links.{all_wanted, asked_as, text_of}
 use Rattle.proto_statement_laws.specs.Deletions.{AfterBlock, AfterLeaf, First, StandsIn}
-use Rattle.proto_statement_changes.specs.ImportChanges.{IsImportOf}
-use Rattle.proto_statement_changes.specs.OneFile.{word_of}
+use Rattle.proto_statement_changes.proofs.Common.{IsImportOf, word_of}
 use Rattle.proto_statement_names.specs.Cases.{IsImported, asked_in, is_import_of, no_such_file, not_imported, unknown_file}
 use Rattle.proto_statement_described.specs.Files.{tree_at}
 use Rattle.proto_statement_imports.specs.Statements.{FilesAreThere, ImportsAreOne, ImportsAreThere}

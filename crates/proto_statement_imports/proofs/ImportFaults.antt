@@ -1,18 +1,11 @@
 -- In files without a fault of imports each import names a file, and no file has two of one path.
-use Rattle.std.proofs.Common.{◌≡◌, ℕ, zero, suc, ◌+◌, List, [], ◌∷◌, ◌++◌, map, Option, Some, None, refl, subst, inl, inr, arith}
-use Rattle.std.specs.List.{Contains}
-use Rattle.std.proofs.lemmas.List.Elements.{Contains-append_left, Contains-append_right}
+use Rattle.std.proofs.Common.{◌≡◌, ℕ, zero, suc, ◌+◌, List, [], ◌∷◌, ◌++◌, map, Option, Some, None, refl, subst, inl, inr, arith, Contains}
+use Rattle.proto_faults.proofs.Common.{Contains-append_left, Contains-append_right, number_of, contains_cases, contains_head, contains_map}
 use Rattle.proto_faults.specs.declared.fault.FaultKind.{FaultKind}
 use Rattle.proto_faults.specs.declared.fault.FaultKind.TheVariants as kind
-use Rattle.proto_faults.specs.FaultTable.{number_of}
 use Rattle.proto_text.specs.Texts.{offset_at}
-use Rattle.proto_faults.proofs.Lists.{contains_cases, contains_head, contains_map}
-use Rattle.proto_files.specs.Faults.{HasNoFault}
-use Rattle.proto_files.specs.FilesRead.{AreRead, ReadOf, read_at}
-use Rattle.proto_files.specs.GivenFiles.{FileOf, file_at, paths_of}
-use Rattle.proto_meaning.specs.Faults.{Asked, Fault, ImportFault, double, fault, file_of, unknown}
-use Rattle.proto_meaning.specs.Grown.{At}
-use Rattle.proto_meaning.proofs.Following.{Follows, after_follows, follows_map}
+use Rattle.proto_files.proofs.Common.{HasNoFault, AreRead, ReadOf, read_at, FileOf, file_at, paths_of}
+use Rattle.proto_meaning.proofs.Common.{Asked, Fault, ImportFault, double, fault, file_of, unknown, At, Follows, after_follows, follows_map}
 use Rattle.proto_listing.specs.FromTree.{Wanted, imports_in}
 use Rattle.proto_imports.specs.Links.{LinkFaults, all_wanted, asked_as, of_import, text_of}
 use Rattle.proto_statement_names.specs.Cases.{asked_in}

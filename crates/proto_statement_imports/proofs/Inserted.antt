@@ -1,31 +1,17 @@
 -- Files of which one has an import more: what the tokens and trees of that one say of all.
-use Rattle.std.proofs.Common.{◌≡◌, ℕ, List, length, map, Some, refl, sym, ◌∙◌, ap, subst, arith}
-use Rattle.std.specs.Prelude.{is_some, slice_get}
-use Rattle.std.proofs.lemmas.Bool.{cases_lt}
-use Rattle.std.proofs.lemmas.List.{map-append}
-use Rattle.proto_text.specs.Segments.{moved}
-use Rattle.proto_text.specs.Tokens.{Lexeme}
-use Rattle.proto_text.specs.Values.{value_of}
+use Rattle.std.proofs.Common.{◌≡◌, ℕ, List, length, map, Some, refl, sym, ◌∙◌, ap, subst, arith, is_some, slice_get}
+use Rattle.proto_faults.proofs.Common.{cases_lt, map-append}
+use Rattle.proto_text.proofs.Common.{moved, Lexeme, value_of}
 use Rattle.proto_tree.specs.declared.piece.Statement.TheVariants as statement
 use Rattle.proto_tree.specs.declared.tree.Import.{Import}
-use Rattle.proto_tree.specs.Moved.{Move}
-use Rattle.proto_tree.specs.Tree.{End, Leaf}
-use Rattle.proto_files.specs.FilesRead.{ReadOf}
-use Rattle.proto_files.specs.GivenFiles.{FileOf}
+use Rattle.proto_tree.proofs.Common.{Move, End, Leaf}
+use Rattle.proto_files.proofs.Common.{ReadOf, FileOf}
 use Rattle.proto_meaning.specs.Grown.{at}
-use Rattle.proto_listing.specs.FromTree.{Wanted, imports_in}
-use Rattle.proto_listing.specs.Moved.{move_wanted}
+use Rattle.proto_listing.proofs.Common.{Wanted, imports_in, move_wanted}
 use Rattle.proto_imports.specs.Links.{text_of}
-use Rattle.proto_statement_described.specs.SceneOf.{lexemes_of}
-use Rattle.proto_statement_laws.specs.Exchanges.{LexemesAreMoved}
-use Rattle.proto_statement_laws.specs.Insertions.{IsInsertion}
-use Rattle.proto_statement_laws.proofs.ImportLists.{imports_come_in}
-use Rattle.proto_statement_names.specs.Files.{IsImportMore}
-use Rattle.proto_statement_names.specs.Lists.{HasOneMore}
-use Rattle.proto_statement_names.specs.Trees.{MovesNames}
-use Rattle.proto_statement_described.specs.Files.{tree_at}
-use Rattle.proto_statement_described.specs.Imports.{HasImport}
-use Rattle.proto_statement_described.proofs.Kept.{others_keep_apart}
+use Rattle.proto_statement_described.proofs.Common.{lexemes_of, tree_at, HasImport, others_keep_apart}
+use Rattle.proto_statement_laws.proofs.Common.{LexemesAreMoved, IsInsertion, imports_come_in}
+use Rattle.proto_statement_names.proofs.Common.{IsImportMore, HasOneMore, MovesNames}
 use Rattle.proto_statement_imports.specs.MovedFiles.{AreMoved}
 use Rattle.proto_statement_imports.proofs.Apart.{imports_are_apart}
 use Rattle.proto_statement_imports.proofs.ChangedFile.{IsChange}

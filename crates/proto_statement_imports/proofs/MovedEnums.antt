@@ -1,24 +1,16 @@
 -- The enums of files, where the tokens of one file are moved.
-use Rattle.std.proofs.Common.{◌≡◌, ◌≢◌, ℕ, ◌==◌, Bool, not, if◌then◌else◌, List, [], ◌∷◌, map, find, Option, Some, None, option_map, refl, sym, ◌∙◌, ap, ap₂, subst, inl, inr}
-use Rattle.std.specs.Prelude.{slice_get}
-use Rattle.std.proofs.lemmas.Bool.{cases_eq, eq-eqb, ne_eqb}
-use Rattle.proto_text.specs.Texts.{word_at}
-use Rattle.proto_text.specs.Tokens.{Lexeme}
+use Rattle.std.proofs.Common.{◌≡◌, ◌≢◌, ℕ, ◌==◌, Bool, not, if◌then◌else◌, List, [], ◌∷◌, map, find, Option, Some, None, option_map, refl, sym, ◌∙◌, ap, ap₂, subst, inl, inr, slice_get, eq-eqb, ne_eqb}
+use Rattle.std.proofs.lemmas.Bool.{cases_eq}
+use Rattle.proto_text.proofs.Common.{word_at, Lexeme}
 use Rattle.proto_tree.specs.declared.piece.Header.{Header}
 use Rattle.proto_tree.specs.declared.piece.Header.TheVariants as header
 use Rattle.proto_tree.specs.declared.tree.Value.{Value}
-use Rattle.proto_tree.specs.Moved.{Move, move_header, move_tree, move_value}
-use Rattle.proto_tree.specs.Tree.{Tree}
-use Rattle.proto_files.specs.FilesRead.{ReadOf}
-use Rattle.proto_files.specs.GivenFiles.{FileOf}
+use Rattle.proto_tree.proofs.Common.{Move, move_header, move_tree, move_value, Tree}
+use Rattle.proto_files.proofs.Common.{ReadOf, FileOf}
 use Rattle.proto_meaning.specs.Grown.{At, at}
-use Rattle.proto_parts.specs.Numbers.{number_of}
-use Rattle.proto_parts.specs.Parts.{BlockOf, blocks_in, values_in}
-use Rattle.proto_parts.specs.Scenes.{EnumOf, is_proto3, string_of}
+use Rattle.proto_parts.proofs.Common.{number_of, BlockOf, blocks_in, values_in, EnumOf, is_proto3, string_of}
 use Rattle.proto_checks_laws.proofs.MovedParts.{file_blocks_moved, find_moved, maps_kept, move_block_of, values_moved}
-use Rattle.proto_statement_described.specs.SceneOf.{enum_at, enum_within, is_enum_at, is_proto3_file, lexemes_of, starts_past_zero}
-use Rattle.proto_statement_described.specs.Files.{tree_at}
-use Rattle.proto_statement_described.proofs.Kept.{imports_keep_versions}
+use Rattle.proto_statement_described.proofs.Common.{enum_at, enum_within, is_enum_at, is_proto3_file, lexemes_of, starts_past_zero, tree_at, imports_keep_versions}
 use Rattle.proto_statement_imports.specs.MovedFiles.{AreMoved}
 use Rattle.proto_statement_imports.proofs.MovedTexts.{moved_at, moved_there, own_text}
 

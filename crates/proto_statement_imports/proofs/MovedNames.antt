@@ -1,27 +1,16 @@
 -- What files declare, and the enums of full names, where the tokens of one file are moved.
-use Rattle.std.proofs.Common.{◌≡◌, ◌≢◌, ℕ, suc, ◌+◌, ◌<◌, List, [], ◌∷◌, ◌++◌, length, map, find, Option, Some, None, option_map, refl, sym, ◌∙◌, ap, ap₂, subst, inl, inr, arith}
-use Rattle.std.specs.Option.{option_and_then}
+use Rattle.std.proofs.Common.{◌≡◌, ◌≢◌, ℕ, suc, ◌+◌, ◌<◌, List, [], ◌∷◌, ◌++◌, length, map, find, Option, Some, None, option_map, refl, sym, ◌∙◌, ap, ap₂, subst, inl, inr, arith, option_and_then}
 use Rattle.std.proofs.lemmas.Bool.{cases_eq}
 use Rattle.proto_case.specs.Camel.{entry_name}
-use Rattle.proto_tree.specs.Moved.{Move}
-use Rattle.proto_tree.specs.Tree.{Tree}
-use Rattle.proto_files.specs.FilesRead.{ReadOf, read_at}
-use Rattle.proto_files.specs.GivenFiles.{FileOf}
+use Rattle.proto_tree.proofs.Common.{Move, Tree}
+use Rattle.proto_files.proofs.Common.{ReadOf, read_at, FileOf}
 use Rattle.proto_meaning.specs.declared.kind.Kind.{Kind}
-use Rattle.proto_meaning.specs.Faults.{place_of}
-use Rattle.proto_meaning.specs.Grown.{At, all_declared, at, declared_of, file_declared}
-use Rattle.proto_meaning.specs.Names.{same_name}
-use Rattle.proto_meaning.specs.Skeleton.{Declared, Source, name_of, shifted_declared, shifted_source}
-use Rattle.proto_meaning.specs.Tree.{Placed}
-use Rattle.proto_meaning.proofs.Edited.{map_agree, map_append, map_map}
+use Rattle.proto_meaning.proofs.Common.{place_of, At, all_declared, at, declared_of, file_declared, same_name, Declared, Source, name_of, shifted_declared, shifted_source, Placed, map_agree, map_append, map_map}
 use Rattle.proto_listing.specs.FromTree.{file_names}
 use Rattle.proto_imports.specs.Links.{link_skeleton, names_in, text_of}
 use Rattle.proto_checks_laws.proofs.MovedParts.{find_moved, maps_moved}
-use Rattle.proto_statement_described.specs.SceneOf.{declared_as, enum_at, enum_named}
-use Rattle.proto_statement_names.proofs.Scenes.{find_there}
-use Rattle.proto_statement_names.specs.Trees.{MovesNames, move_placed, placed_in}
-use Rattle.proto_statement_names.proofs.MovedNames.{imports_move_names}
-use Rattle.proto_statement_described.specs.Files.{tree_at}
+use Rattle.proto_statement_described.proofs.Common.{declared_as, enum_at, enum_named, tree_at}
+use Rattle.proto_statement_names.proofs.Common.{find_there, MovesNames, move_placed, placed_in, imports_move_names}
 use Rattle.proto_statement_imports.specs.MovedFiles.{AreMoved}
 use Rattle.proto_statement_imports.proofs.DeclaredPlaces.{place_moved}
 use Rattle.proto_statement_imports.proofs.MovedEnums.{enum_moved}

@@ -1,21 +1,12 @@
 -- The scenes of files, where the tokens of one file are moved, and references mean what they meant.
-use Rattle.std.proofs.Common.{◌≡◌, ◌≢◌, ℕ, List, [], map, Option, Some, None, refl, sym, ◌∙◌, ap, arith}
-use Rattle.std.specs.List.{Contains}
+use Rattle.std.proofs.Common.{◌≡◌, ◌≢◌, ℕ, List, [], map, Option, Some, None, refl, sym, ◌∙◌, ap, arith, Contains}
 use Rattle.proto_tree.specs.Moved.{Move}
-use Rattle.proto_files.specs.FilesRead.{ReadOf}
-use Rattle.proto_files.specs.GivenFiles.{FileOf}
-use Rattle.proto_meaning.specs.Names.{meaning}
-use Rattle.proto_meaning.specs.Skeleton.{Used, shifted_used}
-use Rattle.proto_meaning.proofs.Edited.{map_agree, map_map}
-use Rattle.proto_imports.specs.Links.{names_of_files, text_of}
-use Rattle.proto_imports.specs.Links.{used_named}
-use Rattle.proto_imports.specs.Links.{uses_of}
+use Rattle.proto_files.proofs.Common.{ReadOf, FileOf}
+use Rattle.proto_meaning.proofs.Common.{meaning, Used, shifted_used, map_agree, map_map}
+use Rattle.proto_imports.specs.Links.{names_of_files, text_of, used_named, uses_of}
 use Rattle.proto_parts.specs.Scenes.{MeantOf}
-use Rattle.proto_statement_described.specs.SceneOf.{meaning_of, meant_as, means_of}
+use Rattle.proto_statement_described.proofs.Common.{meaning_of, meant_as, means_of, scene_at, HasTokens, IsMovedScene, move_meant, scenes_are_moved}
 use Rattle.proto_statement_names.specs.Kept.{MeanTheSame}
-use Rattle.proto_statement_described.specs.Files.{scene_at}
-use Rattle.proto_statement_described.specs.Scenes.{HasTokens, IsMovedScene, move_meant}
-use Rattle.proto_statement_described.proofs.MovedScenes.{scenes_are_moved}
 use Rattle.proto_statement_imports.specs.MovedFiles.{AreMoved, MovedFilesRead}
 use Rattle.proto_statement_imports.proofs.MovedEnums.{version_own}
 use Rattle.proto_statement_imports.proofs.MovedNames.{enums_stay, names_move}

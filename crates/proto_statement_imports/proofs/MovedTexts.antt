@@ -1,18 +1,12 @@
 -- The texts of tokens, and what they spell, where the tokens of one file are moved.
-use Rattle.std.proofs.Common.{◌≡◌, ◌≢◌, ℕ, ◌==◌, if◌then◌else◌, List, map, refl, sym, ◌∙◌, ap, subst, inl, inr}
-use Rattle.std.proofs.lemmas.Bool.{cases_eq, eq-eqb, ne_eqb}
+use Rattle.std.proofs.Common.{◌≡◌, ◌≢◌, ℕ, ◌==◌, if◌then◌else◌, List, map, refl, sym, ◌∙◌, ap, subst, inl, inr, eq-eqb, ne_eqb}
+use Rattle.std.proofs.lemmas.Bool.{cases_eq}
 use Rattle.proto_case.specs.Camel.{entry_name}
-use Rattle.proto_text.specs.Texts.{word_at}
-use Rattle.proto_text.specs.Tokens.{Lexeme}
+use Rattle.proto_text.proofs.Common.{word_at, Lexeme}
 use Rattle.proto_tree.specs.Moved.{Move}
-use Rattle.proto_files.specs.FilesRead.{ReadOf}
-use Rattle.proto_files.specs.GivenFiles.{FileOf}
-use Rattle.proto_meaning.specs.Grown.{At, at}
-use Rattle.proto_meaning.specs.Names.{Reference}
-use Rattle.proto_meaning.specs.Skeleton.{EntryOf, Given, Source, Token, Used, name_of, shifted_source, shifted_used, spell}
-use Rattle.proto_meaning.proofs.Edited.{map_agree, map_map}
-use Rattle.proto_imports.specs.Links.{text_of}
-use Rattle.proto_imports.specs.Links.{used_named}
+use Rattle.proto_files.proofs.Common.{ReadOf, FileOf}
+use Rattle.proto_meaning.proofs.Common.{At, at, Reference, EntryOf, Given, Source, Token, Used, name_of, shifted_source, shifted_used, spell, map_agree, map_map}
+use Rattle.proto_imports.specs.Links.{text_of, used_named}
 use Rattle.proto_statement_described.specs.SceneOf.{lexemes_of}
 use Rattle.proto_statement_imports.specs.MovedFiles.{AreMoved}
 use Rattle.proto_statement_imports.proofs.PathTokens.{text_in, word_by}

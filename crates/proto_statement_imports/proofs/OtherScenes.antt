@@ -1,28 +1,16 @@
 -- The scene of a file that an edit of another one leaves (for the crates above).
-use Rattle.std.proofs.Common.{◌≡◌, ℕ, zero, suc, ◌+◌, Bool, List, [], ◌∷◌, map, Option, Some, None, refl, sym, ◌∙◌, ap, ap₂, subst, arith}
-use Rattle.std.specs.Prelude.{slice_get}
-use Rattle.std.specs.List.{Contains}
-use Rattle.std.proofs.lemmas.List.Elements.{Contains-append_left, Contains-append_right}
+use Rattle.std.proofs.Common.{◌≡◌, ℕ, zero, suc, ◌+◌, Bool, List, [], ◌∷◌, map, Option, Some, None, refl, sym, ◌∙◌, ap, ap₂, subst, arith, slice_get, Contains}
+use Rattle.proto_faults.proofs.Common.{Contains-append_left, Contains-append_right, contains_map}
 use Rattle.proto_case.specs.Camel.{entry_name}
-use Rattle.proto_text.specs.Texts.{word_at}
-use Rattle.proto_text.specs.Tokens.{Lexeme}
-use Rattle.proto_faults.proofs.Lists.{contains_map}
+use Rattle.proto_text.proofs.Common.{word_at, Lexeme}
 use Rattle.proto_tree.specs.Tree.{Tree}
-use Rattle.proto_files.specs.FilesRead.{ReadOf, read_at}
-use Rattle.proto_files.specs.GivenFiles.{FileOf}
-use Rattle.proto_meaning.specs.Grown.{At, all_used, at, file_used, used_in}
-use Rattle.proto_meaning.specs.Joined.{joined}
-use Rattle.proto_meaning.specs.Names.{Reference, meaning}
-use Rattle.proto_meaning.specs.Skeleton.{EntryOf, Given, Source, Token, Used, name_of, reference_of, shifted_source, spell}
-use Rattle.proto_meaning.proofs.Edited.{map_agree, map_map}
+use Rattle.proto_files.proofs.Common.{ReadOf, read_at, FileOf}
+use Rattle.proto_meaning.proofs.Common.{At, all_used, at, file_used, used_in, joined, Reference, meaning, EntryOf, Given, Source, Token, Used, name_of, reference_of, shifted_source, spell, map_agree, map_map}
 use Rattle.proto_listing.specs.FromTree.{file_names}
-use Rattle.proto_imports.specs.Links.{link_skeleton, names_in, names_of_files, text_of}
-use Rattle.proto_imports.specs.Links.{used_named}
-use Rattle.proto_imports.specs.Links.{uses_of}
+use Rattle.proto_imports.specs.Links.{link_skeleton, names_in, names_of_files, text_of, used_named, uses_of}
 use Rattle.proto_parts.specs.Scenes.{EnumOf, MeantOf, Scene, is_proto3, string_of}
-use Rattle.proto_statement_described.specs.SceneOf.{enum_named, lexemes_of, meaning_of, meant_as, means_of}
+use Rattle.proto_statement_described.proofs.Common.{enum_named, lexemes_of, meaning_of, meant_as, means_of, scene_at}
 use Rattle.proto_statement_names.specs.Kept.{MeanTheSame}
-use Rattle.proto_statement_described.specs.Files.{scene_at}
 use Rattle.proto_statement_imports.specs.OtherScenes.{IsLeft, OtherScenesStay}
 
 -- ---- what a file refers to is a reference of all

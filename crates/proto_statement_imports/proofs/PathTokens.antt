@@ -1,25 +1,14 @@
 -- The token of an import's path is a string, whose value is the path.
-use Rattle.std.proofs.Common.{◌≡◌, ℕ, zero, suc, List, [], ◌∷◌, ◌++◌, get_or, Option, Some, None, refl, sym, ap, subst, ◌∙◌, inl, inr, arith}
-use Rattle.std.specs.Prelude.{is_some, slice_get}
-use Rattle.std.specs.List.{Contains}
-use Rattle.std.proofs.lemmas.List.Elements.{Contains-append_cases, Contains-append_left, Contains-append_right}
-use Rattle.std.proofs.lemmas.Option.{slice_get-get_or}
-use Rattle.proto_faults.specs.Texts.{or_nothing}
+use Rattle.std.proofs.Common.{◌≡◌, ℕ, zero, suc, List, [], ◌∷◌, ◌++◌, get_or, Option, Some, None, refl, sym, ap, subst, ◌∙◌, inl, inr, arith, is_some, slice_get, Contains}
+use Rattle.proto_faults.proofs.Common.{Contains-append_cases, Contains-append_left, Contains-append_right, slice_get-get_or, or_nothing, contains_cases, contains_head}
 use Rattle.proto_text.specs.declared.kind.TokenKind.TheVariants.{Text}
-use Rattle.proto_text.specs.Texts.{word_at}
-use Rattle.proto_text.specs.Tokens.{Lexeme}
-use Rattle.proto_text.specs.Values.{value_of}
-use Rattle.proto_faults.proofs.Lists.{contains_cases, contains_head}
+use Rattle.proto_text.proofs.Common.{word_at, Lexeme, value_of}
 use Rattle.proto_tree.specs.declared.class.Class.TheVariants as class
 use Rattle.proto_tree.specs.declared.class.Want.TheVariants as want
 use Rattle.proto_tree.specs.declared.piece.Statement.{Statement}
 use Rattle.proto_tree.specs.declared.piece.Statement.TheVariants as statement
-use Rattle.proto_tree.specs.Flat.{Mark, flat_header, flat_import, flat_option, flat_statement, mark, one, text as text_mark}
-use Rattle.proto_tree.specs.Tree.{Tree, End, Leaf, Block, Spells, flat}
-use Rattle.proto_tree.specs.Words.{classes}
-use Rattle.proto_tree.proofs.MarkLaws.{marks_fit}
-use Rattle.proto_listing.specs.FromTree.{Wanted, imports_in, statement_imports}
-use Rattle.proto_listing.proofs.ReadTrees.{text_only}
+use Rattle.proto_tree.proofs.Common.{Mark, flat_header, flat_import, flat_option, flat_statement, mark, one, text as text_mark, Tree, End, Leaf, Block, Spells, flat, classes, marks_fit}
+use Rattle.proto_listing.proofs.Common.{Wanted, imports_in, statement_imports, text_only}
 use Rattle.proto_parts.specs.Scenes.{string_of, value_in, value_or_none as value_by_kind}
 
 -- ---- the paths of imports

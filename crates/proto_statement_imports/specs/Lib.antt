@@ -1,3 +1,4 @@
+pub mod Common
 pub mod MovedFiles
 pub mod OtherScenes
 pub mod Statements

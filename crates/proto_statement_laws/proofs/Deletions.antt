@@ -1,28 +1,15 @@
 -- A field that is deleted: both trees are one tree with something put in.
-use Rattle.std.proofs.Common.{◌≡◌, inl, inr, ℕ, suc, ◌+◌, ◌-◌, ◌<◌, ◌≤◌, Option, Some, None, List, [], ◌∷◌, ◌++◌, length, take, drop, map, codes, refl, sym, ap, ap₂, subst, ◌∙◌, arith, append_assoc, length-append, length-take, length-drop}
-use Rattle.std.specs.Str.{IsUtf8}
+use Rattle.std.proofs.Common.{◌≡◌, inl, inr, ℕ, suc, ◌+◌, ◌-◌, ◌<◌, ◌≤◌, Option, Some, None, List, [], ◌∷◌, ◌++◌, length, take, drop, map, codes, refl, sym, ap, ap₂, subst, ◌∙◌, arith, append_assoc, length-append, length-take, length-drop, IsUtf8, take-append-drop, drop-drop}
 use Rattle.std.proofs.Math.Seq.{take-append_seam, drop-append_seam}
-use Rattle.std.proofs.lemmas.List.{length-map, take-append-drop, drop-drop}
-use Rattle.std.proofs.lemmas.Str.{IsUtf8-append, IsUtf8-between}
+use Rattle.proto_faults.proofs.Common.{length-map, IsUtf8-append, IsUtf8-between}
 use Rattle.proto_text.specs.declared.lexer.Token.{Token}
-use Rattle.proto_text.specs.Edits.{Puts}
-use Rattle.proto_text.specs.Segments.{IsPlace, IsSeam, IsSegment, bytes_between, end_before, moved}
-use Rattle.proto_text.specs.Tokens.{Lexeme, lexeme_at}
-use Rattle.proto_text.proofs.Order.{tokens_are_in_order}
+use Rattle.proto_text.proofs.Common.{Puts, IsPlace, IsSeam, IsSegment, bytes_between, end_before, moved, Lexeme, lexeme_at, tokens_are_in_order}
 use Rattle.proto_tree.specs.declared.class.Class.TheVariants as class
 use Rattle.proto_tree.specs.declared.context.Context.TheVariants as context
 use Rattle.proto_tree.specs.declared.piece.Statement.{Statement}
-use Rattle.proto_tree.specs.Flat.{Mark, Fit, one, flat_statement}
-use Rattle.proto_tree.specs.Moved.{Move}
-use Rattle.proto_tree.specs.Place.{IsShallow}
-use Rattle.proto_tree.specs.Reads.{Reads}
-use Rattle.proto_tree.specs.Tree.{Tree, End, Leaf, flat, IsWellFormed, last_of, Spells}
-use Rattle.proto_tree.specs.Words.{classes}
-use Rattle.proto_tree.proofs.MarkLaws.{trees_are_numbered}
-use Rattle.proto_statement_laws.specs.Deletions.{DeletionsAreOfOneTree, StandsAt, begins, ends, first_token, next_token, own, reserved_at, splice, without}
-use Rattle.proto_statement_laws.specs.Exchanges.{before, MovesBy}
+use Rattle.proto_tree.proofs.Common.{Mark, Fit, one, flat_statement, Move, IsShallow, Reads, Tree, End, Leaf, flat, IsWellFormed, last_of, Spells, classes, trees_are_numbered}
+use Rattle.proto_statement_laws.specs.Common.{DeletionsAreOfOneTree, StandsAt, begins, ends, first_token, next_token, own, reserved_at, splice, without, before, MovesBy, reservation, reservation_text, reservation_tokens}
 use Rattle.proto_statement_laws.specs.Insertions.{IsInsertion}
-use Rattle.proto_statement_laws.specs.Statements.{reservation, reservation_text, reservation_tokens}
 use Rattle.proto_statement_laws.proofs.Depth.{depth_is_kept}
 use Rattle.proto_statement_laws.proofs.Exchanged.{around, cut, statements_are_exchanged}
 use Rattle.proto_statement_laws.proofs.Found.{found}

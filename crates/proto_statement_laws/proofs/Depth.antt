@@ -5,9 +5,7 @@ use Rattle.proto_text.specs.Tokens.{Lexeme}
 use Rattle.proto_tree.specs.declared.class.Class.{Class}
 use Rattle.proto_tree.specs.declared.class.Class.TheVariants as class
 use Rattle.proto_tree.specs.declared.class.Lexeme.{Lexeme as Classed}
-use Rattle.proto_tree.specs.Classes.{is_brace}
-use Rattle.proto_tree.specs.Place.{open_after, open_from, IsShallow}
-use Rattle.proto_tree.specs.Words.{class_by, classes}
+use Rattle.proto_tree.proofs.Common.{is_brace, open_after, open_from, IsShallow, class_by, classes}
 use Rattle.proto_statement_laws.specs.Reading.{HaveNoBrace, DepthIsKept}
 
 -- braces open behind tokens, whatever their indices

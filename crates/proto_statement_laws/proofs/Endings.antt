@@ -5,8 +5,7 @@ use Rattle.proto_tree.specs.declared.class.Class.TheVariants as class
 use Rattle.proto_tree.specs.declared.class.Want.TheVariants as want
 use Rattle.proto_tree.specs.declared.piece.Statement.{Statement}
 use Rattle.proto_tree.specs.declared.piece.Statement.TheVariants as statement
-use Rattle.proto_tree.specs.Flat.{Mark, only, one, flat_option, flat_type, name, text, flat_settings, flat_separated, flat_constant, flat_signed, flat_number, flat_ranges, flat_reserved_list, flat_signature, flat_statement, flat_header}
-use Rattle.proto_tree.specs.Tree.{Tree, End, Leaf, Block, flat}
+use Rattle.proto_tree.proofs.Common.{Mark, only, one, flat_option, flat_type, name, text, flat_settings, flat_separated, flat_constant, flat_signed, flat_number, flat_ranges, flat_reserved_list, flat_signature, flat_statement, flat_header, Tree, End, Leaf, Block, flat}
 
 -- ---- marks that end with a semicolon or a brace
 

@@ -7,14 +7,7 @@ use Rattle.proto_tree.specs.declared.context.Context.{Context}
 use Rattle.proto_tree.specs.declared.context.Context.TheVariants as context
 use Rattle.proto_tree.specs.declared.class.Want.TheVariants as want
 use Rattle.proto_tree.specs.declared.piece.Header.{Header}
-use Rattle.proto_tree.specs.Flat.{Mark, mark, one, Fit, flat_statement, flat_header}
-use Rattle.proto_tree.specs.Tree.{Tree, End, Leaf, Block, flat, statement_kind, header_kind, allows, after, inside, IsWellFormed, last_of}
-use Rattle.proto_tree.specs.Words.{classes}
-use Rattle.proto_tree.specs.Moved.{Move, shift, move_header, move_statement, move_tree}
-use Rattle.proto_tree.proofs.Exact.{Fit-join}
-use Rattle.proto_tree.proofs.Nodes.{flat-joined, joined-fine}
-use Rattle.proto_tree.proofs.ReplaceLaws.{behind_fine, classes-append, classes-length, fit_moved, fit_parts, regroup}
-use Rattle.proto_tree.proofs.MoveLaws.{map_append, flat_moved, well_formed_moved, kind_moved, header_kind_moved, inside_moved}
+use Rattle.proto_tree.proofs.Common.{Mark, mark, one, Fit, flat_statement, flat_header, Tree, End, Leaf, Block, flat, statement_kind, header_kind, allows, after, inside, IsWellFormed, last_of, classes, Move, shift, move_header, move_statement, move_tree, Fit-join, flat-joined, joined-fine, behind_fine, classes-append, classes-length, fit_moved, fit_parts, regroup, map_append, flat_moved, well_formed_moved, kind_moved, header_kind_moved, inside_moved}
 use Rattle.proto_statement_laws.proofs.Endings.{IsApart, apart_then, nothing_behind, the, then, tree_apart}
 use Rattle.proto_statement_laws.specs.Exchanges.{IsExchanged, Here, Later, Inside, Behind, before, StatementsAreExchanged}
 

@@ -1,19 +1,11 @@
 -- Where the statement of a field stands among the tokens (for the crates above).
 use Rattle.std.proofs.Common.{◌≡◌, ℕ, ◌+◌, ◌≤◌, Option, List, length, map, refl, sym, ap, ap₂, subst, ◌∙◌}
 use Rattle.proto_text.specs.declared.lexer.Token.{Token}
-use Rattle.proto_text.specs.Segments.{IsSeam, moved}
-use Rattle.proto_text.specs.Tokens.{lexeme_at}
+use Rattle.proto_text.proofs.Common.{IsSeam, moved, lexeme_at}
 use Rattle.proto_tree.specs.declared.context.Context.TheVariants as context
 use Rattle.proto_tree.specs.declared.piece.Statement.{Statement}
-use Rattle.proto_tree.specs.Flat.{flat_statement}
-use Rattle.proto_tree.specs.Laws.{Numbered}
-use Rattle.proto_tree.specs.Moved.{Move}
-use Rattle.proto_tree.specs.Reads.{Reads}
-use Rattle.proto_tree.specs.Tree.{Tree, End, Leaf, flat}
-use Rattle.proto_tree.proofs.MarkLaws.{trees_are_numbered}
-use Rattle.proto_statement_laws.specs.Deletions.{StandsAt, first_token, next_token}
-use Rattle.proto_statement_laws.specs.Exchanges.{before}
-use Rattle.proto_statement_laws.specs.Statements.{reservation}
+use Rattle.proto_tree.proofs.Common.{flat_statement, Numbered, Move, Reads, Tree, End, Leaf, flat, trees_are_numbered}
+use Rattle.proto_statement_laws.specs.Common.{StandsAt, first_token, next_token, before, reservation}
 use Rattle.proto_statement_laws.proofs.Endings.{nothing_behind}
 use Rattle.proto_statement_laws.proofs.Exchanged.{around}
 use Rattle.proto_statement_laws.proofs.Marks.{numbered_among, numbered_first, numbered_last, some_marks}

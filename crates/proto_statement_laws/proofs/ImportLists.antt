@@ -8,14 +8,9 @@ use Rattle.proto_tree.specs.declared.context.Kind.TheVariants as kind
 use Rattle.proto_tree.specs.declared.piece.Statement.{Statement}
 use Rattle.proto_tree.specs.declared.piece.Statement.TheVariants as statement
 use Rattle.proto_tree.specs.declared.tree.Import.{Import}
-use Rattle.proto_tree.specs.Moved.{Move, move_statement}
-use Rattle.proto_tree.specs.Tree.{Tree, End, Leaf, Block, statement_kind, header_kind, allows, after, inside, joined}
-use Rattle.proto_tree.proofs.Walks.{after_inner, inside_inner}
-use Rattle.proto_listing.specs.FromTree.{Wanted, imports_in, statement_imports}
-use Rattle.proto_listing.specs.Moved.{move_wanted}
-use Rattle.proto_listing.proofs.MovedHeads.{imports_moved, statement_imports_moved}
-use Rattle.proto_statement_laws.specs.Exchanges.{IsExchanged, Here, Later, Inside, Behind}
-use Rattle.proto_statement_laws.specs.Imports.{HasImport, ImportsComeIn, behind_import}
+use Rattle.proto_tree.proofs.Common.{Move, move_statement, Tree, End, Leaf, Block, statement_kind, header_kind, allows, after, inside, joined, after_inner, inside_inner}
+use Rattle.proto_listing.proofs.Common.{Wanted, imports_in, statement_imports, move_wanted, imports_moved, statement_imports_moved}
+use Rattle.proto_statement_laws.specs.Common.{IsExchanged, Here, Later, Inside, Behind, HasImport, ImportsComeIn, behind_import}
 use Rattle.proto_statement_laws.proofs.LastOf.{last_by, last_option, or_none, some_is_not_none}
 
 -- ---- imports of trees one behind the other

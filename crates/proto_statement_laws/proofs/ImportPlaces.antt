@@ -1,6 +1,5 @@
 -- Where an added import is put: the search for its place.
-use Rattle.std.proofs.Common.{◌≡◌, ℕ, suc, ◌+◌, Option, Some, None, List, [], ◌∷◌, ◌++◌, length, map, refl, sym, ap, ap₂, subst, ◌∙◌, arith, append_assoc}
-use Rattle.std.proofs.lemmas.List.{append-nil}
+use Rattle.std.proofs.Common.{◌≡◌, ℕ, suc, ◌+◌, Option, Some, None, List, [], ◌∷◌, ◌++◌, length, map, refl, sym, ap, ap₂, subst, ◌∙◌, arith, append_assoc, append-nil}
 use Rattle.proto_tree.specs.declared.class.Class.TheVariants as class
 use Rattle.proto_tree.specs.declared.class.Want.TheVariants as want
 use Rattle.proto_tree.specs.declared.context.Context.{Context}
@@ -9,18 +8,9 @@ use Rattle.proto_tree.specs.declared.piece.Statement.{Statement}
 use Rattle.proto_tree.specs.declared.piece.Statement.TheVariants as statement
 use Rattle.proto_tree.specs.declared.tree.Import.{Import}
 use Rattle.proto_tree.specs.declared.tree.Package.{Package}
-use Rattle.proto_tree.specs.Flat.{Mark, mark, name, one, flat_separated, flat_statement}
-use Rattle.proto_tree.specs.Laws.{Numbered}
-use Rattle.proto_tree.specs.Moved.{Move, move_header, move_statement, move_tree}
-use Rattle.proto_tree.specs.Tree.{Tree, End, Leaf, Block, flat, statement_kind, header_kind, after, IsWellFormed, last_of, joined}
-use Rattle.proto_tree.proofs.MarkLaws.{numbered_append}
-use Rattle.proto_tree.proofs.Nodes.{flat-joined}
-use Rattle.proto_listing.specs.FromTree.{Wanted, imports_in, statement_imports}
-use Rattle.proto_listing.specs.Moved.{move_wanted}
-use Rattle.proto_listing.proofs.MovedHeads.{imports_moved}
-use Rattle.proto_statement_laws.specs.Deletions.{last_of as last_index}
-use Rattle.proto_statement_laws.specs.Exchanges.{IsExchanged, Here, Later, Behind, before}
-use Rattle.proto_statement_laws.specs.Imports.{behind_import, behind_package, behind_syntax, import_place}
+use Rattle.proto_tree.proofs.Common.{Mark, mark, name, one, flat_separated, flat_statement, Numbered, Move, move_header, move_statement, move_tree, Tree, End, Leaf, Block, flat, statement_kind, header_kind, after, IsWellFormed, last_of, joined, numbered_append, flat-joined}
+use Rattle.proto_listing.proofs.Common.{Wanted, imports_in, statement_imports, move_wanted, imports_moved}
+use Rattle.proto_statement_laws.specs.Common.{last_of as last_index, IsExchanged, Here, Later, Behind, before, behind_import, behind_package, behind_syntax, import_place}
 use Rattle.proto_statement_laws.proofs.FileContexts.{IsOuter, IsSettled, file_from_start, outer, settled}
 use Rattle.proto_statement_laws.proofs.ImportLists.{imports_behind, leaf_all, leaf_now, no_imports}
 use Rattle.proto_statement_laws.proofs.LastOf.{last_by, last_option, or_else, or_start, place_is, some_is_not_none}

@@ -1,28 +1,15 @@
 -- Imports that are put in and taken out.
-use Rattle.std.proofs.Common.{◌≡◌, inl, inr, ℕ, zero, suc, ◌+◌, ◌-◌, ◌≤◌, List, [], ◌++◌, length, take, drop, map, codes, refl, sym, ap, ap₂, subst, ◌∙◌, arith, length-append, length-take, length-drop}
-use Rattle.std.specs.Str.{IsUtf8}
-use Rattle.std.proofs.lemmas.List.{append-nil, length-map}
-use Rattle.std.proofs.lemmas.Str.{IsUtf8-append, IsUtf8-nil}
-use Rattle.proto_text.specs.Segments.{IsPlace, IsReplaced, IsSeam, IsSegment, end_before, moved, quoted, RunsAreReplaced}
-use Rattle.proto_text.specs.Strings.{IsString}
-use Rattle.proto_text.specs.Tokens.{Lexeme, lexeme_at}
-use Rattle.proto_text.proofs.Order.{tokens_are_in_order}
+use Rattle.std.proofs.Common.{◌≡◌, inl, inr, ℕ, zero, suc, ◌+◌, ◌-◌, ◌≤◌, List, [], ◌++◌, length, take, drop, map, codes, refl, sym, ap, ap₂, subst, ◌∙◌, arith, length-append, length-take, length-drop, IsUtf8, append-nil}
+use Rattle.proto_faults.proofs.Common.{length-map, IsUtf8-append, IsUtf8-nil}
+use Rattle.proto_text.proofs.Common.{IsPlace, IsReplaced, IsSeam, IsSegment, end_before, moved, quoted, RunsAreReplaced, IsString, Lexeme, lexeme_at, tokens_are_in_order}
 use Rattle.proto_tree.specs.declared.context.Context.{Context}
 use Rattle.proto_tree.specs.declared.context.Context.TheVariants as context
 use Rattle.proto_tree.specs.declared.context.Kind.TheVariants as kind
 use Rattle.proto_tree.specs.declared.piece.Statement.{Statement}
 use Rattle.proto_tree.specs.declared.piece.Statement.TheVariants as statement
 use Rattle.proto_tree.specs.declared.tree.Import.{Import}
-use Rattle.proto_tree.specs.Flat.{Mark, Fit, flat_statement}
-use Rattle.proto_tree.specs.Laws.{Numbered}
-use Rattle.proto_tree.specs.Moved.{Move, move_header, move_statement, move_tree}
-use Rattle.proto_tree.specs.Tree.{Tree, End, Leaf, Block, flat, statement_kind, header_kind, after, IsWellFormed, last_of, Spells}
-use Rattle.proto_tree.specs.Words.{classes}
-use Rattle.proto_tree.proofs.MarkLaws.{trees_are_numbered}
-use Rattle.proto_statement_laws.specs.Deletions.{StandsIn, First, AfterLeaf, AfterBlock, begins, ends, first_token, next_token, own}
-use Rattle.proto_statement_laws.specs.Exchanges.{IsExchanged, Here, Later, Behind, before, MovesBy}
-use Rattle.proto_statement_laws.specs.Imports.{AdditionsAreRead, DropsAreRead, added_text, import_place}
-use Rattle.proto_statement_laws.specs.Statements.{import_at, import_text, import_tokens}
+use Rattle.proto_tree.proofs.Common.{Mark, Fit, flat_statement, Numbered, Move, move_header, move_statement, move_tree, Tree, End, Leaf, Block, flat, statement_kind, header_kind, after, IsWellFormed, last_of, Spells, classes, trees_are_numbered}
+use Rattle.proto_statement_laws.specs.Common.{StandsIn, First, AfterLeaf, AfterBlock, begins, ends, first_token, next_token, own, IsExchanged, Here, Later, Behind, before, MovesBy, AdditionsAreRead, DropsAreRead, added_text, import_place, import_at, import_text, import_tokens}
 use Rattle.proto_statement_laws.proofs.Deletions.{drop_front, in_parts, take_front}
 use Rattle.proto_statement_laws.proofs.Endings.{nothing_behind}
 use Rattle.proto_statement_laws.proofs.Exchanged.{around}

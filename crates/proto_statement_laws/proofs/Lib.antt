@@ -1,3 +1,4 @@
+pub mod Common
 mod Deletions
 mod Depth
 pub mod Endings

@@ -1,13 +1,10 @@
 -- The indices of the marks of a statement, and how the maps of edits move (for the crates above).
-use Rattle.std.proofs.Common.{◌≡◌, ℕ, suc, ◌+◌, ◌-◌, ◌<◌, List, [], ◌∷◌, ◌++◌, length, ap, subst, ◌∙◌, arith, length-append, ltb}
-use Rattle.std.proofs.lemmas.Bool.{cond-true, cond-false, lt-ltb, le-ltb}
+use Rattle.std.proofs.Common.{◌≡◌, ℕ, suc, ◌+◌, ◌-◌, ◌<◌, List, [], ◌∷◌, ◌++◌, length, ap, subst, ◌∙◌, arith, length-append, ltb, lt-ltb, le-ltb}
+use Rattle.std.proofs.lemmas.Bool.{cond-true, cond-false}
 use Rattle.proto_text.specs.Segments.{moved}
 use Rattle.proto_tree.specs.declared.piece.Statement.{Statement}
-use Rattle.proto_tree.specs.Flat.{Mark, one, flat_statement}
-use Rattle.proto_tree.specs.Laws.{Numbered}
-use Rattle.proto_tree.proofs.MarkLaws.{numbered_append}
-use Rattle.proto_statement_laws.specs.Deletions.{first_of, last_of}
-use Rattle.proto_statement_laws.specs.Exchanges.{MovesBy}
+use Rattle.proto_tree.proofs.Common.{Mark, one, flat_statement, Numbered, numbered_append}
+use Rattle.proto_statement_laws.specs.Common.{first_of, last_of, MovesBy}
 use Rattle.proto_statement_laws.proofs.Endings.{statement_ended}
 
 pub numbered_first : (n : ℕ) (ms : List Mark) → Numbered n ms → 0 < length ms → first_of ms ≡ n

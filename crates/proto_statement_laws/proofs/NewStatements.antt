@@ -1,29 +1,13 @@
 -- The texts that are put in are segments and UTF-8, and their tokens fit their statements (for the crates above).
-use Rattle.std.proofs.Common.{◌≡◌, ℕ, ◌<◌, ◌≤◌, ◌^◌, Bool, true, false, ◌&&◌, ◌||◌, eqb, ltb, List, [], ◌∷◌, ◌++◌, inl, inr, cond, refl, sym, ap, ◌∙◌, arith, codes}
-use Rattle.std.specs.Fmt.{decimal}
-use Rattle.std.specs.Prelude.{if◌then◌else◌}
-use Rattle.std.specs.Str.{IsAscii, IsUtf8}
-use Rattle.std.proofs.lemmas.Bool.{and_parts, both_ways, cases_lt, eqb-true, false_from_ne_true, ltb-true}
-use Rattle.std.proofs.lemmas.Bool.Decides.{nat_tests}
-use Rattle.std.proofs.lemmas.Fmt.{IsAscii-decimal}
-use Rattle.std.proofs.lemmas.Str.{IsUtf8-append, IsUtf8-from_ascii}
-use Rattle.std.proofs.lemmas.Str.Ascii.{IsAscii-cons, IsAscii-nil}
+use Rattle.std.proofs.Common.{◌≡◌, ℕ, ◌<◌, ◌≤◌, ◌^◌, Bool, true, false, ◌&&◌, ◌||◌, eqb, ltb, List, [], ◌∷◌, ◌++◌, inl, inr, cond, refl, sym, ap, ◌∙◌, arith, codes, decimal, if◌then◌else◌, IsAscii, IsUtf8, eqb-true, ltb-true}
+use Rattle.proto_faults.proofs.Common.{and_parts, both_ways, cases_lt, false_from_ne_true, nat_tests, IsAscii-decimal, IsUtf8-append, IsUtf8-from_ascii, IsAscii-cons, IsAscii-nil}
 use Rattle.proto_text.specs.declared.class.Class.TheVariants.{Letter, Quote, Mark, Slash, Other}
 use Rattle.proto_text.specs.declared.kind.PieceKind.TheVariants.{Solid}
 use Rattle.proto_text.specs.declared.kind.TokenKind.TheVariants.{Word, Number, Text, Punctuation}
-use Rattle.proto_text.specs.Bytes.{Each}
-use Rattle.proto_text.specs.Classes.{class_of, extends_word, is_digit, is_identifier, is_letter, is_mark, is_space}
-use Rattle.proto_text.specs.Pieces.{IsLexeme, IsRun}
-use Rattle.proto_text.specs.Segments.{IsSegment, is_plain, quoted}
-use Rattle.proto_text.specs.Strings.{IsString}
-use Rattle.proto_text.specs.Tokens.{Lexeme}
-use Rattle.proto_text.specs.Values.{StandsFor, says}
+use Rattle.proto_text.proofs.Common.{Each, class_of, extends_word, is_digit, is_identifier, is_letter, is_mark, is_space, IsLexeme, IsRun, IsSegment, is_plain, quoted, IsString, Lexeme, StandsFor, says}
 use Rattle.proto_tree.specs.declared.class.Class.TheVariants as class
 use Rattle.proto_tree.specs.declared.class.Want.TheVariants as want
-use Rattle.proto_tree.specs.Classes.{fits}
-use Rattle.proto_tree.specs.Flat.{Fit}
-use Rattle.proto_tree.specs.Tree.{flat}
-use Rattle.proto_tree.specs.Words.{class_by, classes}
+use Rattle.proto_tree.proofs.Common.{fits, Fit, flat, class_by, classes}
 use Rattle.proto_statement_laws.specs.Statements.{import_at, import_text, import_tokens, reservation, reservation_text, reservation_tokens, semicolon, token}
 use Rattle.proto_statement_laws.proofs.TextLaws.{Laws}
 

@@ -1,23 +1,15 @@
 -- What is read of a text in which statements come in the place of statements.
-use Rattle.std.proofs.Common.{◌≡◌, ℕ, suc, ◌+◌, ◌-◌, ◌≤◌, Option, Some, None, List, [], ◌∷◌, ◌++◌, length, take, drop, map, refl, sym, ap, subst, ◌∙◌, arith, true, length-take, length-drop}
-use Rattle.std.proofs.lemmas.List.{length-map, take-append-drop, drop-drop}
-use Rattle.proto_text.specs.Tokens.{Lexeme, lexeme_at}
-use Rattle.proto_text.specs.Segments.{RunsAreReplaced}
+use Rattle.std.proofs.Common.{◌≡◌, ℕ, suc, ◌+◌, ◌-◌, ◌≤◌, Option, Some, None, List, [], ◌∷◌, ◌++◌, length, take, drop, map, refl, sym, ap, subst, ◌∙◌, arith, true, length-take, length-drop, take-append-drop, drop-drop}
+use Rattle.std.proofs.lemmas.List.{length-map}
+use Rattle.proto_text.proofs.Common.{Lexeme, lexeme_at, RunsAreReplaced}
 use Rattle.proto_tree.specs.declared.class.Lexeme.{Lexeme as Classed}
 use Rattle.proto_tree.specs.declared.context.Context.{Context}
 use Rattle.proto_tree.specs.declared.context.Context.TheVariants as context
 use Rattle.proto_tree.specs.declared.piece.Piece.TheVariants as piece
 use Rattle.proto_tree.specs.declared.piece.Statement.{Statement}
 use Rattle.proto_tree.specs.declared.piece.Statement.TheVariants as statement
-use Rattle.proto_tree.specs.Classes.{is_brace}
-use Rattle.proto_tree.specs.Flat.{Fit, flat_statement}
-use Rattle.proto_tree.specs.Place.{IsShallow}
-use Rattle.proto_tree.specs.Tree.{Tree, End, Leaf, Block, flat, field_kind, statement_kind, allows, Spells}
-use Rattle.proto_tree.specs.Words.{classes}
-use Rattle.proto_tree.proofs.Exact.{Fit-split, Calm, Calm-append, no_text}
-use Rattle.proto_tree.proofs.Places.{laws}
-use Rattle.proto_statement_laws.specs.Exchanges.{before}
-use Rattle.proto_statement_laws.specs.Reading.{AreStatements, HaveNoBrace, StatementsAreRead}
+use Rattle.proto_tree.proofs.Common.{is_brace, Fit, flat_statement, IsShallow, Tree, End, Leaf, Block, flat, field_kind, statement_kind, allows, Spells, classes, Fit-split, Calm, Calm-append, no_text, laws}
+use Rattle.proto_statement_laws.specs.Common.{before, AreStatements, HaveNoBrace, StatementsAreRead}
 use Rattle.proto_statement_laws.proofs.Depth.{depth_is_kept}
 use Rattle.proto_statement_laws.proofs.Exchanged.{around, cut, statements_are_exchanged}
 use Rattle.proto_statement_laws.proofs.Seams.{places_are_seams}

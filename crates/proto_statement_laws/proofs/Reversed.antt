@@ -4,13 +4,7 @@ use Rattle.std.proofs.lemmas.List.{length-map}
 use Rattle.proto_tree.specs.declared.class.Class.TheVariants as class
 use Rattle.proto_tree.specs.declared.context.Context.{Context}
 use Rattle.proto_tree.specs.declared.context.Context.TheVariants as context
-use Rattle.proto_tree.specs.Flat.{Mark, one, flat_statement, flat_header}
-use Rattle.proto_tree.specs.Moved.{Move, shift, move_header, move_statement, move_tree}
-use Rattle.proto_tree.specs.Tree.{Tree, End, Leaf, Block, flat, statement_kind, header_kind, after, inside, IsWellFormed, last_of, joined}
-use Rattle.proto_tree.proofs.Faults.{one_tree}
-use Rattle.proto_tree.proofs.MoveLaws.{flat_moved, well_formed_moved, kind_moved, header_kind_moved, inside_moved}
-use Rattle.proto_tree.specs.Words.{classes}
-use Rattle.proto_tree.proofs.ReplaceLaws.{behind_fine}
+use Rattle.proto_tree.proofs.Common.{Mark, one, flat_statement, flat_header, Move, shift, move_header, move_statement, move_tree, Tree, End, Leaf, Block, flat, statement_kind, header_kind, after, inside, IsWellFormed, last_of, joined, one_tree, flat_moved, well_formed_moved, kind_moved, header_kind_moved, inside_moved, classes, behind_fine}
 use Rattle.proto_statement_laws.specs.Exchanges.{IsExchanged, Here, Later, Inside, Behind, before, ExchangesAreReversed}
 use Rattle.proto_statement_laws.proofs.Endings.{nothing_behind}
 use Rattle.proto_statement_laws.proofs.Exchanged.{around, cut, header_moved, statements_are_exchanged}

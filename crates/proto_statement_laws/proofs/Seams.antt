@@ -4,19 +4,13 @@ use Rattle.std.proofs.lemmas.List.{length-map}
 use Rattle.proto_text.specs.declared.kind.TokenKind.{TokenKind}
 use Rattle.proto_text.specs.declared.kind.TokenKind.TheVariants.{Word, Number, Text, Punctuation}
 use Rattle.proto_text.specs.declared.lexer.Token.{Token}
-use Rattle.proto_text.specs.Segments.{EndsByItself, IsSeam}
-use Rattle.proto_text.specs.Tokens.{Lexeme, lexeme_at}
+use Rattle.proto_text.proofs.Common.{EndsByItself, IsSeam, Lexeme, lexeme_at}
 use Rattle.proto_tree.specs.declared.class.Class.{Class}
 use Rattle.proto_tree.specs.declared.class.Class.TheVariants as class
 use Rattle.proto_tree.specs.declared.class.Want.TheVariants as want
 use Rattle.proto_tree.specs.declared.context.Context.TheVariants as context
-use Rattle.proto_tree.specs.Classes.{is_word, fits}
-use Rattle.proto_tree.specs.Flat.{Mark, one, Fit}
-use Rattle.proto_tree.specs.Tree.{flat}
-use Rattle.proto_tree.specs.Words.{class_by, classes}
-use Rattle.proto_tree.proofs.WordLaws.{word_is_word, place_of_word}
-use Rattle.proto_statement_laws.specs.Exchanges.{before}
-use Rattle.proto_statement_laws.specs.Reading.{PlacesAreSeams}
+use Rattle.proto_tree.proofs.Common.{is_word, fits, Mark, one, Fit, flat, class_by, classes, word_is_word, place_of_word}
+use Rattle.proto_statement_laws.specs.Common.{before, PlacesAreSeams}
 use Rattle.proto_statement_laws.proofs.Endings.{is_end, IsApart, apart_then, tree_apart}
 use Rattle.proto_statement_laws.proofs.Exchanged.{around}
 

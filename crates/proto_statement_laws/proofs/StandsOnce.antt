@@ -1,16 +1,12 @@
 -- A token names the field of one statement (for the crates above).
-use Rattle.std.proofs.Common.{◌≡◌, ◌⊎◌, inl, inr, ℕ, ◌+◌, ◌≤◌, Option, List, [], ◌∷◌, ◌++◌, length, refl, subst, arith, length-append}
-use Rattle.std.specs.List.{Contains}
-use Rattle.std.proofs.lemmas.List.Elements.{Contains-append_right}
-use Rattle.proto_faults.proofs.Lists.{contains_head, contains_later}
+use Rattle.std.proofs.Common.{◌≡◌, ◌⊎◌, inl, inr, ℕ, ◌+◌, ◌≤◌, Option, List, [], ◌∷◌, ◌++◌, length, refl, subst, arith, length-append, Contains}
+use Rattle.proto_faults.proofs.Common.{Contains-append_right, contains_head, contains_later}
 use Rattle.proto_tree.specs.declared.class.Class.TheVariants as class
 use Rattle.proto_tree.specs.declared.class.Want.TheVariants as want
 use Rattle.proto_tree.specs.declared.piece.Header.TheVariants as header
 use Rattle.proto_tree.specs.declared.piece.Statement.{Statement}
 use Rattle.proto_tree.specs.declared.piece.Statement.TheVariants as statement
-use Rattle.proto_tree.specs.Flat.{Mark, mark, only, one, flat_option, flat_type, flat_settings, flat_header, flat_statement}
-use Rattle.proto_tree.specs.Tree.{Tree, End, Block, flat}
-use Rattle.proto_tree.proofs.MarkLaws.{numbered_at}
+use Rattle.proto_tree.proofs.Common.{Mark, mark, only, one, flat_option, flat_type, flat_settings, flat_header, flat_statement, Tree, End, Block, flat, numbered_at}
 use Rattle.proto_statement_laws.specs.Deletions.{FieldsStandOnce, IsFieldOf, StandsAt, InMessage, InOneof, Deeper, PastLeaf, PastBlock, StandsIn, First, AfterLeaf, AfterBlock, first_token}
 use Rattle.proto_statement_laws.proofs.Found.{found}
 use Rattle.proto_statement_laws.proofs.TakenOut.{before_field, before_it, block_long, stands_within}

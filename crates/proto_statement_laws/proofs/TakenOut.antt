@@ -8,18 +8,10 @@ use Rattle.proto_tree.specs.declared.context.Kind.TheVariants as kind
 use Rattle.proto_tree.specs.declared.piece.Header.{Header}
 use Rattle.proto_tree.specs.declared.piece.Header.TheVariants as header
 use Rattle.proto_tree.specs.declared.piece.Statement.{Statement}
-use Rattle.proto_tree.specs.Flat.{Mark, one, flat_header, flat_statement}
-use Rattle.proto_tree.specs.Laws.{Numbered}
-use Rattle.proto_tree.specs.Moved.{Move, move_header, move_statement, move_tree, shift}
-use Rattle.proto_tree.specs.Tree.{Tree, End, Leaf, Block, flat, statement_kind, header_kind, allows, after, IsWellFormed, last_of, joined}
-use Rattle.proto_tree.proofs.MarkLaws.{numbered_append}
-use Rattle.proto_tree.proofs.Nodes.{flat-joined}
-use Rattle.proto_tree.proofs.Walks.{after_inner}
-use Rattle.proto_statement_laws.specs.Deletions.{StandsAt, InMessage, InOneof, Deeper, PastLeaf, PastBlock, StandsIn, First, AfterLeaf, AfterBlock}
-use Rattle.proto_statement_laws.specs.Exchanges.{IsExchanged, Here, Later, Inside, Behind, before}
+use Rattle.proto_tree.proofs.Common.{Mark, one, flat_header, flat_statement, Numbered, Move, move_header, move_statement, move_tree, shift, Tree, End, Leaf, Block, flat, statement_kind, header_kind, allows, after, IsWellFormed, last_of, joined, numbered_append, flat-joined, after_inner, header_kind_moved, kind_moved}
+use Rattle.proto_statement_laws.specs.Common.{StandsAt, InMessage, InOneof, Deeper, PastLeaf, PastBlock, StandsIn, First, AfterLeaf, AfterBlock, IsExchanged, Here, Later, Inside, Behind, before}
 use Rattle.proto_statement_laws.proofs.Endings.{nothing_behind}
 use Rattle.proto_statement_laws.proofs.Exchanged.{around}
-use Rattle.proto_tree.proofs.MoveLaws.{header_kind_moved, kind_moved}
 use Rattle.proto_statement_laws.proofs.Reversed.{header_long, statement_long, tree_long}
 
 -- ---- where it stands

@@ -1,3 +1,4 @@
+pub mod Common
 pub mod Deletions
 pub mod Exchanges
 pub mod Imports

@@ -1,25 +1,13 @@
 -- A name that neither case 1 nor case 2 refuses to delete is that of one written field (for the crates above).
-use Rattle.std.proofs.Common.{◌≡◌, ◌≢◌, ◌⊎◌, inl, inr, ℕ, zero, suc, false, List, [], refl, sym, ◌∙◌, ap}
-use Rattle.std.specs.List.{Contains}
+use Rattle.std.proofs.Common.{◌≡◌, ◌≢◌, ◌⊎◌, inl, inr, ℕ, zero, suc, false, List, [], refl, sym, ◌∙◌, ap, Contains}
 use Rattle.proto_case.specs.Camel.{entry_name}
 use Rattle.proto_faults.proofs.Lists.{contains_map}
-use Rattle.proto_files.specs.Faults.{HasNoFault}
-use Rattle.proto_files.specs.FilesRead.{AreRead, ReadOf}
-use Rattle.proto_files.specs.GivenFiles.{FileOf}
+use Rattle.proto_files.proofs.Common.{HasNoFault, AreRead, ReadOf, FileOf}
 use Rattle.proto_meaning.specs.declared.kind.Kind.{Kind}
 use Rattle.proto_meaning.specs.declared.kind.Kind.TheVariants.{Package, Field}
-use Rattle.proto_meaning.specs.Joined.{joined}
-use Rattle.proto_meaning.specs.Names.{Symbol}
-use Rattle.proto_meaning.specs.Skeleton.{symbol_of}
-use Rattle.proto_meaning.proofs.Joined.{joined_apart}
-use Rattle.proto_meaning.proofs.Symbols.{one_symbol}
-use Rattle.proto_imports.specs.Links.{LinkFaults, link_skeleton, names_of_files, text_of}
-use Rattle.proto_rename_laws.specs.Cases.{IsUnknown, RenameCase, unknown_target as unknown_renamed, kind_not_allowed as kind_not_renamed}
-use Rattle.proto_rename_laws.specs.Targets.{Target, may_rename}
-use Rattle.proto_rename_laws.proofs.NoLinkFault.{files_are_linked}
-use Rattle.proto_rename_laws.proofs.OneTarget.{targets_are_one}
-use Rattle.proto_imports.proofs.PlainNames.{names_are_plain}
-use Rattle.proto_rename_laws.proofs.TargetThere.{targets_are_there}
+use Rattle.proto_meaning.proofs.Common.{joined, Symbol, symbol_of, joined_apart, one_symbol}
+use Rattle.proto_imports.proofs.Common.{LinkFaults, link_skeleton, names_of_files, text_of, names_are_plain}
+use Rattle.proto_rename_laws.proofs.Common.{IsUnknown, RenameCase, unknown_target as unknown_renamed, kind_not_allowed as kind_not_renamed, Target, may_rename, files_are_linked, targets_are_one, targets_are_there}
 use Rattle.proto_statement_names.specs.Cases.{DeletionCase, IsField, kind_not_allowed, last_of_oneof, unknown_target}
 use Rattle.proto_statement_names.specs.Fields.{FieldsAreOne, FieldsAreThere, FieldsMayGo}
 

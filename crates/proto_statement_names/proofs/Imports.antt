@@ -1,13 +1,7 @@
 -- Imports without faults, with one more and with one less (for the crates above).
-use Rattle.std.proofs.Common.{◌≡◌, ◌≢◌, ◌⊎◌, ℕ, List, [], ◌∷◌, ◌++◌, map, Option, Some, None, option_map, refl, sym, ◌∙◌, ap, subst, inl, inr, arith}
-use Rattle.std.specs.List.{Contains, cons_option, filter_map}
-use Rattle.std.proofs.lemmas.List.Elements.{Contains-append_cases, Contains-append_left, Contains-append_right}
-use Rattle.std.proofs.lemmas.Option.{none-some, same_Some}
-use Rattle.proto_faults.proofs.Lists.{contains_cases, contains_head, contains_later, contains_map, from_map}
-use Rattle.proto_meaning.specs.Cycles.{IsAcyclic, Leads, onward, stop}
-use Rattle.proto_meaning.specs.Faults.{Asked, Fault, ImportFault, cycle, double, fault, file_of, import_at, imports_of, unknown}
-use Rattle.proto_meaning.specs.Names.{Import}
-use Rattle.proto_meaning.proofs.Following.{Follows, after_follows, follows_after, follows_map, map_follows}
+use Rattle.std.proofs.Common.{◌≡◌, ◌≢◌, ◌⊎◌, ℕ, List, [], ◌∷◌, ◌++◌, map, Option, Some, None, option_map, refl, sym, ◌∙◌, ap, subst, inl, inr, arith, Contains, filter_map}
+use Rattle.proto_faults.proofs.Common.{cons_option, Contains-append_cases, Contains-append_left, Contains-append_right, none-some, same_Some, contains_cases, contains_head, contains_later, contains_map, from_map}
+use Rattle.proto_meaning.proofs.Common.{IsAcyclic, Leads, onward, stop, Asked, Fault, ImportFault, cycle, double, fault, file_of, import_at, imports_of, unknown, Import, Follows, after_follows, follows_after, follows_map, map_follows}
 use Rattle.proto_statement_names.specs.Lists.{HasOneMore}
 use Rattle.proto_statement_names.proofs.Lists.{one_filter_map, one_has, one_or}
 use Rattle.proto_statement_names.proofs.Spelled.{imports_unplaced, unplaced}

@@ -1,34 +1,17 @@
 -- Deletions, added and dropped imports keep meanings, and no fault of imports, names and references comes in (for the crates above).
-use Rattle.std.proofs.Common.{◌≡◌, ◌≢◌, inl, inr, ℕ, Bool, true, false, ◌==◌, not, List, [], ◌∷◌, ◌++◌, map, Option, Some, None, option_map, refl, sym, ◌∙◌, ap, subst}
-use Rattle.std.specs.List.{Contains, filter}
-use Rattle.std.specs.Str.{bytes_eq}
-use Rattle.std.proofs.lemmas.Bool.{and_from, eq-eqb}
-use Rattle.std.proofs.lemmas.List.Elements.{All-contains, All-contains_itself, All-filter, Contains-append_left, Contains-append_right, filter_passes}
+use Rattle.std.proofs.Common.{◌≡◌, ◌≢◌, inl, inr, ℕ, Bool, true, false, ◌==◌, not, List, [], ◌∷◌, ◌++◌, map, Option, Some, None, option_map, refl, sym, ◌∙◌, ap, subst, Contains, filter, bytes_eq, eq-eqb}
+use Rattle.proto_faults.proofs.Common.{and_from, All-contains, All-contains_itself, All-filter, Contains-append_left, Contains-append_right, filter_passes, number_of, contains_head, contains_map, from_map, same_from_word}
 use Rattle.proto_faults.specs.declared.fault.FaultKind.{FaultKind}
 use Rattle.proto_faults.specs.declared.fault.FaultKind.TheVariants as kind
-use Rattle.proto_faults.specs.FaultTable.{number_of}
 use Rattle.proto_case.specs.Camel.{entry_name}
 use Rattle.proto_text.specs.Texts.{offset_at}
-use Rattle.proto_faults.proofs.Lists.{contains_head, contains_map, from_map, same_from_word}
-use Rattle.proto_files.specs.Faults.{HasNoFault}
-use Rattle.proto_files.specs.FilesRead.{AreRead, ReadOf, read_at}
-use Rattle.proto_files.specs.GivenFiles.{FileOf, file_at, paths_of}
-use Rattle.proto_files.proofs.ReadOnce.{read_once}
-use Rattle.proto_meaning.specs.Cycles.{IsAcyclic, Leads}
-use Rattle.proto_meaning.specs.Edits.{IsAddition, IsNeeded, IsOvertaken, import_of, with_imports}
-use Rattle.proto_meaning.specs.Faults.{Asked, Fault, ImportFault, NameFault, ReferenceFault, cycle, double, file_of, imports_of, unknown}
-use Rattle.proto_meaning.specs.Linked.{IsLinked, IsNested}
-use Rattle.proto_meaning.specs.Names.{Import, Reference, Workspace, meaning}
-use Rattle.proto_meaning.specs.Skeleton.{reference_of}
-use Rattle.proto_meaning.proofs.Files.{files_nested}
-use Rattle.proto_meaning.proofs.Renamed.{has_meaning}
-use Rattle.proto_meaning.proofs.Sound.{names_sound, references_sound}
+use Rattle.proto_files.proofs.Common.{HasNoFault, AreRead, ReadOf, read_at, FileOf, file_at, paths_of, read_once}
+use Rattle.proto_meaning.proofs.Common.{IsAcyclic, Leads, IsAddition, IsNeeded, IsOvertaken, import_of, with_imports, Asked, Fault, ImportFault, NameFault, ReferenceFault, cycle, double, file_of, imports_of, unknown, IsLinked, IsNested, Import, Reference, Workspace, meaning, reference_of, files_nested, has_meaning, names_sound, references_sound}
 use Rattle.proto_imports.specs.Links.{LinkFaults, link_imports, link_skeleton, names_in, names_of_files, of_import, of_name, of_reference, text_of}
 use Rattle.proto_rename_laws.proofs.NoLinkFault.{files_are_linked}
-use Rattle.proto_statement_names.specs.Cases.{IsPlaceOf, already_imported, asked_in, captured, cycle as cycle_case, is_import_of, needed, unknown_path}
+use Rattle.proto_statement_names.specs.Common.{IsPlaceOf, already_imported, asked_in, captured, cycle as cycle_case, is_import_of, needed, unknown_path, HasOneMore}
 use Rattle.proto_statement_names.specs.Clean.{AreClean}
 use Rattle.proto_statement_names.specs.Kept.{AdditionsKeepLinks, AdditionsKeepMeanings, DeletionsKeepLinks, DeletionsKeepMeanings, DropsKeepLinks, DropsKeepMeanings, IsAdded, IsDropped, MeanTheSame}
-use Rattle.proto_statement_names.specs.Lists.{HasOneMore}
 use Rattle.proto_statement_names.proofs.Imports.{AreSound, acyclic_by, asked_import, import_asked, no_fault, sound_from, sound_less, sound_more, sound_placed, sound_unplaced}
 use Rattle.proto_statement_names.proofs.Less.{less_is_linked, less_means}
 use Rattle.proto_statement_names.proofs.Lists.{one_has, one_or, one_there_is}

@@ -1,9 +1,7 @@
 -- Walks along the imports of files are chains of imports (for the crates above).
 use Rattle.std.proofs.Common.{◌↔◌, ℕ, List, sym, subst, refl}
-use Rattle.proto_meaning.specs.Cycles.{Leads, onward, stop}
-use Rattle.proto_meaning.specs.Names.{Import}
-use Rattle.proto_imports.specs.Walks.{Walks, goes, stays}
-use Rattle.proto_imports.proofs.ImportGraph.{IsGraph}
+use Rattle.proto_meaning.proofs.Common.{Leads, onward, stop, Import}
+use Rattle.proto_imports.proofs.Common.{Walks, goes, stays, IsGraph}
 
 module _ (next : List (List ℕ)) (imports : List Import) (graph : IsGraph next imports) where
   walk_leads : {f g : ℕ} → Walks next f g → Leads imports f g

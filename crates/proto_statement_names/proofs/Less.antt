@@ -1,20 +1,10 @@
 -- Without some of its fields and entries a workspace gives each reference the meaning that it had (for the crates above).
-use Rattle.std.proofs.Common.{◌≡◌, ◌≢◌, ℕ, ◌<◌, Bool, true, false, ◌&&◌, ◌||◌, ◌==◌, List, [], ◌∷◌, ◌++◌, length, take, Option, Some, None, refl, sym, ◌∙◌, ap, ap₂, subst, inl, inr, arith, append_assoc, length-append}
-use Rattle.std.specs.List.{Contains, list_any}
-use Rattle.std.proofs.lemmas.Bool.{true≢false, both_ways, and_from, cases_Bool, cond-true, cond-false, false_from_ne_true}
-use Rattle.std.proofs.lemmas.Option.{none-some}
-use Rattle.std.proofs.lemmas.List.{append-nil}
-use Rattle.proto_faults.proofs.Lists.{any_from}
-use Rattle.proto_meaning.specs.Linked.{AreApart, is_leaf, IsLinked}
+use Rattle.std.proofs.Common.{◌≡◌, ◌≢◌, ℕ, ◌<◌, Bool, true, false, ◌&&◌, ◌||◌, ◌==◌, List, [], ◌∷◌, ◌++◌, length, take, Option, Some, None, refl, sym, ◌∙◌, ap, ap₂, subst, inl, inr, arith, append_assoc, length-append, Contains, true≢false, append-nil}
+use Rattle.proto_faults.proofs.Common.{list_any, both_ways, and_from, cases_Bool, cond-true, cond-false, false_from_ne_true, none-some, any_from}
+use Rattle.proto_meaning.proofs.Common.{AreApart, is_leaf, IsLinked, Import, Symbol, Reference, Workspace, same_name, is_type, is_outer, fits, greatest, reaches, sees, shows, hit, hits_at, meaning, meaning_at, typed, same_from_name, first_and_rest, hit_from, hit_relative, typed_from, typed_is, has_meaning, meant, front_of, one_symbol, shown, type_not_leaf}
 use Rattle.proto_meaning.specs.declared.kind.Kind.{Kind}
 use Rattle.proto_meaning.specs.declared.kind.Kind.TheVariants.{Package, Message, Entry, Enum, Service, Field, EntryField, Oneof, Value, Method}
-use Rattle.proto_meaning.specs.Names.{Import, Symbol, Reference, Workspace, same_name, is_type, is_outer, fits, greatest, reaches, sees, shows, hit, hits_at, meaning, meaning_at, typed}
-use Rattle.proto_meaning.proofs.Basics.{same_from_name}
-use Rattle.proto_meaning.proofs.Rename.{first_and_rest, hit_from, hit_relative, typed_from, typed_is}
-use Rattle.proto_meaning.proofs.Renamed.{has_meaning, meant}
-use Rattle.proto_meaning.proofs.Symbols.{front_of, one_symbol, shown, type_not_leaf}
-use Rattle.proto_statement_names.specs.Less.{HasLess, LessIsLinked, LessMeans, MayGo, goes_with_field}
-use Rattle.proto_statement_names.specs.Lists.{IsAny}
+use Rattle.proto_statement_names.specs.Common.{HasLess, LessIsLinked, LessMeans, MayGo, goes_with_field, IsAny}
 use Rattle.proto_statement_names.proofs.Lists.{more_has, more_or, more_pairs}
 
 -- what holds others stays, but for entries

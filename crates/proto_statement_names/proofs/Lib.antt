@@ -12,6 +12,7 @@ pub mod SameImports
 pub mod Spelled
 mod Sight
 mod Walks
+pub mod Common
 pub use Rattle.proto_rename_laws.proofs.Declarations
 pub use Rattle.proto_rename_laws.proofs.Scenes
 pub use Rattle.proto_rename_laws.proofs.NoLinkFault

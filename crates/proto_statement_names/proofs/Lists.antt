@@ -1,10 +1,7 @@
 -- Lists with something more in them (for the crates above).
-use Rattle.std.proofs.Common.{◌≡◌, ◌⊎◌, ℕ, zero, suc, ◌+◌, ◌<◌, List, [], ◌∷◌, ◌++◌, length, get_or, map, Option, Some, refl, sym, ◌∙◌, ap, subst, inl, inr, arith, append_assoc}
-use Rattle.std.specs.List.{AllPairs, Contains, cons_option, filter_map}
-use Rattle.std.proofs.lemmas.List.{get_or-append-add, length-append}
-use Rattle.std.proofs.lemmas.List.Elements.{Contains-append_cases, Contains-append_left, Contains-append_right, filter_map-append}
+use Rattle.std.proofs.Common.{◌≡◌, ◌⊎◌, ℕ, zero, suc, ◌+◌, ◌<◌, List, [], ◌∷◌, ◌++◌, length, get_or, map, Option, Some, refl, sym, ◌∙◌, ap, subst, inl, inr, arith, append_assoc, AllPairs, Contains, filter_map, get_or-append-add, length-append}
+use Rattle.proto_faults.proofs.Common.{cons_option, Contains-append_cases, Contains-append_left, Contains-append_right, filter_map-append, contains_cases, contains_head, contains_later, from_map}
 use Rattle.proto_meaning.proofs.Edited.{map_append}
-use Rattle.proto_faults.proofs.Lists.{contains_cases, contains_head, contains_later, from_map}
 use Rattle.proto_statement_names.specs.Lists.{HasMore, HasOneMore}
 
 -- ---- elements more

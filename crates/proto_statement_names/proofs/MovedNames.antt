@@ -9,16 +9,11 @@ use Rattle.proto_tree.specs.declared.tree.FieldType.TheVariants as field_type
 use Rattle.proto_tree.specs.declared.tree.Reference.{Reference}
 use Rattle.proto_tree.specs.declared.tree.Separated.{Separated}
 use Rattle.proto_tree.specs.declared.tree.Signature.{Signature}
-use Rattle.proto_tree.specs.Moved.{Move, move_header, move_option, move_reference, move_separated, move_signature, move_statement, move_tree, move_type}
-use Rattle.proto_tree.specs.References.{dotted, first_of}
-use Rattle.proto_tree.specs.Tree.{Tree, End, Leaf, Block}
+use Rattle.proto_tree.proofs.Common.{Move, move_header, move_option, move_reference, move_separated, move_signature, move_statement, move_tree, move_type, dotted, first_of, Tree, End, Leaf, Block}
 use Rattle.proto_meaning.specs.declared.kind.Kind.{Kind}
 use Rattle.proto_meaning.specs.declared.kind.Kind.TheVariants as kind
-use Rattle.proto_meaning.specs.Skeleton.{Source, Token, EntryOf, Given, Used, shifted_source, shifted_used}
-use Rattle.proto_meaning.specs.Tree.{Items, Members, Placed, all_placed, beside, items_placed, key_word, map_field, package_of, packaged, place, placed, prefixes, value_word}
-use Rattle.proto_meaning.proofs.Edited.{map_append, map_map}
-use Rattle.proto_listing.specs.FromTree.{add_statement, block_names, block_uses, field_names, file_block, flat_uses, header_uses, item_uses, items_in, member_uses, members_in, method_names, no_names, picked, scope_in, signature_uses, statement_uses, type_uses, used_as, value_names}
-use Rattle.proto_listing.proofs.MovedHeads.{dotted_moved, imports_moved, package_moved}
+use Rattle.proto_meaning.proofs.Common.{Source, Token, EntryOf, Given, Used, shifted_source, shifted_used, Items, Members, Placed, all_placed, beside, items_placed, key_word, map_field, package_of, packaged, place, placed, prefixes, value_word, map_append, map_map}
+use Rattle.proto_listing.proofs.Common.{add_statement, block_names, block_uses, field_names, file_block, flat_uses, header_uses, item_uses, items_in, member_uses, members_in, method_names, no_names, picked, scope_in, signature_uses, statement_uses, type_uses, used_as, value_names, dotted_moved, imports_moved, package_moved}
 use Rattle.proto_rename_laws.specs.Imports.{without_imports}
 use Rattle.proto_statement_names.specs.Trees.{ImportsMoveNames, MovesNames, TreesMoveImports, TreesMoveNames, move_placed}
 

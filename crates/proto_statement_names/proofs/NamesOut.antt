@@ -1,20 +1,12 @@
 -- The names of files where one of them has a field less, or an import more (for the crates above).
-use Rattle.std.proofs.Common.{◌≡◌, ◌≢◌, ℕ, ◌+◌, Bool, List, ◌∷◌, ◌++◌, length, map, Option, Some, option_map, sym, ◌∙◌, ap, ap₂, subst, arith}
-use Rattle.std.proofs.lemmas.List.{length-append, length-map}
-use Rattle.proto_faults.specs.Texts.{or_nothing}
-use Rattle.proto_files.specs.FilesRead.{ReadOf}
-use Rattle.proto_files.specs.GivenFiles.{FileOf, paths_of}
-use Rattle.proto_meaning.specs.Edits.{with_imports}
-use Rattle.proto_meaning.specs.Faults.{Asked, file_of, import_at, imports_of}
-use Rattle.proto_meaning.specs.Grown.{At, at}
-use Rattle.proto_meaning.specs.Names.{Import, Reference, Symbol, Workspace}
-use Rattle.proto_meaning.specs.Skeleton.{shifted_used}
-use Rattle.proto_listing.specs.FromTree.{file_names, imports_in}
-use Rattle.proto_listing.specs.Moved.{move_wanted}
+use Rattle.std.proofs.Common.{◌≡◌, ◌≢◌, ℕ, ◌+◌, Bool, List, ◌∷◌, ◌++◌, length, map, Option, Some, option_map, sym, ◌∙◌, ap, ap₂, subst, arith, length-append}
+use Rattle.proto_faults.proofs.Common.{length-map, or_nothing}
+use Rattle.proto_files.proofs.Common.{ReadOf, FileOf, paths_of}
+use Rattle.proto_meaning.proofs.Common.{with_imports, Asked, file_of, import_at, imports_of, At, at, Import, Reference, Symbol, Workspace, shifted_used}
+use Rattle.proto_listing.proofs.Common.{file_names, imports_in, move_wanted}
 use Rattle.proto_imports.specs.Links.{all_wanted, link_imports, names_in, names_of_files, text_of}
 use Rattle.proto_statement_names.specs.Files.{DeletionsHaveLess, ImportsAreMore, IsFieldLess, IsImportMore, IsOneFile, MayGoAt}
-use Rattle.proto_statement_names.specs.Less.{MayGo}
-use Rattle.proto_statement_names.specs.Lists.{HasMore, HasOneMore, IsAny}
+use Rattle.proto_statement_names.specs.Common.{MayGo, HasMore, HasOneMore, IsAny}
 use Rattle.proto_statement_names.specs.Trees.{move_placed, placed_in}
 use Rattle.proto_statement_names.proofs.Lists.{more_back, more_front, more_map, one_back, one_filter_map, one_front, one_map}
 use Rattle.proto_statement_names.proofs.Spelled.{imports_unplaced, one_function, reference_in, references_at, references_moved, references_walk, symbol_in, symbols_at, symbols_moved, symbols_walk, unplaced, wanted_at, wanted_in, wanted_moved, wanted_walk}

@@ -1,12 +1,7 @@
 -- The place of a path among the files of a workspace (for the crates above).
-use Rattle.std.proofs.Common.{◌≡◌, ◌≢◌, ℕ, zero, suc, ◌<◌, false, List, [], ◌∷◌, length, get_or, Some, option_map, refl, sym, ap, subst, ◌∙◌, arith}
-use Rattle.std.specs.List.{AllPairs, position}
-use Rattle.std.specs.Str.{bytes_eq}
-use Rattle.std.proofs.lemmas.Bool.{cond-false, cond-true}
-use Rattle.proto_faults.proofs.Lists.{same_from_word}
-use Rattle.proto_files.specs.GivenFiles.{AreWorkspaceFiles, FileOf, file_at, paths_of}
-use Rattle.proto_files.specs.WorkspacePaths.{IsBefore}
-use Rattle.proto_files.proofs.PathOrder.{bytes_apart, never_before_itself}
+use Rattle.std.proofs.Common.{◌≡◌, ◌≢◌, ℕ, zero, suc, ◌<◌, false, List, [], ◌∷◌, length, get_or, Some, option_map, refl, sym, ap, subst, ◌∙◌, arith, AllPairs, position, bytes_eq}
+use Rattle.proto_faults.proofs.Common.{cond-false, cond-true, same_from_word}
+use Rattle.proto_files.proofs.Common.{AreWorkspaceFiles, FileOf, file_at, paths_of, IsBefore, bytes_apart, never_before_itself}
 use Rattle.proto_meaning.specs.Faults.{file_of}
 use Rattle.proto_imports.proofs.Resolving.{position_cons}
 use Rattle.proto_statement_names.specs.Cases.{IsNoFile, IsPlaceOf}

@@ -1,21 +1,10 @@
 -- The least place of references of which something holds is there, and it is one (for the crates above).
-use Rattle.std.proofs.Common.{◌≡◌, ◌≢◌, ◌⊎◌, inl, inr, ℕ, ◌≤◌, Bool, true, false, ◌&&◌, not, List, [], ◌∷◌, ◌++◌, length, Option, Some, None, refl, sym, ◌∙◌, ap, ap₂, subst, arith}
-use Rattle.std.specs.List.{Contains, filter, list_any}
-use Rattle.std.proofs.lemmas.Bool.{and_from, and_parts, both_ways, cases_Bool, cases_eq, cases_lt}
-use Rattle.std.proofs.lemmas.Option.{none-some, same_Some}
+use Rattle.std.proofs.Common.{◌≡◌, ◌≢◌, ◌⊎◌, inl, inr, ℕ, ◌≤◌, Bool, true, false, ◌&&◌, not, List, [], ◌∷◌, ◌++◌, length, Option, Some, None, refl, sym, ◌∙◌, ap, ap₂, subst, arith, Contains, filter}
+use Rattle.proto_faults.proofs.Common.{list_any, and_from, and_parts, both_ways, cases_Bool, cases_eq, cases_lt, none-some, same_Some, any_from, any_to, contains_cases, contains_head, contains_later, contains_map}
 use Rattle.proto_case.specs.Camel.{entry_name}
 use Rattle.proto_text.specs.Texts.{offset_at}
-use Rattle.proto_faults.proofs.Lists.{any_from, any_to, contains_cases, contains_head, contains_later, contains_map}
-use Rattle.proto_files.specs.FilesRead.{ReadOf, read_at}
-use Rattle.proto_files.specs.GivenFiles.{FileOf, file_at, paths_of}
-use Rattle.proto_meaning.specs.Edits.{IsNeeded, IsOvertaken, import_of, with_imports}
-use Rattle.proto_meaning.specs.Faults.{imports_of}
-use Rattle.proto_meaning.specs.Grown.{At, at}
-use Rattle.proto_meaning.specs.Linked.{IsLinked}
-use Rattle.proto_meaning.specs.Names.{Import, Reference, Symbol, Workspace, greatest, hit, hits_at, meaning, same_name, sees}
-use Rattle.proto_meaning.specs.Skeleton.{Used, reference_of}
-use Rattle.proto_meaning.proofs.Basics.{greatest_above, greatest_is, name_from_same, same_from_name}
-use Rattle.proto_meaning.proofs.Renamed.{has_meaning}
+use Rattle.proto_files.proofs.Common.{ReadOf, read_at, FileOf, file_at, paths_of}
+use Rattle.proto_meaning.proofs.Common.{IsNeeded, IsOvertaken, import_of, with_imports, imports_of, At, at, IsLinked, Import, Reference, Symbol, Workspace, greatest, hit, hits_at, meaning, same_name, sees, Used, reference_of, greatest_above, greatest_is, name_from_same, same_from_name, has_meaning}
 use Rattle.proto_imports.specs.Links.{link_imports, link_skeleton, names_of_files, text_of}
 use Rattle.proto_rename_laws.specs.Cases.{IsFirstPlace, StandsBefore}
 use Rattle.proto_statement_names.specs.Cases.{AdditionCase, DropCase, IsNeededIn, IsOvertakenIn, IsPlaceOf, already_imported, asked_in, captured, cycle, is_import_of, needed, no_such_file, not_imported, unknown_file, unknown_path, with_added, with_dropped}

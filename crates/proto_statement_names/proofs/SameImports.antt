@@ -1,17 +1,9 @@
 -- With the same imports, in whatever order, the same is seen; and the imports of files with those of one file changed (for the crates above).
-use Rattle.std.proofs.Common.{◌≡◌, ◌≢◌, ◌⊎◌, ◌↔◌, ℕ, zero, suc, ◌+◌, ◌<◌, Bool, true, false, ◌&&◌, ◌||◌, ◌==◌, List, [], length, get_or, filter, refl, sym, ◌∙◌, ap, subst, inl, inr, arith, slice_set}
-use Rattle.std.specs.List.{All, Contains, list_any}
-use Rattle.std.proofs.lemmas.Bool.{cases_eq}
-use Rattle.std.proofs.lemmas.List.{get_or_default, get_or-set_same, get_or-set_other}
-use Rattle.std.proofs.lemmas.List.Elements.{Contains-get_or}
-use Rattle.proto_faults.proofs.Lists.{any_from, any_to}
-use Rattle.proto_meaning.specs.Edits.{with_imports}
-use Rattle.proto_meaning.specs.Marks.{MarksSeen}
-use Rattle.proto_meaning.specs.Names.{Import, Workspace, reaches, sees}
-use Rattle.proto_imports.specs.Importing.{all_imports, import_from}
+use Rattle.std.proofs.Common.{◌≡◌, ◌≢◌, ◌⊎◌, ◌↔◌, ℕ, zero, suc, ◌+◌, ◌<◌, Bool, true, false, ◌&&◌, ◌||◌, ◌==◌, List, [], length, get_or, filter, refl, sym, ◌∙◌, ap, subst, inl, inr, arith, slice_set, All, Contains, get_or-set_same, get_or-set_other}
+use Rattle.proto_faults.proofs.Common.{list_any, cases_eq, get_or_default, Contains-get_or, any_from, any_to}
+use Rattle.proto_meaning.proofs.Common.{with_imports, MarksSeen, Import, Workspace, reaches, sees}
+use Rattle.proto_imports.proofs.Common.{all_imports, import_from, import_in, import_of_file, in_filter}
 use Rattle.proto_imports.specs.declared.import.FileImport.{FileImport}
-use Rattle.proto_imports.proofs.ImportGraph.{import_in, import_of_file}
-use Rattle.proto_imports.proofs.SeenFiles.{in_filter}
 
 -- ---- what is seen
 

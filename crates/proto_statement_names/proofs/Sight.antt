@@ -1,12 +1,7 @@
 -- With more imports more is seen, and a reference hits where it hit.
-use Rattle.std.proofs.Common.{◌≡◌, ℕ, zero, suc, Bool, true, false, ◌&&◌, ◌||◌, ◌==◌, List, ◌++◌, take, refl}
-use Rattle.std.specs.List.{Contains, list_any}
-use Rattle.std.proofs.lemmas.Bool.{and_from, false_from_ne_true, both_ways}
-use Rattle.proto_faults.proofs.Lists.{any_from, any_to}
-use Rattle.proto_meaning.specs.Edits.{IsNeeded, IsOvertaken, with_imports}
-use Rattle.proto_meaning.specs.Names.{Import, Reference, Workspace, fits, hits_at, reaches, same_name, sees}
-use Rattle.proto_meaning.proofs.Basics.{same_from_name}
-use Rattle.proto_meaning.proofs.Symbols.{shown}
+use Rattle.std.proofs.Common.{◌≡◌, ℕ, zero, suc, Bool, true, false, ◌&&◌, ◌||◌, ◌==◌, List, ◌++◌, take, refl, Contains}
+use Rattle.proto_faults.proofs.Common.{list_any, and_from, false_from_ne_true, both_ways, any_from, any_to}
+use Rattle.proto_meaning.proofs.Common.{IsNeeded, IsOvertaken, with_imports, Import, Reference, Workspace, fits, hits_at, reaches, same_name, sees, same_from_name, shown}
 
 or_more : (x y z : Bool) → (y ≡ true → z ≡ true) → (x || y) ≡ true → (x || z) ≡ true
 or_more true y z f h = refl

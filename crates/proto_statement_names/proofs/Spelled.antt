@@ -1,19 +1,12 @@
 -- What the files of a workspace declare, refer to and import, file after file, by the texts of their tokens (for the crates above).
 use Rattle.std.proofs.Common.{◌≡◌, ℕ, suc, List, [], ◌∷◌, ◌++◌, map, refl, sym, ◌∙◌, ap, ap₂}
-use Rattle.std.specs.List.{cons_option}
-use Rattle.proto_faults.specs.Texts.{or_nothing}
+use Rattle.proto_faults.proofs.Common.{cons_option, or_nothing}
 use Rattle.proto_case.specs.Camel.{entry_name}
 use Rattle.proto_text.specs.Values.{value_of}
 use Rattle.proto_tree.specs.Moved.{Move}
 use Rattle.proto_files.specs.FilesRead.{ReadOf}
-use Rattle.proto_meaning.specs.Faults.{Asked, import_at, imports_of}
-use Rattle.proto_meaning.specs.Grown.{At, all_declared, all_used, at, declared_of, file_declared, file_used, used_in}
-use Rattle.proto_meaning.specs.Names.{Import, Reference, Symbol}
-use Rattle.proto_meaning.specs.Skeleton.{EntryOf, Given, Source, Token, Used, name_of, reference_of, shifted_declared, shifted_source, shifted_used, spell, symbol_of}
-use Rattle.proto_meaning.specs.Tree.{Placed}
-use Rattle.proto_meaning.proofs.Edited.{map_agree, map_append, map_map}
-use Rattle.proto_listing.specs.FromTree.{Wanted, file_names, imports_in}
-use Rattle.proto_listing.specs.Moved.{move_wanted}
+use Rattle.proto_meaning.proofs.Common.{Asked, import_at, imports_of, At, all_declared, all_used, at, declared_of, file_declared, file_used, used_in, Import, Reference, Symbol, EntryOf, Given, Source, Token, Used, name_of, reference_of, shifted_declared, shifted_source, shifted_used, spell, symbol_of, Placed, map_agree, map_append, map_map}
+use Rattle.proto_listing.proofs.Common.{Wanted, file_names, imports_in, move_wanted}
 use Rattle.proto_imports.specs.Links.{all_wanted, asked_as, names_in}
 use Rattle.proto_statement_names.specs.Trees.{move_placed, placed_in}
 use Rattle.proto_statement_names.proofs.Walks.{walk}

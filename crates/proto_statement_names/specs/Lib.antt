@@ -1,5 +1,6 @@
 pub mod Cases
 pub mod Clean
+pub mod Common
 pub mod Fields
 pub mod Files
 pub mod Kept

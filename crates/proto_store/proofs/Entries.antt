@@ -1,21 +1,7 @@
 -- The entries of a map from paths to bytes, as files.
-use Rattle.std.proofs.Common.{◌≡◌, ℕ, Bool, true, false, cond, List, [], ◌∷◌, ◌++◌, map, None, Some, refl, sym, ap, ◌∙◌, reverse}
-use Rattle.std.specs.Prelude.{String, option_map}
-use Rattle.std.specs.Global.{Vec, Global}
-use Rattle.std.specs.String.{string_bytes, string_cmp}
-use Rattle.std.specs.List.{AllByRecursion}
-use Rattle.std.specs.List.Sorted.{IsStrictlySortedBy}
-use Rattle.std.specs.Cmp.Lexicographic.{slice_cmp}
-use Rattle.std.specs.Ordering.{nat_cmp}
-use Rattle.std.specs.Str.{bytes_eq}
-use Rattle.std.specs.Map.{lookup, set_value}
-use Rattle.std.specs.BTreeMap.{BTreeMap, UpdatesBy, get_by_text, is_at}
-use Rattle.std.specs.declared.cmp.Ordering.TheVariants.{Less}
-use Rattle.std.proofs.lemmas.Map.Text.{btree_map_updates_text, is_eq-slice_cmp}
-use Rattle.std.proofs.lemmas.List.{map-append, reverse-append}
-use Rattle.proto_faults.specs.GivenFiles.{file_of, files_of, paths_of}
-use Rattle.proto_store.specs.Stores.{AreInPathOrder, bytes_at, with_bytes}
-use Rattle.proto_store.specs.Memory.{files_in}
+use Rattle.std.proofs.Common.{◌≡◌, ℕ, Bool, true, false, cond, List, [], ◌∷◌, ◌++◌, map, None, Some, refl, sym, ap, ◌∙◌, reverse, String, option_map, Global, string_bytes, string_cmp, nat_cmp, bytes_eq, BTreeMap}
+use Rattle.proto_faults.proofs.Common.{Vec, AllByRecursion, IsStrictlySortedBy, slice_cmp, lookup, set_value, UpdatesBy, get_by_text, is_at, Less, btree_map_updates_text, is_eq-slice_cmp, map-append, reverse-append, file_of, files_of, paths_of}
+use Rattle.proto_store.specs.Common.{AreInPathOrder, bytes_at, with_bytes, files_in}
 use Rattle.proto_store.proofs.PathOrder.{same_text}
 use Rattle.proto_store.proofs.Replaced.{with_bytes-absent}
 

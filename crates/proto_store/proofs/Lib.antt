@@ -1,3 +1,4 @@
+pub mod Common
 mod Entries
 pub mod Loading
 pub mod PathOrder

@@ -1,11 +1,6 @@
 -- Public for the crates above. Loading the files of a store, one path after the other.
-use Rattle.std.proofs.Common.{◌≡◌, ℕ, List, [], ◌∷◌, ◌++◌, map, Option, Some, None, refl, sym, ap, ◌∙◌, subst, append_assoc, append-nil, length, arith}
-use Rattle.std.specs.Prelude.{String, is_some}
-use Rattle.std.specs.Global.{Vec, Global}
-use Rattle.std.specs.String.{string_bytes, string_cmp}
-use Rattle.std.specs.List.Sorted.{IsSorted, IsPermutation}
-use Rattle.std.proofs.lemmas.List.{map-append}
-use Rattle.proto_faults.specs.GivenFiles.{FileOf, file_of, files_of, paths_of}
+use Rattle.std.proofs.Common.{◌≡◌, ℕ, List, [], ◌∷◌, ◌++◌, map, Option, Some, None, refl, sym, ap, ◌∙◌, subst, append_assoc, append-nil, length, arith, String, is_some, Global, string_bytes, string_cmp, IsSorted, IsPermutation}
+use Rattle.proto_faults.proofs.Common.{Vec, map-append, FileOf, file_of, files_of, paths_of}
 use Rattle.proto_store.specs.Stores.{AreInPathOrder, Held, HoldsBytes, HoldsFiles, IsListed, ListsPaths, Over, bytes_at}
 use Rattle.proto_store.proofs.PathOrder.{bytes_at_place, sorted_paths}
 

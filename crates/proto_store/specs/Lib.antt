@@ -1,3 +1,4 @@
+pub mod Common
 pub mod Memory
 pub mod Reading
 pub mod Stores

@@ -1,19 +1,11 @@
 -- The first clash of names, where packages are declared before all else.
-use Rattle.std.proofs.Common.{◌≡◌, ◌≢◌, ◌⊎◌, ℕ, zero, suc, ◌+◌, ◌<◌, ◌≤◌, Bool, true, List, [], ◌∷◌, ◌++◌, length, get_or, take, refl, sym, ◌∙◌, ap, subst, inl, inr, arith, length-append, not}
-use Rattle.std.specs.List.{AllPairs, Contains, filter}
-use Rattle.std.proofs.lemmas.Bool.{cases_Bool, cases_lt, cond-true, cond-false}
-use Rattle.std.proofs.lemmas.List.{get_or-take, length-take-le, get_or-append-add, get_or_default, length-take}
-use Rattle.std.proofs.lemmas.List.Elements.{Contains-append_cases}
+use Rattle.std.proofs.Common.{◌≡◌, ◌≢◌, ◌⊎◌, ℕ, zero, suc, ◌+◌, ◌<◌, ◌≤◌, Bool, true, List, [], ◌∷◌, ◌++◌, length, get_or, take, refl, sym, ◌∙◌, ap, subst, inl, inr, arith, length-append, not, AllPairs, Contains, filter, get_or-take, length-take-le, get_or-append-add, length-take}
+use Rattle.proto_faults.proofs.Common.{cases_Bool, cases_lt, cond-true, cond-false, get_or_default, Contains-append_cases, contains_head, contains_later, contains_cases}
 use Rattle.proto_meaning.specs.declared.kind.Kind.{Kind}
 use Rattle.proto_meaning.specs.declared.kind.Kind.TheVariants.{Package}
-use Rattle.proto_meaning.specs.Linked.{is_package}
-use Rattle.proto_meaning.specs.Faults.{Fault, fault, IsBefore, IsLeast}
-use Rattle.proto_table.specs.Spelled.{Named, ClashFault, earlier, of_package}
-use Rattle.proto_table.specs.Filling.{AreNamesApart, Clashes, packages_in, others_in}
-use Rattle.proto_faults.proofs.Lists.{contains_head, contains_later, contains_cases}
-use Rattle.proto_meaning.proofs.Forest.{get_front}
+use Rattle.proto_meaning.proofs.Common.{is_package, Fault, fault, IsBefore, IsLeast, get_front, package_from, package_or}
+use Rattle.proto_table.specs.Common.{Named, ClashFault, earlier, of_package, AreNamesApart, Clashes, packages_in, others_in}
 use Rattle.proto_table.proofs.Naming.{contains_at, IsOrdered}
-use Rattle.proto_meaning.proofs.Sound.{package_from, package_or}
 
 -- ---- what a filter keeps
 

@@ -1,20 +1,8 @@
 -- One declaration of a file more in the table.
-use Rattle.std.proofs.Common.{◌≡◌, ℕ, ◌+◌, ◌<◌, ◌≤◌, List, [], ◌∷◌, ◌++◌, length, get_or, take, drop, refl, sym, ◌∙◌, ap, subst, inl, inr, arith, string_bytes, length-append, append_assoc}
-use Rattle.std.proofs.lemmas.Bool.{cases_eq}
-use Rattle.std.proofs.lemmas.List.{append-nil, take_more, drop_all, drop-append-le, length-take, length-take-le}
-use Rattle.proto_meaning.specs.Grown.{at}
-use Rattle.proto_meaning.specs.Joined.{joined}
-use Rattle.proto_meaning.specs.Forest.{under, front}
-use Rattle.proto_table.specs.declared.spelled.Spelled.{Spelled}
-use Rattle.proto_table.specs.declared.table.Symbol.{Symbol as Declaration}
-use Rattle.proto_table.specs.declared.table.Table.{Table}
-use Rattle.proto_table.specs.declared.filling.NameError.{NameError}
-use Rattle.proto_table.specs.declared.filling.NameError.TheVariants.{Clash, NoMemory}
-use Rattle.proto_table.specs.Tables.{names_of, IsTable}
-use Rattle.proto_table.specs.Resolved.{IsDeclared}
-use Rattle.proto_table.specs.Spelled.{Named, named_in, AreSpelled}
-use Rattle.proto_table.specs.Filling.{AreRowsOf, declaration_of, Holds, IsClashAt, IsKept, IsRowAt, IsRowOf, number_above, StopsIn}
-use Rattle.proto_meaning.proofs.Forest.{get_front, get_last}
+use Rattle.std.proofs.Common.{◌≡◌, ℕ, ◌+◌, ◌<◌, ◌≤◌, List, [], ◌∷◌, ◌++◌, length, get_or, take, drop, refl, sym, ◌∙◌, ap, subst, inl, inr, arith, string_bytes, length-append, append_assoc, append-nil, length-take, length-take-le}
+use Rattle.proto_faults.proofs.Common.{cases_eq, take_more, drop_all, drop-append-le}
+use Rattle.proto_meaning.proofs.Common.{at, joined, under, front, get_front, get_last}
+use Rattle.proto_table.specs.Common.{Spelled, Symbol as Declaration, Table, NameError, Clash, NoMemory, names_of, IsTable, IsDeclared, Named, named_in, AreSpelled, AreRowsOf, declaration_of, Holds, IsClashAt, IsKept, IsRowAt, IsRowOf, number_above, StopsIn}
 use Rattle.proto_table.proofs.Held.{held_more, held_clash, row_kept}
 use Rattle.proto_table.proofs.Naming.{named_kind, named_length, named_place, named_plain, named_text}
 use Rattle.proto_table.proofs.Search.{pick}

@@ -1,19 +1,10 @@
 -- The declarations of files, gathered file after file, with each file's package first or where it stands.
-use Rattle.std.proofs.Common.{◌≡◌, ◌↔◌, ℕ, suc, Bool, not, List, [], ◌∷◌, ◌++◌, map, refl, sym, ◌∙◌, ap, subst, inl, inr}
-use Rattle.std.specs.List.{Contains, filter}
-use Rattle.std.proofs.lemmas.List.{map-append}
-use Rattle.std.proofs.lemmas.List.Elements.{All-contains, Contains-append_left, Contains-append_right, Contains-append_cases, filter-append}
+use Rattle.std.proofs.Common.{◌≡◌, ◌↔◌, ℕ, suc, Bool, not, List, [], ◌∷◌, ◌++◌, map, refl, sym, ◌∙◌, ap, subst, inl, inr, Contains, filter}
+use Rattle.proto_faults.proofs.Common.{map-append, All-contains, Contains-append_left, Contains-append_right, Contains-append_cases, filter-append, contains_map, contains_head, contains_later, from_map}
 use Rattle.proto_meaning.specs.declared.kind.Kind.{Kind}
-use Rattle.proto_meaning.specs.Linked.{is_package}
-use Rattle.proto_meaning.specs.Skeleton.{Source, Token}
-use Rattle.proto_meaning.specs.Tree.{Items, no_items, packaged, item, Placed, placed, prefixes, package_of, items_placed, file_placed, ItemsSpan}
-use Rattle.proto_listing.specs.Listing.{items_below, package_first}
-use Rattle.proto_meaning.specs.Grown.{FileNames}
+use Rattle.proto_meaning.proofs.Common.{is_package, Source, Token, Items, no_items, packaged, item, Placed, placed, prefixes, package_of, items_placed, file_placed, ItemsSpan, FileNames, map_agree, map_map, filter_agree, filter_of_map}
+use Rattle.proto_listing.proofs.Common.{items_below, package_first, same_declared}
 use Rattle.proto_table.specs.Naming.{AreSpans}
-use Rattle.proto_faults.proofs.Lists.{contains_map, contains_head, contains_later, from_map}
-use Rattle.proto_meaning.proofs.Edited.{map_agree, map_map}
-use Rattle.proto_meaning.proofs.Following.{filter_agree, filter_of_map}
-use Rattle.proto_listing.proofs.PackageFirst.{same_declared}
 
 -- what a list of each file's declarations makes of them
 abbrev pub gathered : {B : Type 0} → (Items → List Placed) → (ℕ → Placed → B) → ℕ → List FileNames → List B

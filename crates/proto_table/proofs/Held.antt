@@ -1,22 +1,9 @@
 -- The table holds a declaration more, or one that it holds has the name (for the crates above).
-use Rattle.std.proofs.Common.{◌≡◌, ℕ, ◌<◌, ◌&&◌, Bool, true, List, [], ◌∷◌, ◌++◌, length, get_or, map, sym, ◌∙◌, ap, subst, inl, inr, arith, string_bytes, length-append}
-use Rattle.std.specs.List.{Contains}
-use Rattle.std.proofs.lemmas.Bool.{cases_eq, both_ways}
-use Rattle.std.proofs.lemmas.List.{length-map, map-append}
+use Rattle.std.proofs.Common.{◌≡◌, ℕ, ◌<◌, ◌&&◌, Bool, true, List, [], ◌∷◌, ◌++◌, length, get_or, map, sym, ◌∙◌, ap, subst, inl, inr, arith, string_bytes, length-append, Contains}
+use Rattle.proto_faults.proofs.Common.{cases_eq, both_ways, length-map, map-append, contains_head, contains_map, from_map}
 use Rattle.proto_meaning.specs.declared.kind.Kind.TheVariants.{Package}
-use Rattle.proto_meaning.specs.Names.{Symbol}
-use Rattle.proto_meaning.specs.Grown.{at}
-use Rattle.proto_meaning.specs.Linked.{is_package}
-use Rattle.proto_meaning.specs.Joined.{joined, ArePlain}
-use Rattle.proto_table.specs.declared.table.Symbol.{Symbol as Declaration}
-use Rattle.proto_table.specs.declared.table.Table.{Table}
-use Rattle.proto_table.specs.Tables.{names_of, aboves_of, look, IsTable}
-use Rattle.proto_table.specs.Resolved.{IsDeclared, IsIndexOf, IsTaken}
-use Rattle.proto_table.specs.Spelled.{Named, symbol_named}
-use Rattle.proto_table.specs.Filling.{AreNamesApart, Clashes, Holds, IsKept, IsRowAt, IsRowOf}
-use Rattle.proto_faults.proofs.Lists.{contains_head, contains_map, from_map}
-use Rattle.proto_meaning.proofs.Forest.{get_front, get_last, names_apart}
-use Rattle.proto_meaning.proofs.Joined.{joined_apart}
+use Rattle.proto_meaning.proofs.Common.{Symbol, at, is_package, joined, ArePlain, get_front, get_last, names_apart, joined_apart}
+use Rattle.proto_table.specs.Common.{Symbol as Declaration, Table, names_of, aboves_of, look, IsTable, IsDeclared, IsIndexOf, IsTaken, Named, symbol_named, AreNamesApart, Clashes, Holds, IsKept, IsRowAt, IsRowOf}
 use Rattle.proto_table.proofs.Naming.{contains_at}
 use Rattle.proto_table.proofs.Search.{pick}
 

@@ -1,20 +1,8 @@
 -- A table with a symbol more is the index of the symbols with it.
-use Rattle.std.proofs.Common.{◌≡◌, ◌≢◌, ℕ, zero, suc, ◌+◌, ◌<◌, ◌≤◌, List, [], ◌∷◌, ◌++◌, length, get_or, map, refl, sym, ◌∙◌, ap, subst, inl, inr, arith, slice_set, string_bytes, length-append}
-use Rattle.std.specs.List.{Contains}
-use Rattle.std.proofs.lemmas.Bool.{cases_eq}
-use Rattle.std.proofs.lemmas.List.{length-map, length-set, get_or-set_same, get_or-set_other, get_or_default}
-use Rattle.std.proofs.lemmas.List.Elements.{Contains-append_left, Contains-append_right, Contains-append_cases}
-use Rattle.proto_meaning.specs.Names.{Symbol}
-use Rattle.proto_meaning.specs.Joined.{joined, ArePlain}
-use Rattle.proto_meaning.specs.Forest.{front, IsForest}
-use Rattle.proto_table.specs.declared.table.Symbol.{Symbol as Declaration}
-use Rattle.proto_table.specs.declared.table.Row.{Row}
-use Rattle.proto_table.specs.declared.table.Table.{Table}
-use Rattle.proto_table.specs.Tables.{names_of, aboves_of, look, IsTable}
-use Rattle.proto_table.specs.Resolved.{files_of, IsIndexOf, IsDeclared}
-use Rattle.proto_faults.proofs.Lists.{contains_head, contains_cases}
-use Rattle.proto_meaning.proofs.Edited.{map_append}
-use Rattle.proto_meaning.proofs.Forest.{get_front, get_last}
+use Rattle.std.proofs.Common.{◌≡◌, ◌≢◌, ℕ, zero, suc, ◌+◌, ◌<◌, ◌≤◌, List, [], ◌∷◌, ◌++◌, length, get_or, map, refl, sym, ◌∙◌, ap, subst, inl, inr, arith, slice_set, string_bytes, length-append, Contains, length-set, get_or-set_same, get_or-set_other}
+use Rattle.proto_faults.proofs.Common.{cases_eq, length-map, get_or_default, Contains-append_left, Contains-append_right, Contains-append_cases, contains_head, contains_cases}
+use Rattle.proto_meaning.proofs.Common.{Symbol, joined, ArePlain, front, IsForest, map_append, get_front, get_last}
+use Rattle.proto_table.specs.Common.{Symbol as Declaration, Row, Table, names_of, aboves_of, look, IsTable, files_of, IsIndexOf, IsDeclared}
 
 last_only : {X : Type 0} (x y : X) → Contains (x ∷ []) y → x ≡ y
 last_only x y c = elim (contains_cases x y [] c) [ inl e ↦ e | inr n ↦ absurd (omega (arith, n.1)) ]

@@ -1,13 +1,8 @@
 -- The table keeps its rows when a symbol is declared.
-use Rattle.std.proofs.Common.{◌≡◌, ◌≢◌, ℕ, ◌+◌, ◌<◌, ◌≤◌, List, [], ◌∷◌, ◌++◌, length, get_or, refl, sym, ◌∙◌, ap, inl, inr, arith, slice_set, string_bytes, length-append}
-use Rattle.std.proofs.lemmas.Bool.{cases_eq}
-use Rattle.std.proofs.lemmas.List.{get_or-map, length-set, get_or-set_same, get_or-set_other, get_or_default}
+use Rattle.std.proofs.Common.{◌≡◌, ◌≢◌, ℕ, ◌+◌, ◌<◌, ◌≤◌, List, [], ◌∷◌, ◌++◌, length, get_or, refl, sym, ◌∙◌, ap, inl, inr, arith, slice_set, string_bytes, length-append, length-set, get_or-set_same, get_or-set_other}
+use Rattle.proto_faults.proofs.Common.{cases_eq, get_or-map, get_or_default}
 use Rattle.proto_meaning.specs.declared.kind.Kind.TheVariants.{Package}
-use Rattle.proto_table.specs.declared.table.Symbol.{Symbol as Declaration}
-use Rattle.proto_table.specs.declared.table.Row.{Row}
-use Rattle.proto_table.specs.declared.table.Table.{Table}
-use Rattle.proto_table.specs.Tables.{names_of}
-use Rattle.proto_table.specs.Filling.{IsKept, IsRowOf}
+use Rattle.proto_table.specs.Common.{Symbol as Declaration, Row, Table, names_of, IsKept, IsRowOf}
 use Rattle.proto_meaning.proofs.Forest.{get_front, get_last}
 use Rattle.proto_table.proofs.Search.{pick}
 

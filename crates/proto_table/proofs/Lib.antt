@@ -1,4 +1,5 @@
 mod Clashing
+pub mod Common
 mod Filled
 mod Gathered
 pub mod Held

@@ -1,24 +1,15 @@
 -- The faults of names are the same where each file's package comes first, and names alone say them (for the crates above).
-use Rattle.std.proofs.Common.{◌≡◌, ◌≢◌, ◌↔◌, ℕ, suc, Bool, true, not, List, [], ◌∷◌, ◌++◌, map, refl, sym, ◌∙◌, ap, subst, inl, inr}
-use Rattle.std.specs.List.{Contains, filter}
-use Rattle.std.proofs.lemmas.Bool.{cases_Bool}
+use Rattle.std.proofs.Common.{◌≡◌, ◌≢◌, ◌↔◌, ℕ, suc, Bool, true, not, List, [], ◌∷◌, ◌++◌, map, refl, sym, ◌∙◌, ap, subst, inl, inr, Contains, filter}
+use Rattle.proto_faults.proofs.Common.{cases_Bool, contains_map, from_map}
 use Rattle.proto_meaning.specs.declared.kind.Kind.TheVariants.{Package}
-use Rattle.proto_meaning.specs.Names.{Symbol}
+use Rattle.proto_meaning.proofs.Common.{Symbol, Source, Token, EntryOf, Given, Declared, name_of, symbol_of, shifted_source, shifted_declared, is_package, Placed, file_placed, FileNames, At, at, declared_of, file_declared, all_declared, Fault, fault, NameFault, place_from, place_of, Follows, follows_after, after_follows, follows_first, follows_second, follows_map, map_follows, follows_kept, kept_follows, package_from, package_or}
 use Rattle.proto_case.specs.Camel.{entry_name}
-use Rattle.proto_meaning.specs.Skeleton.{Source, Token, EntryOf, Given, Declared, name_of, symbol_of, shifted_source, shifted_declared}
-use Rattle.proto_meaning.specs.Linked.{is_package}
-use Rattle.proto_meaning.specs.Tree.{Placed, file_placed}
 use Rattle.proto_listing.specs.Listing.{package_first, whole}
-use Rattle.proto_meaning.specs.Grown.{FileNames, At, at, declared_of, file_declared, all_declared}
 use Rattle.proto_meaning.specs.Faults as declared
-use Rattle.proto_meaning.specs.Faults.{Fault, fault, NameFault, place_from, place_of}
 use Rattle.proto_table.specs.Spelled as named
 use Rattle.proto_table.specs.Spelled.{Named, ClashFault, symbol_named}
 use Rattle.proto_table.specs.Naming.{AreSpans, named_as, tree_named}
-use Rattle.proto_faults.proofs.Lists.{contains_map, from_map}
-use Rattle.proto_meaning.proofs.Following.{Follows, follows_after, after_follows, follows_first, follows_second, follows_map, map_follows, follows_kept, kept_follows}
 use Rattle.proto_table.proofs.Gathered.{gathered, gathered_map, is_other, same_gathered, same_others}
-use Rattle.proto_meaning.proofs.Sound.{package_from, package_or}
 
 -- ---- the declarations of the skeleton by their names
 

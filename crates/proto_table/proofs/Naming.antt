@@ -1,22 +1,12 @@
 -- The declarations of files by their full names (for the crates above).
-use Rattle.std.proofs.Common.{◌≡◌, ◌≢◌, ◌⊎◌, ℕ, zero, suc, ◌+◌, ◌-◌, ◌<◌, ◌≤◌, List, [], ◌∷◌, ◌++◌, length, get_or, map, take, drop, refl, sym, ◌∙◌, ap, subst, inl, inr, arith, string_bytes, length-append, append_assoc}
-use Rattle.std.specs.List.{AllPairs, Contains}
-use Rattle.std.proofs.lemmas.Bool.{cases_eq, cases_lt}
-use Rattle.std.proofs.lemmas.List.{get_or-map, length-map, map-append, append-nil, get_or_at, get_or-append_right, get_or_default}
-use Rattle.std.proofs.lemmas.List.Elements.{Contains-append_cases}
+use Rattle.std.proofs.Common.{◌≡◌, ◌≢◌, ◌⊎◌, ℕ, zero, suc, ◌+◌, ◌-◌, ◌<◌, ◌≤◌, List, [], ◌∷◌, ◌++◌, length, get_or, map, take, drop, refl, sym, ◌∙◌, ap, subst, inl, inr, arith, string_bytes, length-append, append_assoc, AllPairs, Contains, append-nil}
+use Rattle.proto_faults.proofs.Common.{cases_eq, cases_lt, get_or-map, length-map, map-append, get_or_at, get_or-append_right, get_or_default, Contains-append_cases}
 use Rattle.proto_meaning.specs.declared.kind.Kind.TheVariants.{Package}
-use Rattle.proto_meaning.specs.Grown.{at}
-use Rattle.proto_meaning.specs.Joined.{joined, ArePlain, IsPlain}
-use Rattle.proto_meaning.specs.Forest.{under, front}
+use Rattle.proto_meaning.proofs.Common.{at, joined, ArePlain, IsPlain, under, front, get_front}
 use Rattle.proto_listing.specs.Listing.{needs}
 use Rattle.proto_listing.specs.declared.listing.Above.{Above}
 use Rattle.proto_listing.specs.declared.listing.Above.TheVariants.{Outermost, Below}
-use Rattle.proto_table.specs.declared.spelled.Spelled.{Spelled}
-use Rattle.proto_table.specs.declared.table.Table.{Table}
-use Rattle.proto_table.specs.Tables.{names_of}
-use Rattle.proto_table.specs.Spelled.{Named, name_above, named_by, named_on, named_in, all_named, AreSpelled}
-use Rattle.proto_table.specs.Filling.{AreInFront, AreRowsOf, number_above}
-use Rattle.proto_meaning.proofs.Forest.{get_front}
+use Rattle.proto_table.specs.Common.{Spelled, Table, names_of, Named, name_above, named_by, named_on, named_in, all_named, AreSpelled, AreInFront, AreRowsOf, number_above}
 use Rattle.proto_table.proofs.Search.{joined_more, pick}
 
 pub contains_at : {X : Type 0} (xs : List X) (i : ℕ) (d : X) → i < length xs → Contains xs (get_or xs i d)

@@ -1,28 +1,14 @@
 -- Packages of all files in the table, and then all else.
-use Rattle.std.proofs.Common.{◌≡◌, ◌≢◌, ℕ, zero, suc, ◌+◌, ◌<◌, ◌≤◌, List, [], ◌∷◌, ◌++◌, length, get_or, map, take, drop, refl, sym, ◌∙◌, ap, subst, inl, inr, arith, slice_set, length-append, append_assoc, not}
-use Rattle.std.specs.List.{All, Contains}
-use Rattle.std.proofs.lemmas.Bool.{cases_eq, cases_Bool, cond-true, cond-false}
-use Rattle.std.proofs.lemmas.List.{take_more, take_all, length-map, get_or-map, length-take-le, get_or-take, get_or-append-add, get_or-drop, get_or-set_same, get_or-set_other, length-set, take-append-le, length-drop}
-use Rattle.std.proofs.lemmas.List.Elements.{Contains-append_cases, Contains-append_left, Contains-append_right, filter-append}
+use Rattle.std.proofs.Common.{◌≡◌, ◌≢◌, ℕ, zero, suc, ◌+◌, ◌<◌, ◌≤◌, List, [], ◌∷◌, ◌++◌, length, get_or, map, take, drop, refl, sym, ◌∙◌, ap, subst, inl, inr, arith, slice_set, length-append, append_assoc, not, All, Contains, take_all, length-take-le, get_or-take, get_or-append-add, get_or-drop, get_or-set_same, get_or-set_other, length-set, length-drop}
+use Rattle.proto_faults.proofs.Common.{cases_eq, cases_Bool, cond-true, cond-false, take_more, length-map, get_or-map, take-append-le, Contains-append_cases, Contains-append_left, Contains-append_right, filter-append, contains_map, from_map}
 use Rattle.proto_meaning.specs.declared.kind.Kind.TheVariants.{Package}
-use Rattle.proto_meaning.specs.Names.{Symbol}
-use Rattle.proto_meaning.specs.Linked.{is_package}
-use Rattle.proto_meaning.specs.Faults.{Fault, fault, IsLeast}
-use Rattle.proto_table.specs.declared.spelled.Spelled.{Spelled}
-use Rattle.proto_table.specs.declared.table.Table.{Table}
-use Rattle.proto_table.specs.declared.filling.NameError.{NameError}
-use Rattle.proto_table.specs.declared.filling.NameError.TheVariants.{Clash, NoMemory}
-use Rattle.proto_table.specs.Resolved.{IsIndexOf}
-use Rattle.proto_table.specs.Spelled.{Named, named_in, all_named, symbol_named, AreSpelled, ClashFault}
-use Rattle.proto_table.specs.Filling.{AreInFront, AreNamesApart, ArePackageRows, AreRows, AreRowsOf, Clashes, Holds, IsKept, IsNameError, StopsIn, packages_in, others_in}
-use Rattle.proto_faults.proofs.Lists.{contains_map, from_map}
+use Rattle.proto_meaning.proofs.Common.{Symbol, is_package, Fault, fault, IsLeast, get_front, get_last, package_from, package_or}
+use Rattle.proto_table.specs.Common.{Spelled, Table, NameError, Clash, NoMemory, IsIndexOf, Named, named_in, all_named, symbol_named, AreSpelled, ClashFault, AreInFront, AreNamesApart, ArePackageRows, AreRows, AreRowsOf, Clashes, Holds, IsKept, IsNameError, StopsIn, packages_in, others_in}
 use Rattle.proto_table.proofs.Clashing.{clash_least, clash_none, held_at, is_other, kept_from, kept_in}
 use Rattle.proto_table.proofs.Filled.{rows_kept}
-use Rattle.proto_meaning.proofs.Forest.{get_front, get_last}
 use Rattle.proto_table.proofs.Held.{index_same}
 use Rattle.proto_table.proofs.Naming.{all_more, all_ordered, all_split, named_kind, named_length}
 use Rattle.proto_table.proofs.Search.{pick}
-use Rattle.proto_meaning.proofs.Sound.{package_from, package_or}
 
 pub within_map : {V X : Type 0} (f : V → X) (vs : List V) (i : ℕ) → i < length vs → i < length (map f vs)
 within_map f vs i l = let n = length-map vs f in omega (arith, l, n)

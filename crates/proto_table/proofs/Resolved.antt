@@ -1,26 +1,10 @@
 -- What is looked up in the table is what a reference means (for the crates above).
-use Rattle.std.proofs.Common.{◌≡◌, ◌≢◌, ◌⊎◌, ℕ, zero, suc, ◌+◌, ◌<◌, ◌≤◌, Bool, true, false, ◌&&◌, List, [], ◌∷◌, ◌++◌, length, get_or, take, drop, map, Bor, Option, Some, None, refl, sym, ◌∙◌, ap, subst, inl, inr, arith, append_assoc, string_bytes, if◌then◌else◌, option_map, IfNone}
-use Rattle.std.specs.Prelude.{◌==◌}
-use Rattle.std.proofs.lemmas.Bool.{cases_Bool, cond-true, cond-false, both_ways, false_from_ne_true, and_parts, and_from, eqb-true}
-use Rattle.std.proofs.lemmas.Option.{none-some}
-use Rattle.std.proofs.lemmas.List.{length-map, get_or_default}
+use Rattle.std.proofs.Common.{◌≡◌, ◌≢◌, ◌⊎◌, ℕ, zero, suc, ◌+◌, ◌<◌, ◌≤◌, Bool, true, false, ◌&&◌, List, [], ◌∷◌, ◌++◌, length, get_or, take, drop, map, Bor, Option, Some, None, refl, sym, ◌∙◌, ap, subst, inl, inr, arith, append_assoc, string_bytes, if◌then◌else◌, option_map, IfNone, ◌==◌, eqb-true}
+use Rattle.proto_faults.proofs.Common.{cases_Bool, cond-true, cond-false, both_ways, false_from_ne_true, and_parts, and_from, none-some, length-map, get_or_default, any_from, any_to}
 use Rattle.proto_meaning.specs.declared.kind.Kind.{Kind}
-use Rattle.proto_meaning.specs.Names.{Reference, Workspace, same_name, is_type, is_outer, fits, sees, shows, greatest, hits_at, hit, typed, meaning, meaning_at}
-use Rattle.proto_meaning.specs.Joined.{joined, ArePlain}
-use Rattle.proto_meaning.specs.Forest.{under, front}
-use Rattle.proto_table.specs.declared.table.Row.{Row}
-use Rattle.proto_table.specs.declared.table.Table.{Table}
-use Rattle.proto_table.specs.Tables.{names_of, aboves_of, look, IsTable}
-use Rattle.proto_table.specs.Search.{is_seen, fits_first, passes, HitsAt, IsHit}
-use Rattle.proto_table.specs.Resolved.{files_of, IsIndexOf, under_all, IsAsked, IsTypeAt}
-use Rattle.proto_meaning.specs.Marks.{MarksSeen}
-use Rattle.proto_faults.proofs.Lists.{any_from, any_to}
-use Rattle.proto_meaning.proofs.Basics.{same_from_name, greatest_is}
-use Rattle.proto_meaning.proofs.Joined.{joined_apart}
-use Rattle.proto_meaning.proofs.Forest.{names_apart, prefix_named, under_pointed, under_some}
+use Rattle.proto_meaning.proofs.Common.{Reference, Workspace, same_name, is_type, is_outer, fits, sees, shows, greatest, hits_at, hit, typed, meaning, meaning_at, joined, ArePlain, under, front, MarksSeen, same_from_name, greatest_is, joined_apart, names_apart, prefix_named, under_pointed, under_some, shown, hit_from}
+use Rattle.proto_table.specs.Common.{Row, Table, names_of, aboves_of, look, IsTable, is_seen, fits_first, passes, HitsAt, IsHit, files_of, IsIndexOf, under_all, IsAsked, IsTypeAt}
 use Rattle.proto_table.proofs.Search.{joined_more, plain_take, pick}
-use Rattle.proto_meaning.proofs.Symbols.{shown}
-use Rattle.proto_meaning.proofs.Rename.{hit_from}
 
 plain_more : (x y : List (List ℕ)) → ArePlain x → ArePlain y → ArePlain (x ++ y)
 plain_more [] y px py = py

@@ -1,14 +1,8 @@
 -- One step outward: a number's name is a word more than the name above it (for the crates above).
 use Rattle.std.proofs.Common.{◌≡◌, ◌≢◌, ℕ, zero, suc, ◌<◌, ◌≤◌, Bool, false, List, [], ◌∷◌, ◌++◌, length, get_or, take, refl, sym, ◌∙◌, ap, subst, inl, inr, arith, append_assoc, string_bytes}
-use Rattle.std.proofs.lemmas.Bool.{both_ways, cases_eq}
-use Rattle.std.proofs.lemmas.List.{get_or-map, length-map}
-use Rattle.proto_table.specs.declared.table.Row.{Row}
-use Rattle.proto_table.specs.declared.table.Table.{Table}
-use Rattle.proto_meaning.specs.Joined.{joined, IsPlain, ArePlain}
-use Rattle.proto_meaning.specs.Forest.{under, front}
-use Rattle.proto_table.specs.Tables.{names_of, aboves_of, look, IsTable}
-use Rattle.proto_table.specs.Search.{passes, HitsAt, NoneAbove}
-use Rattle.proto_meaning.proofs.Forest.{under_apart, under_pointed, name_some}
+use Rattle.proto_faults.proofs.Common.{both_ways, cases_eq, get_or-map, length-map}
+use Rattle.proto_table.specs.Common.{Row, Table, names_of, aboves_of, look, IsTable, passes, HitsAt, NoneAbove}
+use Rattle.proto_meaning.proofs.Common.{joined, IsPlain, ArePlain, under, front, under_apart, under_pointed, name_some}
 
 pub joined_some : (w : List ℕ) (ws : List (List ℕ)) → IsPlain w → joined (w ∷ ws) ≢ []
 joined_some w [] p e = p.1 e

@@ -1,25 +1,18 @@
 -- Declarations with their last words have the names that their paths spell (for the crates above).
-use Rattle.std.proofs.Common.{◌≡◌, ◌≢◌, ℕ, zero, suc, ◌<◌, ◌≤◌, List, [], ◌∷◌, ◌++◌, length, get_or, map, refl, sym, ◌∙◌, ap, subst, arith, append_assoc, string_bytes, Option, Some}
-use Rattle.std.proofs.lemmas.List.{map-append, append-nil, append_cancel_left, length-map, get_or-map}
+use Rattle.std.proofs.Common.{◌≡◌, ◌≢◌, ℕ, zero, suc, ◌<◌, ◌≤◌, List, [], ◌∷◌, ◌++◌, length, get_or, map, refl, sym, ◌∙◌, ap, subst, arith, append_assoc, string_bytes, Option, Some, append-nil}
+use Rattle.std.proofs.lemmas.List.{map-append, append_cancel_left, length-map, get_or-map}
 use Rattle.proto_meaning.specs.declared.kind.Kind.{Kind}
 use Rattle.proto_meaning.specs.declared.kind.Kind.TheVariants.{Package}
 use Rattle.proto_case.specs.Camel.{entry_name}
-use Rattle.proto_meaning.specs.Faults.{place_from}
-use Rattle.proto_meaning.specs.Grown.{at}
-use Rattle.proto_meaning.specs.Joined.{IsPlain}
+use Rattle.proto_meaning.proofs.Common.{place_from, at, IsPlain, name_of, spell, Placed}
 use Rattle.proto_table.specs.LastWords.{AreListed, IsKept, last_word, named_as}
-use Rattle.proto_listing.specs.Listing.{last_token, needs, path_at, read, read_on, seen, source_of, whole}
-use Rattle.proto_meaning.specs.Skeleton.{name_of, spell}
-use Rattle.proto_table.specs.Spelled.{Named, AreSpelled, name_above, named_by, named_on, named_in}
-use Rattle.proto_meaning.specs.Tree.{Placed}
+use Rattle.proto_listing.proofs.Common.{last_token, needs, path_at, read, read_on, seen, source_of, whole, or_at, place_is, entry_plain}
+use Rattle.proto_table.specs.Common.{Named, AreSpelled, name_above, named_by, named_on, named_in, Spelled}
 use Rattle.proto_listing.specs.declared.listing.Above.{Above}
 use Rattle.proto_listing.specs.declared.listing.Above.TheVariants.{Outermost, Below}
 use Rattle.proto_listing.specs.declared.listing.LastWord.{LastWord}
 use Rattle.proto_listing.specs.declared.listing.LastWord.TheVariants.{Text, EntryName, Key, Value}
 use Rattle.proto_listing.specs.declared.listing.Listed.{Listed}
-use Rattle.proto_listing.proofs.InTokens.{or_at, place_is}
-use Rattle.proto_listing.proofs.PlainEntries.{entry_plain}
-use Rattle.proto_table.specs.declared.spelled.Spelled.{Spelled}
 
 last_plain : (text : ℕ → List ℕ) (w : LastWord) (t : ℕ) → IsPlain (text t) → IsPlain (spell text entry_name (source_of w t))
 last_plain text Text t h = h

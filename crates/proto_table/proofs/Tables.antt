@@ -1,19 +1,8 @@
 -- The table after a row more.
-use Rattle.std.proofs.Common.{◌≡◌, ◌≢◌, ℕ, zero, suc, ◌+◌, ◌-◌, ◌<◌, ◌≤◌, Bool, true, false, ◌||◌, drop, List, [], ◌∷◌, ◌++◌, length, get_or, map, Option, Some, None, refl, sym, ◌∙◌, ap, subst, inl, inr, ◌⊎◌, arith, slice_get, slice_set, string_bytes, length-append, if◌then◌else◌, Bor, MatchOption, Result, Ok, Err, OnErr}
-use Rattle.std.specs.Prelude.{◌==◌}
-use Rattle.std.specs.List.{list_any}
-use Rattle.std.specs.Str.{bytes_eq}
-use Rattle.std.proofs.lemmas.Bool.{cases_Bool, cond-true, cond-false, false_from_ne_true, eqb-true}
-use Rattle.std.proofs.lemmas.List.{get_or-map, length-map}
-use Rattle.std.proofs.lemmas.Option.{same_Some}
-use Rattle.proto_table.specs.declared.table.Row.{Row}
-use Rattle.proto_table.specs.declared.table.Table.{Table}
-use Rattle.proto_meaning.specs.Joined.{IsPlain}
-use Rattle.proto_meaning.specs.Forest.{under, front, IsForest}
-use Rattle.proto_table.specs.Tables.{found, names_of, aboves_of, look, IsTable}
-use Rattle.proto_faults.proofs.Lists.{word_from_same, same_from_word}
-use Rattle.proto_meaning.proofs.Edited.{map_append}
-use Rattle.proto_meaning.proofs.Forest.{forest_more}
+use Rattle.std.proofs.Common.{◌≡◌, ◌≢◌, ℕ, zero, suc, ◌+◌, ◌-◌, ◌<◌, ◌≤◌, Bool, true, false, ◌||◌, drop, List, [], ◌∷◌, ◌++◌, length, get_or, map, Option, Some, None, refl, sym, ◌∙◌, ap, subst, inl, inr, ◌⊎◌, arith, slice_get, slice_set, string_bytes, length-append, if◌then◌else◌, Bor, MatchOption, Result, Ok, Err, OnErr, ◌==◌, bytes_eq, eqb-true}
+use Rattle.proto_faults.proofs.Common.{list_any, cases_Bool, cond-true, cond-false, false_from_ne_true, get_or-map, length-map, same_Some, word_from_same, same_from_word}
+use Rattle.proto_table.specs.Common.{Row, Table, found, names_of, aboves_of, look, IsTable}
+use Rattle.proto_meaning.proofs.Common.{IsPlain, under, front, IsForest, map_append, forest_more}
 
 pub get_set_same : {X : Type 0} (xs : List X) (i : ℕ) (y : X) → i < length xs → slice_get (slice_set xs i y) i ≡ Some y
 get_set_same [] i y l = absurd (omega (arith, l))

@@ -1,16 +1,11 @@
 -- The faults of references by the file and the use that they stand in (for the crates above).
-use Rattle.std.proofs.Common.{◌≡◌, ◌↔◌, ℕ, zero, suc, ◌+◌, ◌<◌, List, [], ◌∷◌, length, get_or, map, refl, sym, ap, subst, inl, inr, arith}
-use Rattle.std.specs.List.{Contains}
-use Rattle.std.proofs.lemmas.List.Elements.{Contains-append_left, Contains-append_right, Contains-append_cases}
-use Rattle.proto_meaning.specs.Names.{Import, Workspace}
+use Rattle.std.proofs.Common.{◌≡◌, ◌↔◌, ℕ, zero, suc, ◌+◌, ◌<◌, List, [], ◌∷◌, length, get_or, map, refl, sym, ap, subst, inl, inr, arith, Contains}
+use Rattle.proto_faults.proofs.Common.{Contains-append_left, Contains-append_right, Contains-append_cases, contains_map, from_map}
+use Rattle.proto_meaning.proofs.Common.{Import, Workspace, Skeleton, Used, reference_of, workspace_of, FileNames, At, used_in, file_used, all_used, skeleton_of_files, Fault, fault, ReferenceFault}
 use Rattle.proto_case.specs.Camel.{entry_name}
-use Rattle.proto_meaning.specs.Skeleton.{Skeleton, Used, reference_of, workspace_of}
-use Rattle.proto_meaning.specs.Grown.{FileNames, At, used_in, file_used, all_used, skeleton_of_files}
 use Rattle.proto_meaning.specs.Faults as all
-use Rattle.proto_meaning.specs.Faults.{Fault, fault, ReferenceFault}
 use Rattle.proto_table.specs.Naming as one
 use Rattle.proto_table.specs.Naming.{ReferenceFlaw, UseFault}
-use Rattle.proto_faults.proofs.Lists.{contains_map, from_map}
 
 -- where a use stands, file n the first
 record StandsIn (n : ℕ) (fs : List FileNames) (u : Used At) : Type 0 where

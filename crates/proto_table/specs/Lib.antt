@@ -1,3 +1,4 @@
+pub mod Common
 pub mod Filling
 pub mod LastWords
 pub mod Naming

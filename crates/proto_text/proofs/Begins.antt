@@ -1,24 +1,8 @@
 -- The first piece that is scanned is one that the text begins with, and no other is (for the crates above).
-use Rattle.std.proofs.Common.{◌≡◌, ℕ, ◌+◌, ◌-◌, suc, ◌<◌, ◌≤◌, Bool, true, false, cond, eqb, ◌||◌, List, [], ◌∷◌, ◌++◌, length, take, drop, Option, Some, None, Ok, Err, refl, sym, ap, subst, ◌∙◌, arith, ◌⊎◌, inl, inr, append_assoc}
-use Rattle.std.specs.Prelude.{IfOk, IsTrue, ◌↔◌}
-use Rattle.std.specs.List.{prefix_len}
-use Rattle.std.proofs.lemmas.Bool.{eqb-true}
-use Rattle.std.proofs.lemmas.List.{take-append-drop, take_at, length-append}
-use Rattle.std.proofs.lemmas.List.Folds.{length-prefix_len}
-use Rattle.proto_text.specs.declared.class.Class.{Class}
-use Rattle.proto_text.specs.declared.class.Class.TheVariants.{Space, Letter, Digit, Quote, Mark, Slash, Other}
-use Rattle.proto_text.specs.declared.kind.TokenKind.TheVariants.{Word, Number, Text, Punctuation}
-use Rattle.proto_text.specs.declared.kind.PieceKind.{PieceKind}
-use Rattle.proto_text.specs.declared.kind.PieceKind.TheVariants.{Blank, LineComment, BlockComment, Solid}
-use Rattle.proto_text.specs.declared.fault.LexFault.{LexFault}
-use Rattle.proto_text.specs.declared.fault.LexFault.TheVariants.{BadChar, OpenComment, OpenString, BadEscape, BadNumber}
-use Rattle.proto_text.specs.Classes.{class_of, is_identifier}
-use Rattle.proto_text.specs.Pieces.{IsOne, IsRun, is_number, is_in_line, opens_comment, HasNoClose, IsLexeme, EndsBefore, IsFault}
-use Rattle.proto_text.specs.Strings.{IsQuoted, IsAllowed, is_body, end_len}
-use Rattle.proto_text.specs.First.{BeginsWith}
+use Rattle.std.proofs.Common.{◌≡◌, ℕ, ◌+◌, ◌-◌, suc, ◌<◌, ◌≤◌, Bool, true, false, cond, eqb, ◌||◌, List, [], ◌∷◌, ◌++◌, length, take, drop, Option, Some, None, Ok, Err, refl, sym, ap, subst, ◌∙◌, arith, ◌⊎◌, inl, inr, append_assoc, IfOk, IsTrue, ◌↔◌, eqb-true, take-append-drop, take_at, length-append}
+use Rattle.proto_faults.proofs.Common.{prefix_len, length-prefix_len}
+use Rattle.proto_text.specs.Common.{Class, Space, Letter, Digit, Quote, Mark, Slash, Other, Word, Number, Text, Punctuation, PieceKind, Blank, LineComment, BlockComment, Solid, LexFault, BadChar, OpenComment, OpenString, BadEscape, BadNumber, class_of, is_identifier, IsOne, IsRun, is_number, is_in_line, opens_comment, HasNoClose, IsLexeme, EndsBefore, IsFault, IsQuoted, IsAllowed, is_body, end_len, BeginsWith, Each, Stops, Found, block_found, close_len, comment_at, number_at, string_at, string_found, piece_of, piece_at}
 use Rattle.proto_text.proofs.Ends.{quote_ends, end_found, end_sound, end_misses, end_none}
-use Rattle.proto_text.specs.Bytes.{Each, Stops}
-use Rattle.proto_text.specs.Scan.{Found, block_found, close_len, comment_at, number_at, string_at, string_found, piece_of, piece_at}
 use Rattle.proto_text.proofs.Runs.{run_len, run_passes, run_stops, close_found, close_sound, close_none, close_misses}
 
 -- the bytes are a piece of the kind, but for what a string stands for

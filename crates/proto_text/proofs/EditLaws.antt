@@ -1,10 +1,8 @@
 -- Edits, one after the other (for the crates above).
-use Rattle.std.proofs.Common.{◌≡◌, ℕ, ◌+◌, ◌-◌, ◌<◌, ◌≤◌, List, [], ◌∷◌, ◌++◌, length, get_or, take, drop, refl, sym, ap, subst, ◌∙◌, arith, append_assoc}
-use Rattle.std.proofs.lemmas.List.{drop_all, drop_more, take_at, drop_at}
-use Rattle.std.specs.String.{string_bytes}
+use Rattle.std.proofs.Common.{◌≡◌, ℕ, ◌+◌, ◌-◌, ◌<◌, ◌≤◌, List, [], ◌∷◌, ◌++◌, length, get_or, take, drop, refl, sym, ap, subst, ◌∙◌, arith, append_assoc, take_at, drop_at, string_bytes}
+use Rattle.std.proofs.lemmas.List.{drop_all, drop_more}
 use Rattle.proto_text.specs.declared.splice.Splice.{Splice}
-use Rattle.proto_text.specs.Splicing.{edit_of, edits}
-use Rattle.proto_text.specs.Edits.{Edit, IsCut, Puts, AreShort, inverse_from, InverseLeadsBack}
+use Rattle.proto_text.specs.Common.{edit_of, edits, Edit, IsCut, Puts, AreShort, inverse_from, InverseLeadsBack}
 
 leads_back : (to from : ℕ) (text new : List ℕ) (es : List Edit) → Puts from text es new → Puts to new (inverse_from to from es) text
 leads_back to from text new [] p = sym p

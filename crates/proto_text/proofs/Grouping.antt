@@ -1,13 +1,6 @@
 -- Groups are pieces, and pieces are groups.
-use Rattle.std.proofs.Common.{◌≡◌, ℕ, Bool, true, false, List, [], ◌∷◌, ◌++◌, refl, sym, ap, subst, ◌∙◌, append_assoc}
-use Rattle.std.proofs.lemmas.List.{append-nil}
-use Rattle.proto_text.specs.declared.kind.PieceKind.{PieceKind}
-use Rattle.proto_text.specs.declared.kind.PieceKind.TheVariants.{Blank, LineComment, BlockComment, Solid}
-use Rattle.proto_text.specs.declared.kind.TokenKind.{TokenKind}
-use Rattle.proto_text.specs.declared.kind.TokenKind.TheVariants.{Word, Number, Text, Punctuation}
-use Rattle.proto_text.specs.Bytes.{Stops}
-use Rattle.proto_text.specs.Classes.{class_of, extends_word, is_identifier}
-use Rattle.proto_text.specs.Pieces.{Piece, IsLexeme, EndsBefore, ArePieces, text_of}
+use Rattle.std.proofs.Common.{◌≡◌, ℕ, Bool, true, false, List, [], ◌∷◌, ◌++◌, refl, sym, ap, subst, ◌∙◌, append_assoc, append-nil}
+use Rattle.proto_text.specs.Common.{PieceKind, Blank, LineComment, BlockComment, Solid, TokenKind, Word, Number, Text, Punctuation, Stops, class_of, extends_word, is_identifier, Piece, IsLexeme, EndsBefore, ArePieces, text_of}
 use Rattle.proto_text.specs.Grouping.{IsTrivium, AreTrivia, Group, groups_text, TakesIdentifiers, BeginsIdentifier, IsApart, AreGroups, pieces_of, GroupsArePieces, PiecesAreGroups, OneGrouping}
 use Rattle.proto_text.proofs.Segments.{text_append, pieces_join}
 use Rattle.proto_text.proofs.Sequence.{same_front, end_is_stuck}

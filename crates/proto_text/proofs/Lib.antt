@@ -1,5 +1,6 @@
 pub mod Begins
 mod CloseLoop
+pub mod Common
 pub mod EditLaws
 mod EndLoop
 mod Ends

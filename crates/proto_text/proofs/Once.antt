@@ -1,8 +1,6 @@
 -- A text has one list of tokens, and edits put one text (for the crates above).
-use Rattle.std.proofs.Common.{◌≡◌, ℕ, ◌+◌, List, [], ◌∷◌, ◌++◌, length, refl, sym, ap, subst, ◌∙◌, arith}
-use Rattle.std.proofs.lemmas.List.{length-append}
-use Rattle.proto_text.specs.Edits.{Edit, Puts, old_len, new_len}
-use Rattle.proto_text.specs.Tokens.{OneTokenList, NoFaultWithTokens}
+use Rattle.std.proofs.Common.{◌≡◌, ℕ, ◌+◌, List, [], ◌∷◌, ◌++◌, length, refl, sym, ap, subst, ◌∙◌, arith, length-append}
+use Rattle.proto_text.specs.Common.{Edit, Puts, old_len, new_len, OneTokenList, NoFaultWithTokens}
 use Rattle.proto_text.proofs.EditLaws.{cut}
 use Rattle.proto_text.proofs.Sequence.{only_tokens, no_fault}
 

@@ -1,10 +1,6 @@
 -- The words after a change, and the edit of one word (for the crates above).
 use Rattle.std.proofs.Common.{◌≡◌, ◌≢◌, ℕ, zero, suc, ◌+◌, ◌<◌, ◌≤◌, List, [], ◌∷◌, ◌++◌, length, get_or, map, Option, Some, None, refl, sym, ap, ◌∙◌, arith}
-use Rattle.proto_text.specs.declared.lexer.Token.{Token}
-use Rattle.proto_text.specs.Edits.{Edit}
-use Rattle.proto_text.specs.SourceFacts.{text_at}
-use Rattle.proto_text.specs.Tokens.{Lexeme, lexeme_at}
-use Rattle.proto_text.specs.Texts.{word_at, offset_at, or_word, changed, edit_if, token_edits, WordsAreChanged, OtherWordsStay, CountStays, OneWordIsOneEdit, WordsStandAtSpans}
+use Rattle.proto_text.specs.Common.{Token, Edit, text_at, Lexeme, lexeme_at, word_at, offset_at, or_word, changed, edit_if, token_edits, WordsAreChanged, OtherWordsStay, CountStays, OneWordIsOneEdit, WordsStandAtSpans}
 
 -- ---- the words after
 

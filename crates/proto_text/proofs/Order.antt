@@ -1,20 +1,7 @@
 -- Tokens stand in order, and are in the lexical sets; where a token stays, it has its word at its moved index (for the crates above).
-use Rattle.std.proofs.Common.{◌≡◌, ℕ, zero, suc, ◌+◌, ◌-◌, ◌<◌, ◌≤◌, ◌⊎◌, inl, inr, ltb, List, [], ◌∷◌, ◌++◌, length, get_or, take, drop, map, All, refl, sym, ap, subst, ◌∙◌, arith}
-use Rattle.std.specs.List.{AllByRecursion}
-use Rattle.std.proofs.lemmas.Bool.{cond-true, cond-false, lt-ltb, le-ltb}
-use Rattle.std.proofs.lemmas.List.{append-nil, length-append, length-take}
-use Rattle.std.proofs.lemmas.List.Elements.{All-from_recursion}
-use Rattle.proto_text.specs.declared.kind.PieceKind.{PieceKind}
-use Rattle.proto_text.specs.declared.kind.PieceKind.TheVariants.{Blank, LineComment, BlockComment, Solid}
-use Rattle.proto_text.specs.declared.kind.TokenKind.{TokenKind}
-use Rattle.proto_text.specs.declared.kind.TokenKind.TheVariants.{Text}
-use Rattle.proto_text.specs.declared.lexer.Token.{Token}
-use Rattle.proto_text.specs.Pieces.{Piece, IsLexeme, ArePieces, text_of}
-use Rattle.proto_text.specs.Segments.{end_before, TokensAreInOrder, TokensAreMoved, TokensAreLexemes, moved}
-use Rattle.proto_text.specs.SourceFacts.{text_at}
-use Rattle.proto_text.specs.Strings.{IsString}
-use Rattle.proto_text.specs.Texts.{word_at, offset_at}
-use Rattle.proto_text.specs.Tokens.{Lexeme, lexeme_at, lexeme_if, lexemes, token_at, tokens_from, AreTokens}
+use Rattle.std.proofs.Common.{◌≡◌, ℕ, zero, suc, ◌+◌, ◌-◌, ◌<◌, ◌≤◌, ◌⊎◌, inl, inr, ltb, List, [], ◌∷◌, ◌++◌, length, get_or, take, drop, map, All, refl, sym, ap, subst, ◌∙◌, arith, lt-ltb, le-ltb, append-nil, length-append, length-take}
+use Rattle.proto_faults.proofs.Common.{AllByRecursion, cond-true, cond-false, All-from_recursion}
+use Rattle.proto_text.specs.Common.{PieceKind, Blank, LineComment, BlockComment, Solid, TokenKind, Text, Token, Piece, IsLexeme, ArePieces, text_of, end_before, TokensAreInOrder, TokensAreMoved, TokensAreLexemes, moved, text_at, IsString, word_at, offset_at, Lexeme, lexeme_at, lexeme_if, lexemes, token_at, tokens_from, AreTokens}
 use Rattle.proto_text.proofs.Reading.{tokens_read_pieces}
 use Rattle.proto_text.proofs.WordChange.{not_empty}
 

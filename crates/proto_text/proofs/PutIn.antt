@@ -1,25 +1,8 @@
 -- What segments are made of.
-use Rattle.std.proofs.Common.{◌≡◌, ℕ, zero, suc, ◌<◌, ◌≤◌, Bool, true, false, not, eqb, ◌||◌, List, [], ◌∷◌, ◌++◌, length, get_or, refl, sym, ap, subst, ◌∙◌, inl, arith}
-use Rattle.std.specs.Fmt.{decimal}
-use Rattle.std.specs.Int.{IsInRange}
-use Rattle.std.specs.List.{list_all}
+use Rattle.std.proofs.Common.{◌≡◌, ℕ, zero, suc, ◌<◌, ◌≤◌, Bool, true, false, not, eqb, ◌||◌, List, [], ◌∷◌, ◌++◌, length, get_or, refl, sym, ap, subst, ◌∙◌, inl, arith, decimal, append-nil}
+use Rattle.proto_faults.proofs.Common.{IsInRange, list_all, nat_tests, decimal_digit, decimal_nonempty, digits_decimal, first_decimal, IsNumeralModel, numerals_by_value, tells_by_index}
 use Rattle.std.specs.Str.Parse.{digits_value}
-use Rattle.std.proofs.lemmas.Bool.Decides.{nat_tests}
-use Rattle.std.proofs.lemmas.Fmt.{decimal_digit, decimal_nonempty, digits_decimal, first_decimal}
-use Rattle.std.proofs.lemmas.Str.Parse.{IsNumeralModel, numerals_by_value, tells_by_index}
-use Rattle.std.proofs.lemmas.List.{append-nil}
-use Rattle.proto_text.specs.declared.class.Class.TheVariants.{Space, Digit, Quote}
-use Rattle.proto_text.specs.declared.ending.Step.{Step}
-use Rattle.proto_text.specs.declared.ending.Step.TheVariants.{GoesOn}
-use Rattle.proto_text.specs.declared.kind.PieceKind.TheVariants.{Blank, Solid}
-use Rattle.proto_text.specs.declared.kind.TokenKind.{TokenKind}
-use Rattle.proto_text.specs.declared.kind.TokenKind.TheVariants.{Word, Number, Text, Punctuation}
-use Rattle.proto_text.specs.Bytes.{Each}
-use Rattle.proto_text.specs.Classes.{class_of, extends_word, is_space, is_letter, is_digit, is_identifier}
-use Rattle.proto_text.specs.Pieces.{IsLexeme, EndsBefore}
-use Rattle.proto_text.specs.Segments.{EndsByItself, is_plain, QuotedStandsForItself, TokenIsSegment, SpaceIsSegment, TokenBeforeSegment, DecimalIsNumber}
-use Rattle.proto_text.specs.Strings.{Means, step_of, body_after, is_body}
-use Rattle.proto_text.specs.Tokens.{Lexeme}
+use Rattle.proto_text.specs.Common.{Space, Digit, Quote, Step, GoesOn, Blank, Solid, TokenKind, Word, Number, Text, Punctuation, Each, class_of, extends_word, is_space, is_letter, is_digit, is_identifier, IsLexeme, EndsBefore, EndsByItself, is_plain, QuotedStandsForItself, TokenIsSegment, SpaceIsSegment, TokenBeforeSegment, DecimalIsNumber, Means, step_of, body_after, is_body, Lexeme}
 
 space_class : (b : ℕ) → is_space b ≡ true → class_of b ≡ Space
 unfolding class_of

@@ -1,21 +1,7 @@
 -- A text is cut between its tokens, and segments are put in.
-use Rattle.std.proofs.Common.{◌≡◌, ℕ, zero, suc, ◌+◌, ◌-◌, ◌<◌, ◌≤◌, ◌⊎◌, inl, inr, Bool, true, false, not, eqb, List, [], ◌∷◌, ◌++◌, length, take, drop, map, refl, sym, ap, subst, ◌∙◌, arith, append_assoc}
-use Rattle.std.specs.Str.{IsUtf8, IsCharBoundary}
-use Rattle.std.proofs.lemmas.List.{append-nil, length-append, take_at, drop_at}
+use Rattle.std.proofs.Common.{◌≡◌, ℕ, zero, suc, ◌+◌, ◌-◌, ◌<◌, ◌≤◌, ◌⊎◌, inl, inr, Bool, true, false, not, eqb, List, [], ◌∷◌, ◌++◌, length, take, drop, map, refl, sym, ap, subst, ◌∙◌, arith, append_assoc, IsUtf8, IsCharBoundary, append-nil, length-append, take_at, drop_at}
 use Rattle.std.proofs.lemmas.Str.{IsUtf8-append, IsUtf8-take, IsUtf8-drop}
-use Rattle.proto_text.specs.declared.class.Class.{Class}
-use Rattle.proto_text.specs.declared.class.Class.TheVariants.{Space, Letter, Digit, Quote, Mark}
-use Rattle.proto_text.specs.declared.kind.PieceKind.{PieceKind}
-use Rattle.proto_text.specs.declared.kind.PieceKind.TheVariants.{Blank, LineComment, BlockComment, Solid}
-use Rattle.proto_text.specs.declared.kind.TokenKind.{TokenKind}
-use Rattle.proto_text.specs.declared.kind.TokenKind.TheVariants.{Word, Number, Text, Punctuation}
-use Rattle.proto_text.specs.declared.lexer.Token.{Token}
-use Rattle.proto_text.specs.Bytes.{Stops}
-use Rattle.proto_text.specs.Classes.{class_of}
-use Rattle.proto_text.specs.Pieces.{Piece, is_in_line, IsLexeme, EndsBefore, ArePieces, IsPieces, text_of}
-use Rattle.proto_text.specs.Texts.{offset_at}
-use Rattle.proto_text.specs.Tokens.{Lexeme, lexeme_at, lexeme_if, lexemes, token_at, tokens_from, AreTokens}
-use Rattle.proto_text.specs.Segments.{EndsByItself, IsSeam, end_before, IsPlace, SegmentsJoin, bytes_between, BetweenPlaces, RunsAreReplaced}
+use Rattle.proto_text.specs.Common.{Class, Space, Letter, Digit, Quote, Mark, PieceKind, Blank, LineComment, BlockComment, Solid, TokenKind, Word, Number, Text, Punctuation, Token, Stops, class_of, Piece, is_in_line, IsLexeme, EndsBefore, ArePieces, IsPieces, text_of, offset_at, Lexeme, lexeme_at, lexeme_if, lexemes, token_at, tokens_from, AreTokens, EndsByItself, IsSeam, end_before, IsPlace, SegmentsJoin, bytes_between, BetweenPlaces, RunsAreReplaced}
 use Rattle.proto_text.proofs.OneEdit.{length_map}
 use Rattle.proto_text.proofs.Reading.{tokens_read_pieces}
 use Rattle.proto_text.proofs.Spans.{boundary}

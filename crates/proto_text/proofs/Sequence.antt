@@ -1,26 +1,11 @@
 -- Pieces one after the other: a front goes on by a piece, and there is one list of pieces (for the crates above).
-use Rattle.std.proofs.Common.{◌≡◌, ℕ, ◌+◌, ◌≤◌, List, [], ◌∷◌, ◌++◌, length, take, drop, zero-add, ◌⊎◌, inl, inr, Result, Ok, Err, refl, sym, ap, subst, ◌∙◌, arith, append_assoc}
-use Rattle.std.proofs.lemmas.List.{take_at, append_cancel_left, append-nil, length-append, drop_at, nil_from_length, same_from_push}
-use Rattle.proto_text.specs.declared.kind.PieceKind.{PieceKind}
-use Rattle.proto_text.specs.declared.fault.LexFault.{LexFault}
-use Rattle.proto_text.specs.declared.fault.LexFault.TheVariants.{BadChar, OpenComment, OpenString, BadEscape, BadNumber}
-use Rattle.proto_text.specs.declared.class.Class.TheVariants.{Digit}
-use Rattle.std.specs.Prelude.{MatchResult, IsErrAnd}
-use Rattle.std.specs.Global.{Vec}
-use Rattle.proto_faults.specs.Texts.{text_limit}
-use Rattle.proto_text.specs.declared.fault.TextFault.{TextFault}
+use Rattle.std.proofs.Common.{◌≡◌, ℕ, ◌+◌, ◌≤◌, List, [], ◌∷◌, ◌++◌, length, take, drop, zero-add, ◌⊎◌, inl, inr, Result, Ok, Err, refl, sym, ap, subst, ◌∙◌, arith, append_assoc, take_at, append-nil, length-append, drop_at, MatchResult, IsErrAnd}
+use Rattle.proto_faults.proofs.Common.{append_cancel_left, nil_from_length, same_from_push, Vec, text_limit}
+use Rattle.proto_text.specs.Common.{PieceKind, LexFault, BadChar, OpenComment, OpenString, BadEscape, BadNumber, Digit, TextFault, Token, Piece, IsLexeme, EndsBefore, text_of, ArePieces, IsFront, IsPieces, IsFault, IsRun, Found, piece_at, token_at, tokens_from, AreTokens, IsFaultAt, IsLexed, IsLexError, fault_of, BeginsWith, IsFirstPiece, IsQuoted, IsAllowed, Solid, Text}
 use Rattle.proto_text.specs.declared.fault.TextFault.TheVariants.{TooLarge, NotUtf8, At, NoMemory}
-use Rattle.proto_text.specs.declared.lexer.Token.{Token}
-use Rattle.proto_text.specs.Pieces.{Piece, IsLexeme, EndsBefore, text_of, ArePieces, IsFront, IsPieces, IsFault, IsRun}
-use Rattle.proto_text.specs.Scan.{Found, piece_at}
-use Rattle.proto_text.specs.Tokens.{token_at, tokens_from, AreTokens, IsFaultAt, IsLexed, IsLexError, fault_of}
 use Rattle.proto_text.proofs.Begins.{raw_is, piece_again, found_at, fault_again}
-use Rattle.proto_text.specs.First.{BeginsWith, IsFirstPiece}
 use Rattle.proto_faults.specs.declared.or_no_memory.OrNoMemory.{OrNoMemory}
 use Rattle.proto_faults.specs.declared.or_no_memory.OrNoMemory.TheVariants as or
-use Rattle.proto_text.specs.Strings.{IsQuoted, IsAllowed}
-use Rattle.proto_text.specs.declared.kind.PieceKind.TheVariants.{Solid}
-use Rattle.proto_text.specs.declared.kind.TokenKind.TheVariants.{Text}
 
 text_push : (ps : List Piece) (p : Piece) (rest : List ℕ) → text_of (ps ++ p ∷ []) ++ rest ≡ text_of ps ++ (p.bytes ++ rest)
 text_push [] p rest = ap (λ (t : List ℕ). t ++ rest) (append-nil p.bytes)

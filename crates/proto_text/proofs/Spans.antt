@@ -1,25 +1,7 @@
 -- Tokens begin and end between characters (for the crates above).
-use Rattle.std.proofs.Common.{◌≡◌, ℕ, ◌+◌, ◌<◌, ◌≤◌, false, ◌||◌, eqb, List, [], ◌∷◌, ◌++◌, length, get_or, All, refl, sym, ap, subst, ◌∙◌, arith, inl, inr, append_assoc}
-use Rattle.std.specs.Prelude.{Result, Ok, Err, IfOk}
-use Rattle.std.specs.Global.{Vec}
-use Rattle.proto_text.specs.declared.fault.TextFault.{TextFault}
-use Rattle.std.specs.List.{AllByRecursion}
-use Rattle.std.specs.Str.{IsCharBoundary}
-use Rattle.std.proofs.lemmas.Bool.{cases_lt}
-use Rattle.std.proofs.lemmas.Bool.Decides.{nat_tests}
-use Rattle.std.proofs.lemmas.List.{append-nil, length-append, get_or_at}
-use Rattle.std.proofs.lemmas.List.Elements.{All-from_recursion}
-use Rattle.std.proofs.lemmas.Str.{IsCharBoundary-end, IsCharBoundary-before_ascii}
-use Rattle.proto_text.specs.declared.class.Class.{Class}
-use Rattle.proto_text.specs.declared.class.Class.TheVariants.{Space, Letter, Digit, Quote, Mark, Other}
-use Rattle.proto_text.specs.declared.kind.TokenKind.TheVariants.{Word, Number, Text, Punctuation}
-use Rattle.proto_text.specs.declared.kind.PieceKind.{PieceKind}
-use Rattle.proto_text.specs.declared.kind.PieceKind.TheVariants.{Blank, LineComment, BlockComment, Solid}
-use Rattle.proto_text.specs.declared.lexer.Token.{Token}
-use Rattle.proto_text.specs.Classes.{class_of, is_space, is_letter, is_digit, is_mark}
-use Rattle.proto_text.specs.Pieces.{Piece, IsLexeme, text_of, ArePieces}
-use Rattle.proto_text.specs.Tokens.{token_at, tokens_from, AreTokens, IsLexed}
-use Rattle.proto_text.specs.SourceFacts.{IsSpan}
+use Rattle.std.proofs.Common.{◌≡◌, ℕ, ◌+◌, ◌<◌, ◌≤◌, false, ◌||◌, eqb, List, [], ◌∷◌, ◌++◌, length, get_or, All, refl, sym, ap, subst, ◌∙◌, arith, inl, inr, append_assoc, Result, Ok, Err, IfOk, IsCharBoundary, append-nil, length-append}
+use Rattle.proto_faults.proofs.Common.{Vec, AllByRecursion, cases_lt, nat_tests, get_or_at, All-from_recursion, IsCharBoundary-end, IsCharBoundary-before_ascii}
+use Rattle.proto_text.specs.Common.{TextFault, Class, Space, Letter, Digit, Quote, Mark, Other, Word, Number, Text, Punctuation, PieceKind, Blank, LineComment, BlockComment, Solid, Token, class_of, is_space, is_letter, is_digit, is_mark, Piece, IsLexeme, text_of, ArePieces, token_at, tokens_from, AreTokens, IsLexed, IsSpan}
 use Rattle.proto_text.proofs.WordChange.{not_empty}
 
 no_space : (b : ℕ) → 128 ≤ b → is_space b ≡ false

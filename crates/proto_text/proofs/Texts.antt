@@ -1,29 +1,11 @@
 -- Words in the place of words (for the crates above).
-use Rattle.std.proofs.Common.{◌≡◌, ℕ, zero, suc, ◌+◌, ◌<◌, true, arith, List, [], ◌∷◌, ◌++◌, ◌⊎◌, inl, inr, length, map, Option, Some, None, refl, sym, ap, subst, ◌∙◌}
-use Rattle.std.proofs.lemmas.List.{append-nil, take_at, drop_at}
-use Rattle.std.specs.Str.{IsUtf8}
-use Rattle.std.specs.List.{slice_index}
+use Rattle.std.proofs.Common.{◌≡◌, ℕ, zero, suc, ◌+◌, ◌<◌, true, arith, List, [], ◌∷◌, ◌++◌, ◌⊎◌, inl, inr, length, map, Option, Some, None, refl, sym, ap, subst, ◌∙◌, append-nil, take_at, drop_at, IsUtf8, slice_index}
 use Rattle.std.proofs.lemmas.Str.{IsUtf8-append, IsUtf8-nil, IsUtf8-take, IsUtf8-drop, IsUtf8-from_ascii}
-use Rattle.proto_text.specs.declared.class.Class.{Class}
-use Rattle.proto_text.specs.declared.class.Class.TheVariants.{Space, Digit, Quote, Mark, Slash, Other}
-use Rattle.proto_text.specs.Classes.{class_of, extends_word, is_identifier}
-use Rattle.proto_text.specs.Bytes.{Each}
+use Rattle.proto_text.specs.Common.{Class, Space, Digit, Quote, Mark, Slash, Other, class_of, extends_word, is_identifier, Each, Letter, PieceKind, Blank, LineComment, BlockComment, Solid, TokenKind, Word, Token, Edit, Puts, Piece, IsRun, IsLexeme, ArePieces, IsPieces, text_of, text_at, Lexeme, lexeme_at, lexeme_if, lexemes, token_at, tokens_from, IsWord, SameButWords, after, edits_from, or_word, changed, edit_if, token_edits, AreWords, IsReworded, WordsArePut}
 use Rattle.proto_text.proofs.Spans.{boundary, classed_is_low}
-use Rattle.proto_text.specs.declared.class.Class.TheVariants.{Letter}
-use Rattle.proto_text.specs.declared.kind.PieceKind.{PieceKind}
-use Rattle.proto_text.specs.declared.kind.PieceKind.TheVariants.{Blank, LineComment, BlockComment, Solid}
-use Rattle.proto_text.specs.declared.kind.TokenKind.{TokenKind}
-use Rattle.proto_text.specs.declared.kind.TokenKind.TheVariants.{Word}
-use Rattle.proto_text.specs.declared.lexer.Token.{Token}
-use Rattle.proto_text.specs.Edits.{Edit, Puts}
-use Rattle.proto_text.specs.Pieces.{Piece, IsRun, IsLexeme, ArePieces, IsPieces, text_of}
-use Rattle.proto_text.specs.SourceFacts.{text_at}
-use Rattle.proto_text.specs.Tokens.{Lexeme, lexeme_at, lexeme_if, lexemes, token_at, tokens_from}
-use Rattle.proto_text.specs.Renames.{IsWord, SameButWords, after, edits_from}
 use Rattle.proto_text.proofs.WordChange.{words_may_change}
 use Rattle.proto_text.proofs.PieceEdits.{edits_change_pieces}
 use Rattle.proto_text.proofs.Reading.{tokens_read_pieces}
-use Rattle.proto_text.specs.Texts.{or_word, changed, edit_if, token_edits, AreWords, IsReworded, WordsArePut}
 
 abbrev Change : Type 0
 Change = ℕ → Option (List ℕ)

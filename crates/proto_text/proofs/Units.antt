@@ -1,15 +1,9 @@
 -- What the text between the quotes stands for, byte by byte.
-use Rattle.std.proofs.Common.{◌≡◌, ℕ, ◌+◌, suc, zero, min, ◌<◌, ◌≤◌, Bool, true, false, cond, eqb, ltb, ◌&&◌, ◌||◌, List, [], ◌∷◌, ◌++◌, length, take, drop, Option, Some, None, refl, sym, ap, subst, ◌∙◌, arith, ◌⊎◌, inl, inr, append_assoc}
-use Rattle.std.specs.Prelude.{IfSome, IsTrue, ◌↔◌}
-use Rattle.std.specs.Str.{IsUtf8}
-use Rattle.std.specs.List.{list_any, prefix_len}
-use Rattle.std.proofs.lemmas.Bool.{eqb-true, ltb-true, lt-ltb, cases_lt}
-use Rattle.std.proofs.lemmas.List.{take-append-drop, take_at, drop_at, append-nil, nil_from_length, length-append, length-take, append_cancel_left}
-use Rattle.std.proofs.lemmas.List.Sums.{prefix_len-le-length}
+use Rattle.std.proofs.Common.{◌≡◌, ℕ, ◌+◌, suc, zero, min, ◌<◌, ◌≤◌, Bool, true, false, cond, eqb, ltb, ◌&&◌, ◌||◌, List, [], ◌∷◌, ◌++◌, length, take, drop, Option, Some, None, refl, sym, ap, subst, ◌∙◌, arith, ◌⊎◌, inl, inr, append_assoc, IfSome, IsTrue, ◌↔◌, IsUtf8, eqb-true, ltb-true, lt-ltb, take-append-drop, take_at, drop_at, append-nil, length-append, length-take}
+use Rattle.proto_faults.proofs.Common.{list_any, prefix_len, cases_lt, nil_from_length, append_cancel_left, prefix_len-le-length}
 use Rattle.proto_text.specs.declared.escape.Escape.{Escape}
 use Rattle.proto_text.specs.declared.escape.Escape.TheVariants.{Octal, Hexadecimal, Single, Unknown}
-use Rattle.proto_text.specs.Bytes.{Each, is_backslash, is_octal, is_hex}
-use Rattle.proto_text.specs.Strings.{escape_of, number_in, IsPlain, IsSingle, IsDigits, IsUnit, Means, IsAllowed, octal_at, hex_at, escape_after, escape_at, unit_at}
+use Rattle.proto_text.specs.Common.{Each, is_backslash, is_octal, is_hex, escape_of, number_in, IsPlain, IsSingle, IsDigits, IsUnit, Means, IsAllowed, octal_at, hex_at, escape_after, escape_at, unit_at}
 use Rattle.proto_text.proofs.Runs.{run_len, run_passes, run_stops}
 
 -- ---- digits, as many as there are

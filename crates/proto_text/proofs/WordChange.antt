@@ -1,14 +1,6 @@
 -- A word in a word's place leaves the other pieces as they are (for the crates above).
-use Rattle.std.proofs.Common.{◌≡◌, ℕ, Bool, true, false, not, eqb, List, [], ◌∷◌, ◌++◌, ◌⊎◌, inl, inr, refl, sym, ap, subst, ◌∙◌}
-use Rattle.std.proofs.lemmas.List.{append-nil, append_assoc}
-use Rattle.std.proofs.lemmas.Bool.{eqb-true}
-use Rattle.proto_text.specs.declared.class.Class.TheVariants.{Space, Letter}
-use Rattle.proto_text.specs.declared.kind.PieceKind.{PieceKind}
-use Rattle.proto_text.specs.declared.kind.PieceKind.TheVariants.{Blank, LineComment, BlockComment, Solid}
-use Rattle.proto_text.specs.declared.kind.TokenKind.TheVariants.{Word, Number, Text, Punctuation}
-use Rattle.proto_text.specs.Classes.{class_of, is_identifier, extends_word}
-use Rattle.proto_text.specs.Pieces.{Piece, IsRun, is_in_line, IsLexeme, EndsBefore, text_of, ArePieces}
-use Rattle.proto_text.specs.Renames.{IsWord, SameButWords, WordsMayChange}
+use Rattle.std.proofs.Common.{◌≡◌, ℕ, Bool, true, false, not, eqb, List, [], ◌∷◌, ◌++◌, ◌⊎◌, inl, inr, refl, sym, ap, subst, ◌∙◌, append-nil, append_assoc, eqb-true}
+use Rattle.proto_text.specs.Common.{Space, Letter, PieceKind, Blank, LineComment, BlockComment, Solid, Word, Number, Text, Punctuation, class_of, is_identifier, extends_word, Piece, IsRun, is_in_line, IsLexeme, EndsBefore, text_of, ArePieces, IsWord, SameButWords, WordsMayChange}
 
 -- what may stand behind a piece is told by the first byte
 ends_at : (kind : PieceKind) (b : ℕ) (x y : List ℕ) → EndsBefore kind (b ∷ x) → EndsBefore kind (b ∷ y)

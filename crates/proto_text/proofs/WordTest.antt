@@ -1,12 +1,7 @@
 -- The test of a word is the relation (for the crates above).
-use Rattle.std.proofs.Common.{◌≡◌, ℕ, Bool, true, false, ◌&&◌, List, [], ◌∷◌, refl, sym, ap, ◌∙◌}
-use Rattle.std.specs.Prelude.{IsTrue, ◌↔◌}
+use Rattle.std.proofs.Common.{◌≡◌, ℕ, Bool, true, false, ◌&&◌, List, [], ◌∷◌, refl, sym, ap, ◌∙◌, IsTrue, ◌↔◌}
 use Rattle.std.specs.List.{list_all}
-use Rattle.proto_text.specs.declared.class.Class.{Class}
-use Rattle.proto_text.specs.declared.class.Class.TheVariants.{Space, Letter, Digit, Quote, Mark, Slash, Other}
-use Rattle.proto_text.specs.Classes.{class_of, is_identifier}
-use Rattle.proto_text.specs.Bytes.{Each}
-use Rattle.proto_text.specs.Pieces.{IsRun}
+use Rattle.proto_text.specs.Common.{Class, Space, Letter, Digit, Quote, Mark, Slash, Other, class_of, is_identifier, Each, IsRun}
 use Rattle.proto_text.specs.Words.{begins_word, is_run}
 
 letter_is : (k : Class) → begins_word k ≡ true → k ≡ Letter

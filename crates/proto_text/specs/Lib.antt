@@ -1,5 +1,6 @@
 pub mod Bytes
 pub mod Classes
+pub mod Common
 pub mod Edits
 pub mod FaultTable
 pub mod First

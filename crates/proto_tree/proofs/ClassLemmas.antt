@@ -3,13 +3,8 @@ use Rattle.std.proofs.Common.{◌≡◌, ℕ, zero, suc, ◌+◌, ◌<◌, ◌�
 use Rattle.proto_text.specs.declared.kind.PieceKind.{PieceKind}
 use Rattle.proto_text.specs.declared.kind.PieceKind.TheVariants.{Blank, LineComment, BlockComment, Solid}
 use Rattle.proto_text.specs.declared.lexer.Token.{Token}
-use Rattle.proto_text.specs.Pieces.{Piece, IsLexeme, text_of, ArePieces}
-use Rattle.proto_text.specs.SourceFacts.{text_at}
-use Rattle.proto_text.specs.Tokens.{token_at, tokens_from, lexeme_at, AreTokens}
-use Rattle.proto_text.proofs.WordChange.{not_empty}
-use Rattle.proto_tree.specs.declared.class.Lexeme.{Lexeme}
-use Rattle.proto_tree.specs.Words.{class_by, classes}
-use Rattle.proto_tree.specs.Reads.{classed, place_at}
+use Rattle.proto_text.proofs.Common.{Piece, IsLexeme, text_of, ArePieces, text_at, token_at, tokens_from, lexeme_at, AreTokens, not_empty}
+use Rattle.proto_tree.specs.Common.{Lexeme, class_by, classes, classed, place_at}
 
 abbrev pub class_at : List ℕ → ℕ → Token → Lexeme
 class_at text n t = record { class = class_by t.kind (text_at text t.span); at = n }

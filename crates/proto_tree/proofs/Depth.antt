@@ -1,10 +1,8 @@
 -- How many braces are open (for the crates above).
 use Rattle.std.proofs.Common.{◌≡◌, ℕ, zero, suc, ◌+◌, ◌<◌, ◌≤◌, List, [], ◌∷◌, length, take, get_or, refl, ap, subst, ◌∙◌, inl, inr, arith}
 use Rattle.std.proofs.lemmas.Bool.{cases_lt}
-use Rattle.proto_tree.specs.declared.class.Class.{Class}
+use Rattle.proto_tree.specs.Common.{Class, Lexeme, open_after, open_from, open_in, IsTooDeep}
 use Rattle.proto_tree.specs.declared.class.Class.TheVariants as class
-use Rattle.proto_tree.specs.declared.class.Lexeme.{Lexeme}
-use Rattle.proto_tree.specs.Place.{open_after, open_from, open_in, IsTooDeep}
 
 open_suc : (s : List Lexeme) (i : ℕ) (d : Lexeme) (e : ℕ) → i < length s → open_from e (take (suc i) s) ≡ open_after (open_from e (take i s)) (get_or s i d).class
 open_suc [] i d e lt = absurd (omega arith)

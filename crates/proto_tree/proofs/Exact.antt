@@ -1,14 +1,8 @@
 -- Readers that read exactly what is flattened (for the crates above).
-use Rattle.std.proofs.Common.{◌≡◌, ℕ, zero, suc, ◌≤◌, length, length-append, Bool, true, false, cond, List, [], ◌∷◌, ◌++◌, Option, Some, None, refl, sym, ap, subst, ◌∙◌, append_assoc, arith, ◌⊎◌, inl, inr}
-use Rattle.std.specs.Prelude.{option_and_then, ◌&&◌, ◌||◌, not}
-use Rattle.proto_tree.specs.declared.class.Class.{Class}
-use Rattle.proto_tree.specs.declared.class.Want.{Want}
+use Rattle.std.proofs.Common.{◌≡◌, ℕ, zero, suc, ◌≤◌, length, length-append, Bool, true, false, cond, List, [], ◌∷◌, ◌++◌, Option, Some, None, refl, sym, ap, subst, ◌∙◌, append_assoc, arith, ◌⊎◌, inl, inr, option_and_then, ◌&&◌, ◌||◌, not}
+use Rattle.proto_tree.specs.Common.{Class, Want, Lexeme, fits, Mark, mark, Fit, flat_option, flat_all, flat_behind, flat_from, flat_separated, Read, Reader, token, ◌then◌, made, starts, either, maybe, up_to, many, behind_at, from_at, separated_at}
 use Rattle.proto_tree.specs.declared.class.Want.TheVariants as want
-use Rattle.proto_tree.specs.declared.class.Lexeme.{Lexeme}
-use Rattle.proto_tree.specs.Classes.{fits}
-use Rattle.proto_tree.specs.Flat.{Mark, mark, Fit, flat_option, flat_all, flat_behind, flat_from, flat_separated}
 use Rattle.proto_tree.proofs.Each.{each, each_is, and_left, and_right}
-use Rattle.proto_tree.specs.Reading.{Read, Reader, token, ◌then◌, made, starts, either, maybe, up_to, many, behind_at, from_at, separated_at}
 
 -- ---- steps
 

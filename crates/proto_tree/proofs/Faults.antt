@@ -1,21 +1,12 @@
 -- The first token that no tree has, and the one tree (for the crates above).
-use Rattle.std.proofs.Common.{◌≡◌, ℕ, zero, suc, ◌+◌, ◌-◌, ◌<◌, ◌≤◌, Bool, true, false, List, [], ◌∷◌, ◌++◌, length, take, drop, Some, None, refl, sym, ap, subst, ◌∙◌, ◌⊎◌, inl, inr, append_assoc, arith, length-append}
-use Rattle.proto_tree.specs.declared.class.Class.{Class}
+use Rattle.std.proofs.Common.{◌≡◌, ℕ, zero, suc, ◌+◌, ◌-◌, ◌<◌, ◌≤◌, Bool, true, false, List, [], ◌∷◌, ◌++◌, length, take, drop, Some, None, refl, sym, ap, subst, ◌∙◌, ◌⊎◌, inl, inr, append_assoc, arith, length-append, take-append-drop, length-take, append-nil, take_all}
+use Rattle.proto_tree.specs.Common.{Class, Lexeme, Piece, Context, fits, is_brace, one, Fit, flat_piece, Tree, Spells, kind_of, allows, last_of, moved, Walk, piece_in, IsStuck, open_in, closers, IsGoodFront, IsPlace}
 use Rattle.proto_tree.specs.declared.class.Class.TheVariants as class
 use Rattle.proto_tree.specs.declared.class.Want.TheVariants as want
-use Rattle.proto_tree.specs.declared.class.Lexeme.{Lexeme}
-use Rattle.proto_tree.specs.declared.piece.Piece.{Piece}
 use Rattle.proto_tree.specs.declared.piece.Piece.TheVariants as piece
-use Rattle.proto_tree.specs.declared.context.Context.{Context}
 use Rattle.proto_tree.specs.declared.context.Context.TheVariants as context
 use Rattle.proto_tree.specs.declared.context.Kind.TheVariants as kind
-use Rattle.proto_tree.specs.Classes.{fits, is_brace}
-use Rattle.proto_tree.specs.Flat.{one, Fit, flat_piece}
-use Rattle.proto_tree.specs.Tree.{Tree, Spells, kind_of, allows, last_of}
-use Rattle.proto_tree.specs.Walk.{moved, Walk, piece_in, IsStuck}
-use Rattle.proto_tree.specs.Place.{open_in, closers, IsGoodFront, IsPlace}
-use Rattle.std.proofs.lemmas.List.{take-append-drop, length-take, append-nil, take-append-le, take_all}
-use Rattle.std.proofs.lemmas.Bool.{cases_lt}
+use Rattle.proto_faults.proofs.Common.{take-append-le, cases_lt}
 use Rattle.proto_tree.proofs.Exact.{Calm, Calm-append, some_is, Fit-split, Fit-join, no_text}
 use Rattle.proto_tree.proofs.PieceRules.{HasEnd}
 use Rattle.proto_tree.proofs.Walks.{pieces, flats, flats-append, flats-pieces, last_outer, walk_tree, walk_levels, pieces_known}

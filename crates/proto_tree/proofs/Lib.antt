@@ -1,4 +1,5 @@
 mod ClassLemmas
+pub mod Common
 pub mod Depth
 mod Each
 pub mod Exact

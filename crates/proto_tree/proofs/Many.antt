@@ -1,12 +1,7 @@
 -- Reading one after another, as a loop does.
-use Rattle.std.proofs.Common.{◌≡◌, ℕ, suc, ◌-◌, ◌+◌, ◌≤◌, ◌<◌, true, false, List, [], ◌∷◌, ◌++◌, length, Some, None, refl, sym, ap, ◌∙◌, append_assoc, arith}
-use Rattle.std.specs.Prelude.{option_and_then}
-use Rattle.std.proofs.lemmas.List.{append-nil}
-use Rattle.proto_tree.specs.declared.class.Want.{Want}
-use Rattle.proto_tree.specs.declared.class.Lexeme.{Lexeme}
-use Rattle.proto_tree.specs.declared.reading.Stop.{Stop}
+use Rattle.std.proofs.Common.{◌≡◌, ℕ, suc, ◌-◌, ◌+◌, ◌≤◌, ◌<◌, true, false, List, [], ◌∷◌, ◌++◌, length, Some, None, refl, sym, ap, ◌∙◌, append_assoc, arith, option_and_then, append-nil}
+use Rattle.proto_tree.specs.Common.{Want, Lexeme, Stop, Read, Reader, Fails, starts, up_to, many}
 use Rattle.proto_tree.specs.declared.reading.Stop.TheVariants as stop
-use Rattle.proto_tree.specs.Reading.{Read, Reader, Fails, starts, up_to, many}
 
 -- what was read before, and what is still read
 abbrev pub with_front : {A : Type 0} → List A → Read (List A) → Read (List A)

@@ -1,18 +1,10 @@
 -- The marks of a tree, by their index (for the crates above).
-use Rattle.std.proofs.Common.{◌≡◌, ℕ, zero, suc, ◌+◌, ◌<◌, true, List, [], ◌∷◌, ◌++◌, length, get_or, refl, sym, ap, subst, ◌∙◌, arith, inl, inr}
-use Rattle.std.specs.List.{Contains}
-use Rattle.std.proofs.lemmas.List.{get_or_default}
-use Rattle.std.proofs.lemmas.List.Elements.{Contains-append_left, Contains-append_right}
+use Rattle.std.proofs.Common.{◌≡◌, ℕ, zero, suc, ◌+◌, ◌<◌, true, List, [], ◌∷◌, ◌++◌, length, get_or, refl, sym, ap, subst, ◌∙◌, arith, inl, inr, Contains}
+use Rattle.proto_faults.proofs.Common.{get_or_default, Contains-append_left, Contains-append_right}
 use Rattle.proto_text.specs.Tokens.{Lexeme}
 use Rattle.proto_tree.specs.declared.class.Class.TheVariants as class
 use Rattle.proto_tree.specs.declared.class.Want.TheVariants as want
-use Rattle.proto_tree.specs.declared.piece.Statement.{Statement}
-use Rattle.proto_tree.specs.declared.piece.Header.{Header}
-use Rattle.proto_tree.specs.Classes.{fits}
-use Rattle.proto_tree.specs.Flat.{Mark, mark, one, Fit, flat_statement, flat_header}
-use Rattle.proto_tree.specs.Tree.{End, Leaf, Block, flat}
-use Rattle.proto_tree.specs.Words.{class_by, classes}
-use Rattle.proto_tree.specs.Laws.{Numbered, TreesAreNumbered, OneMark, MarksFit, EachTokenIsMarked, StatementsHaveMarks, HeadersHaveMarks}
+use Rattle.proto_tree.specs.Common.{Statement, Header, fits, Mark, mark, one, Fit, flat_statement, flat_header, End, Leaf, Block, flat, class_by, classes, Numbered, TreesAreNumbered, OneMark, MarksFit, EachTokenIsMarked, StatementsHaveMarks, HeadersHaveMarks}
 
 pub numbered_fit : (n : ℕ) (ms : List Mark) (ls : List Lexeme) → Fit ms (classes n ls) → Numbered n ms
 numbered_fit n [] [] h = tt

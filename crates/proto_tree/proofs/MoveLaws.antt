@@ -1,27 +1,14 @@
 -- A moved tree has the moved marks (for the crates above).
 use Rattle.std.proofs.Common.{◌≡◌, ℕ, List, [], ◌∷◌, ◌++◌, map, Option, Some, None, refl, sym, ap, subst, ◌∙◌}
-use Rattle.proto_tree.specs.declared.class.Class.{Class}
+use Rattle.proto_tree.specs.Common.{Class, Want, Separated, FieldType, Constant, Settings, RangeEnd, ReservedList, Statement, Header, Context, Mark, only, one, flat_option, flat_all, flat_behind, flat_from, flat_separated, flat_dotted, flat_words, flat_reference, flat_type, flat_signed, flat_joined, flat_constant, flat_setting, flat_settings, flat_option_statement, flat_syntax, flat_import, flat_package, flat_field, flat_map_field, flat_range_end, flat_up_to, flat_range, flat_ranges, flat_reserved_list, flat_reserved, flat_extensions, flat_value, flat_method_type, flat_signature, flat_statement, flat_header, Tree, End, Leaf, Block, flat, field_kind, statement_kind, header_kind, allows, after, inside, IsWellFormed, Move, move_option, move_behind, move_separated, move_reference, move_type, move_signed, move_joined, move_constant, move_setting, move_settings, move_option_statement, move_syntax, move_import, move_package, move_field, move_map_field, move_range_end, move_up_to, move_range, move_reserved_list, move_reserved, move_extensions, move_value, move_method_type, move_signature, move_statement, move_header, move_tree, shift}
 use Rattle.proto_tree.specs.declared.class.Class.TheVariants as class
-use Rattle.proto_tree.specs.declared.class.Want.{Want}
 use Rattle.proto_tree.specs.declared.class.Want.TheVariants as want
-use Rattle.proto_tree.specs.declared.tree.Separated.{Separated}
-use Rattle.proto_tree.specs.declared.tree.FieldType.{FieldType}
 use Rattle.proto_tree.specs.declared.tree.FieldType.TheVariants as field_type
-use Rattle.proto_tree.specs.declared.tree.Constant.{Constant}
 use Rattle.proto_tree.specs.declared.tree.Constant.TheVariants as constant
-use Rattle.proto_tree.specs.declared.tree.Settings.{Settings}
-use Rattle.proto_tree.specs.declared.tree.RangeEnd.{RangeEnd}
 use Rattle.proto_tree.specs.declared.tree.RangeEnd.TheVariants as range_end
-use Rattle.proto_tree.specs.declared.tree.ReservedList.{ReservedList}
 use Rattle.proto_tree.specs.declared.tree.ReservedList.TheVariants as reserved_list
-use Rattle.proto_tree.specs.declared.piece.Statement.{Statement}
 use Rattle.proto_tree.specs.declared.piece.Statement.TheVariants as statement
-use Rattle.proto_tree.specs.declared.piece.Header.{Header}
 use Rattle.proto_tree.specs.declared.piece.Header.TheVariants as header
-use Rattle.proto_tree.specs.declared.context.Context.{Context}
-use Rattle.proto_tree.specs.Flat.{Mark, only, one, flat_option, flat_all, flat_behind, flat_from, flat_separated, flat_dotted, flat_words, flat_reference, flat_type, flat_signed, flat_joined, flat_constant, flat_setting, flat_settings, flat_option_statement, flat_syntax, flat_import, flat_package, flat_field, flat_map_field, flat_range_end, flat_up_to, flat_range, flat_ranges, flat_reserved_list, flat_reserved, flat_extensions, flat_value, flat_method_type, flat_signature, flat_statement, flat_header}
-use Rattle.proto_tree.specs.Tree.{Tree, End, Leaf, Block, flat, field_kind, statement_kind, header_kind, allows, after, inside, IsWellFormed}
-use Rattle.proto_tree.specs.Moved.{Move, move_option, move_behind, move_separated, move_reference, move_type, move_signed, move_joined, move_constant, move_setting, move_settings, move_option_statement, move_syntax, move_import, move_package, move_field, move_map_field, move_range_end, move_up_to, move_range, move_reserved_list, move_reserved, move_extensions, move_value, move_method_type, move_signature, move_statement, move_header, move_tree, shift}
 
 module _ (g : Move) where
   record IsMoved {A : Type 0} (flat : A → List Mark) (f : A → A) : Type 0 where

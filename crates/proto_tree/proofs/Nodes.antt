@@ -1,23 +1,12 @@
 -- Reading nodes one after another (for the crates above).
-use Rattle.std.proofs.Common.{◌≡◌, ℕ, ◌+◌, ◌≤◌, true, false, List, [], ◌∷◌, ◌++◌, length, Some, None, refl, sym, ap, subst, ◌∙◌, append_assoc, arith, length-append, map}
+use Rattle.std.proofs.Common.{◌≡◌, ℕ, ◌+◌, ◌≤◌, true, false, List, [], ◌∷◌, ◌++◌, length, Some, None, refl, sym, ap, subst, ◌∙◌, append_assoc, arith, length-append, map, append-nil}
 use Rattle.proto_tree.specs.declared.class.Class.TheVariants as class
-use Rattle.proto_tree.specs.declared.class.Lexeme.{Lexeme}
-use Rattle.proto_tree.specs.declared.piece.Statement.{Statement}
-use Rattle.proto_tree.specs.declared.tree.Signature.{Signature}
-use Rattle.proto_tree.specs.declared.piece.Heading.{Heading}
-use Rattle.proto_tree.specs.declared.piece.Header.{Header}
+use Rattle.proto_tree.specs.Common.{Lexeme, Statement, Signature, Heading, Header, Piece, Context, Kind, Mark, one, Fit, flat_statement, flat_header, flat_piece, Tree, End, Leaf, Block, flat, IsWellFormed, kind_of, statement_kind, header_kind, allows, after, inside, last_of, joined, all_joined, moved, Walk, any_piece_in, piece_in, IsStuck, Field, trees, item_tree, member_tree, member_layer, message_tree, oneof_tree, enum_tree, IsRead, IsItem, IsClose, FaultOf, IsBody, IsMet, IsOuter, IsItemOf, IsItemBefore}
 use Rattle.proto_tree.specs.declared.piece.Header.TheVariants as header
-use Rattle.proto_tree.specs.declared.piece.Piece.{Piece}
 use Rattle.proto_tree.specs.declared.piece.Piece.TheVariants as piece
-use Rattle.proto_tree.specs.declared.context.Context.{Context}
 use Rattle.proto_tree.specs.declared.context.Context.TheVariants as context
-use Rattle.proto_tree.specs.declared.context.Kind.{Kind}
 use Rattle.proto_tree.specs.declared.context.Kind.TheVariants as kind
-use Rattle.proto_tree.specs.Flat.{Mark, one, Fit, flat_statement, flat_header, flat_piece}
-use Rattle.proto_tree.specs.Tree.{Tree, End, Leaf, Block, flat, IsWellFormed, kind_of, statement_kind, header_kind, allows, after, inside, last_of, joined, all_joined}
-use Rattle.proto_tree.specs.Walk.{moved, Walk, any_piece_in, piece_in, IsStuck}
 use Rattle.proto_tree.specs.declared.tree.Block.{Block as Braced}
-use Rattle.proto_tree.specs.declared.tree.Field.{Field}
 use Rattle.proto_tree.specs.declared.tree.EnumItem.{EnumItem}
 use Rattle.proto_tree.specs.declared.tree.Item.{Item}
 use Rattle.proto_tree.specs.declared.tree.Member.{Member}
@@ -26,9 +15,6 @@ use Rattle.proto_tree.specs.declared.tree.Member.TheFolds.{fold-roll-Member}
 use Rattle.proto_tree.specs.declared.tree.Member.TheVariants as member
 use Rattle.proto_tree.specs.declared.blocks.Fault.{Fault}
 use Rattle.proto_tree.specs.declared.blocks.Fault.TheVariants as fault
-use Rattle.proto_tree.specs.File.{trees, item_tree, member_tree, member_layer, message_tree, oneof_tree, enum_tree}
-use Rattle.proto_tree.specs.Answer.{IsRead, IsItem, IsClose, FaultOf, IsBody, IsMet, IsOuter, IsItemOf, IsItemBefore}
-use Rattle.std.proofs.lemmas.List.{append-nil}
 use Rattle.proto_tree.proofs.Exact.{Fit-join}
 use Rattle.proto_tree.proofs.Walks.{pieces, flats, flats-append, flats-pieces, last_inner, last_outer, walk_tree}
 use Rattle.proto_tree.proofs.Places.{laws, walk_append}

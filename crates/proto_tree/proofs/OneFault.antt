@@ -1,18 +1,12 @@
 -- A file has a tree, or one fault.
-use Rattle.std.proofs.Common.{◌≡◌, ℕ, ◌+◌, ◌<◌, List, refl, sym, ap, ◌∙◌, ◌⊎◌, inl, inr, arith}
-use Rattle.std.specs.Prelude.{Result, Ok, Err, IfOk, IfErr, IsErrAnd, MatchResult}
+use Rattle.std.proofs.Common.{◌≡◌, ℕ, ◌+◌, ◌<◌, List, refl, sym, ap, ◌∙◌, ◌⊎◌, inl, inr, arith, Result, Ok, Err, IfOk, IfErr, IsErrAnd, MatchResult}
 use Rattle.std.proofs.lemmas.Bool.{cases_lt}
 use Rattle.proto_text.specs.declared.lexer.Token.{Token}
-use Rattle.proto_tree.specs.declared.class.Lexeme.{Lexeme}
+use Rattle.proto_tree.specs.Common.{Lexeme, tree_of_file, Tree, IsPlace, IsShallow, IsTooDeep, OneTree, classed, Reads, place_at, IsFault, is_fault_or_memory, IsParsed}
 use Rattle.proto_tree.specs.declared.tree.File.{File}
 use Rattle.proto_tree.specs.declared.parsing.ParseFault.{ParseFault}
 use Rattle.proto_tree.specs.declared.parsing.ParseFault.TheVariants as fault
-use Rattle.proto_tree.specs.File.{tree_of_file}
-use Rattle.proto_tree.specs.Tree.{Tree}
-use Rattle.proto_tree.specs.Place.{IsPlace, IsShallow, IsTooDeep}
-use Rattle.proto_tree.specs.Laws.{OneTree}
 use Rattle.proto_tree.proofs.Faults.{one_tree}
-use Rattle.proto_tree.specs.Reads.{classed, Reads, place_at, IsFault, is_fault_or_memory, IsParsed}
 
 -- ---- one place
 

@@ -1,33 +1,21 @@
 -- Pieces, and the readers that read exactly these.
-use Rattle.std.proofs.Common.{◌≡◌, ℕ, Bool, true, false, List, [], ◌∷◌, ◌++◌, Option, Some, None, refl, sym, ap, subst, ◌∙◌, ◌⊎◌, inl, inr}
-use Rattle.std.specs.Prelude.{◌||◌, is_some}
-use Rattle.proto_tree.specs.declared.class.Class.{Class}
+use Rattle.std.proofs.Common.{◌≡◌, ℕ, Bool, true, false, List, [], ◌∷◌, ◌++◌, Option, Some, None, refl, sym, ap, subst, ◌∙◌, ◌⊎◌, inl, inr, ◌||◌, is_some}
+use Rattle.proto_tree.specs.Common.{Class, Want, Lexeme, Field, Signed, Signature, Heading, Header, Piece, fits, is_brace, Mark, mark, one, Fit, flat_signature, flat_heading, flat_header, flat_piece, Reader, ◌then◌, made, token, starts, either, heading_at, opened, stated, syntax_at, import_at, package_at, option_at, field_at, map_field_at, reserved_at, signed_at, extensions_at, value_at, signature_at, ending_at, method_piece, method_at, piece_at, enum_piece_at}
 use Rattle.proto_tree.specs.declared.class.Class.TheVariants as class
-use Rattle.proto_tree.specs.declared.class.Want.{Want}
 use Rattle.proto_tree.specs.declared.class.Want.TheVariants as want
-use Rattle.proto_tree.specs.declared.class.Lexeme.{Lexeme}
 use Rattle.proto_tree.specs.declared.tree.Syntax.{Syntax}
 use Rattle.proto_tree.specs.declared.tree.Import.{Import}
 use Rattle.proto_tree.specs.declared.tree.Package.{Package}
 use Rattle.proto_tree.specs.declared.tree.Option_.{Option_}
-use Rattle.proto_tree.specs.declared.tree.Field.{Field}
 use Rattle.proto_tree.specs.declared.tree.MapField.{MapField}
 use Rattle.proto_tree.specs.declared.tree.Reserved.{Reserved}
 use Rattle.proto_tree.specs.declared.tree.Extensions.{Extensions}
 use Rattle.proto_tree.specs.declared.tree.Value.{Value}
-use Rattle.proto_tree.specs.declared.tree.Signed.{Signed}
-use Rattle.proto_tree.specs.declared.tree.Signature.{Signature}
 use Rattle.proto_tree.specs.declared.piece.Statement.TheVariants as statement
-use Rattle.proto_tree.specs.declared.piece.Heading.{Heading}
-use Rattle.proto_tree.specs.declared.piece.Header.{Header}
 use Rattle.proto_tree.specs.declared.piece.Header.TheVariants as header
 use Rattle.proto_tree.specs.declared.piece.Ending.{Ending}
 use Rattle.proto_tree.specs.declared.piece.Ending.TheVariants as ending
-use Rattle.proto_tree.specs.declared.piece.Piece.{Piece}
 use Rattle.proto_tree.specs.declared.piece.Piece.TheVariants as piece
-use Rattle.proto_tree.specs.Classes.{fits, is_brace}
-use Rattle.proto_tree.specs.Flat.{Mark, mark, one, Fit, flat_signature, flat_heading, flat_header, flat_piece}
-use Rattle.proto_tree.specs.Reading.{Reader, ◌then◌, made, token, starts, either, heading_at, opened, stated, syntax_at, import_at, package_at, option_at, field_at, map_field_at, reserved_at, signed_at, extensions_at, value_at, signature_at, ending_at, method_piece, method_at, piece_at, enum_piece_at}
 use Rattle.proto_tree.proofs.Exact.{IsExact, Begins, Stops, Calm, never, any_of, bind_ok, some_is, either_cases, begins_left, begins_right, starts_yes, starts_no, within, within_is, apart, apart_is, Fit-split, next, token_then, one_of, IsMade, Left, Right, tok, renamed, hushed, token-exact}
 use Rattle.proto_tree.proofs.Rules.{syntax-exact, import-exact, package-exact, option-exact, field-exact, map_field-exact, reserved-exact, extensions-exact, enum_reserved-exact, value-exact, signature-exact, starts_field}
 

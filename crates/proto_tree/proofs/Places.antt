@@ -1,22 +1,13 @@
 -- Where a file goes wrong (for the crates above).
 use Rattle.std.proofs.Common.{◌≡◌, ℕ, zero, suc, ◌+◌, ◌-◌, ◌≤◌, Bool, true, false, cond, List, [], ◌∷◌, ◌++◌, length, Option, Some, None, refl, sym, ap, subst, ◌∙◌, append_assoc, arith}
-use Rattle.proto_tree.specs.declared.class.Class.{Class}
+use Rattle.proto_tree.specs.Common.{Class, Lexeme, Piece, Context, Kind, fits, is_brace, Fit, flat_piece, kind_of, field_kind, statement_kind, header_kind, allows, after, moved, Walk, any_piece_in, piece_in, open_after, open_from, closers}
 use Rattle.proto_tree.specs.declared.class.Class.TheVariants as class
 use Rattle.proto_tree.specs.declared.class.Want.TheVariants as want
-use Rattle.proto_tree.specs.declared.class.Lexeme.{Lexeme}
 use Rattle.proto_tree.specs.declared.piece.Statement.TheVariants as statement
 use Rattle.proto_tree.specs.declared.piece.Header.TheVariants as header
-use Rattle.proto_tree.specs.declared.piece.Piece.{Piece}
 use Rattle.proto_tree.specs.declared.piece.Piece.TheVariants as piece
-use Rattle.proto_tree.specs.declared.context.Context.{Context}
 use Rattle.proto_tree.specs.declared.context.Context.TheVariants as context
-use Rattle.proto_tree.specs.declared.context.Kind.{Kind}
 use Rattle.proto_tree.specs.declared.context.Kind.TheVariants as kind
-use Rattle.proto_tree.specs.Classes.{fits, is_brace}
-use Rattle.proto_tree.specs.Flat.{Fit, flat_piece}
-use Rattle.proto_tree.specs.Tree.{kind_of, field_kind, statement_kind, header_kind, allows, after}
-use Rattle.proto_tree.specs.Walk.{moved, Walk, any_piece_in, piece_in}
-use Rattle.proto_tree.specs.Place.{open_after, open_from, closers}
 use Rattle.proto_tree.proofs.Exact.{Calm, bind_ok, cond_ok, Fit-split, no_text, solid_long}
 use Rattle.proto_tree.proofs.PieceRules.{HasEnd, IsOn, enum_pieces, elsewhere, begins_enum_piece, begins_elsewhere, piece_on, enum_piece_on}
 use Rattle.proto_tree.proofs.Walks.{flats, after_inner, inside_inner}

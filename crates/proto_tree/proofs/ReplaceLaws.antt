@@ -2,13 +2,8 @@
 use Rattle.std.proofs.Common.{◌≡◌, ℕ, suc, ◌+◌, ◌<◌, List, [], ◌∷◌, ◌++◌, length, map, refl, sym, ap, subst, ◌∙◌, arith, append_assoc, length-append}
 use Rattle.proto_text.specs.Tokens.{Lexeme}
 use Rattle.proto_tree.specs.declared.class.Class.TheVariants as class
-use Rattle.proto_tree.specs.declared.class.Lexeme.{Lexeme as Classed}
-use Rattle.proto_tree.specs.declared.context.Context.{Context}
+use Rattle.proto_tree.specs.Common.{Lexeme as Classed, Context, Mark, one, Fit, flat_statement, flat_header, Tree, End, Leaf, Block, flat, statement_kind, header_kind, after, inside, IsWellFormed, last_of, joined, class_by, classes, Move, shift, move_tree}
 use Rattle.proto_tree.specs.declared.context.Context.TheVariants as context
-use Rattle.proto_tree.specs.Flat.{Mark, one, Fit, flat_statement, flat_header}
-use Rattle.proto_tree.specs.Tree.{Tree, End, Leaf, Block, flat, statement_kind, header_kind, after, inside, IsWellFormed, last_of, joined}
-use Rattle.proto_tree.specs.Words.{class_by, classes}
-use Rattle.proto_tree.specs.Moved.{Move, shift, move_tree}
 use Rattle.proto_tree.specs.Replaced.{IsReplaced, Here, Later, Inside, Behind, before, StatementsAreReplaced}
 use Rattle.proto_tree.proofs.Exact.{Fit-join}
 use Rattle.proto_tree.proofs.Nodes.{flat-joined, joined-fine}

@@ -2,9 +2,7 @@
 use Rattle.std.proofs.Common.{◌≡◌, ℕ, zero, suc, ◌+◌, ◌*◌, ◌<◌, List, [], ◌∷◌, length, get_or, map, Option, Some, None, is_some, arith}
 use Rattle.proto_tree.specs.declared.class.Class.TheVariants as class
 use Rattle.proto_tree.specs.declared.tree.Behind.{Behind}
-use Rattle.proto_tree.specs.declared.tree.Separated.{Separated}
-use Rattle.proto_tree.specs.Flat.{word, flat_all, flat_behind, flat_words}
-use Rattle.proto_tree.specs.Laws.{Numbered, WordsStandApart}
+use Rattle.proto_tree.specs.Common.{Separated, word, flat_all, flat_behind, flat_words, Numbered, WordsStandApart}
 use Rattle.proto_tree.specs.References.{dotted, first_of, word_token}
 
 each_second : (bs : List (Behind ℕ)) (n : ℕ) → Numbered n (flat_all (flat_behind class.Dot word) bs)

@@ -1,17 +1,11 @@
 -- Trees and lists of pieces (for the crates above).
 use Rattle.std.proofs.Common.{◌≡◌, ℕ, true, false, List, [], ◌∷◌, ◌++◌, refl, sym, ap, subst, ◌∙◌, append_assoc}
 use Rattle.proto_tree.specs.declared.class.Class.TheVariants as class
-use Rattle.proto_tree.specs.declared.piece.Header.{Header}
+use Rattle.proto_tree.specs.Common.{Header, Piece, Context, Kind, Mark, one, flat_all, flat_statement, flat_header, flat_piece, Tree, End, Leaf, Block, flat, IsWellFormed, statement_kind, header_kind, allows, after, inside, last_of, Walk}
 use Rattle.proto_tree.specs.declared.piece.Header.TheVariants as header
-use Rattle.proto_tree.specs.declared.piece.Piece.{Piece}
 use Rattle.proto_tree.specs.declared.piece.Piece.TheVariants as piece
-use Rattle.proto_tree.specs.declared.context.Context.{Context}
 use Rattle.proto_tree.specs.declared.context.Context.TheVariants as context
-use Rattle.proto_tree.specs.declared.context.Kind.{Kind}
 use Rattle.proto_tree.specs.declared.context.Kind.TheVariants as kind
-use Rattle.proto_tree.specs.Flat.{Mark, one, flat_all, flat_statement, flat_header, flat_piece}
-use Rattle.proto_tree.specs.Tree.{Tree, End, Leaf, Block, flat, IsWellFormed, statement_kind, header_kind, allows, after, inside, last_of}
-use Rattle.proto_tree.specs.Walk.{Walk}
 
 -- the pieces of a tree, in order
 abbrev pub pieces : Tree → List Piece

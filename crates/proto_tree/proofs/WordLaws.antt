@@ -1,24 +1,12 @@
 -- The same tree spells the new words (for the crates above).
-use Rattle.std.proofs.Common.{◌≡◌, ℕ, zero, suc, ◌≤◌, Bool, true, false, ◌==◌, List, [], ◌∷◌, length, take, map, Option, Some, None, refl, sym, ap, subst, ◌∙◌, arith, cond}
-use Rattle.std.specs.Prelude.{◌||◌, codes}
-use Rattle.std.specs.Str.{bytes_eq}
-use Rattle.std.proofs.lemmas.Bool.{eqb-true}
+use Rattle.std.proofs.Common.{◌≡◌, ℕ, zero, suc, ◌≤◌, Bool, true, false, ◌==◌, List, [], ◌∷◌, length, take, map, Option, Some, None, refl, sym, ap, subst, ◌∙◌, arith, cond, ◌||◌, codes, bytes_eq, eqb-true}
 use Rattle.proto_text.specs.declared.kind.TokenKind.{TokenKind}
 use Rattle.proto_text.specs.declared.kind.TokenKind.TheVariants.{Word, Number, Text, Punctuation}
-use Rattle.proto_text.specs.Texts.{or_word, changed, AreWords}
-use Rattle.proto_text.specs.Tokens.{Lexeme, lexeme_at}
-use Rattle.proto_text.specs.Values.{says}
+use Rattle.proto_text.proofs.Common.{or_word, changed, AreWords, Lexeme, lexeme_at, says}
 use Rattle.proto_text.proofs.Texts.{words_are_put}
-use Rattle.proto_tree.specs.declared.class.Class.{Class}
+use Rattle.proto_tree.specs.Common.{Class, Want, code, is_word, fits, Mark, Fit, flat, Spells, open_after, open_from, IsShallow, Listed, class_in, listed, marks, class_by, classes, Change, Suits, PutsWords, WordsKeepTrees, WordsComeForWords, EditsKeepTrees, WordsHaveWordClasses}
 use Rattle.proto_tree.specs.declared.class.Class.TheVariants as class
-use Rattle.proto_tree.specs.declared.class.Want.{Want}
 use Rattle.proto_tree.specs.declared.class.Want.TheVariants as want
-use Rattle.proto_tree.specs.Classes.{code, is_word, fits}
-use Rattle.proto_tree.specs.Flat.{Mark, Fit}
-use Rattle.proto_tree.specs.Tree.{flat, Spells}
-use Rattle.proto_tree.specs.Place.{open_after, open_from, IsShallow}
-use Rattle.proto_tree.specs.Words.{Listed, class_in, listed, marks, class_by, classes}
-use Rattle.proto_tree.specs.Laws.{Change, Suits, PutsWords, WordsKeepTrees, WordsComeForWords, EditsKeepTrees, WordsHaveWordClasses}
 use Rattle.proto_tree.proofs.Each.{each, each_is}
 
 -- ---- the classes of words

@@ -1,5 +1,6 @@
 pub mod Answer
 pub mod Classes
+pub mod Common
 pub mod File
 pub mod Flat
 pub mod Laws

@@ -1,21 +1,12 @@
 -- The file of a fault is there.
-use Rattle.std.proofs.Common.{◌≡◌, ℕ, ◌<◌, Bool, true, false, cond, List, [], ◌∷◌, Option, Some, None, refl, sym, ap, inl, inr, ◌∙◌, subst, arith, length, get_or, zero, suc}
-use Rattle.std.specs.Prelude.{IsSome, is_some}
-use Rattle.std.specs.Str.{bytes_eq}
-use Rattle.proto_files.specs.Faults.{FaultAt, IsLeastFault}
-use Rattle.proto_files.specs.GivenFiles.{FileOf, file_at}
-use Rattle.proto_files.specs.ReadFaults.{ReadFaults}
-use Rattle.std.specs.List.{Contains}
+use Rattle.std.proofs.Common.{◌≡◌, ℕ, ◌<◌, Bool, true, false, cond, List, [], ◌∷◌, Option, Some, None, refl, sym, ap, inl, inr, ◌∙◌, subst, arith, length, get_or, zero, suc, IsSome, is_some, bytes_eq, Contains}
+use Rattle.proto_files.proofs.Common.{FaultAt, IsLeastFault, FileOf, file_at, ReadFaults, ReadOf}
 use Rattle.std.proofs.lemmas.List.Sorted.{Contains-permutation, IsPermutation-sym}
 use Rattle.proto_meaning.specs.Faults.{Fault}
-use Rattle.proto_files.specs.FilesRead.{ReadOf}
-use Rattle.proto_imports.specs.Links.{StandsAt, LinkFaults, of_import, of_name, of_reference}
-use Rattle.proto_imports.proofs.FaultPlaces.{import_found, name_found, reference_found}
-use Rattle.proto_desc.specs.Checked.{CheckFaults, of_flaw}
-use Rattle.proto_desc.specs.Whole.{FileFaults, of_read, of_link, of_check, WorkspaceFaults, of_path, of_files}
+use Rattle.proto_imports.proofs.Common.{StandsAt, LinkFaults, of_import, of_name, of_reference, import_found, name_found, reference_found}
+use Rattle.proto_desc.proofs.Common.{CheckFaults, of_flaw, FileFaults, of_read, of_link, of_check, WorkspaceFaults, of_path, of_files}
 use Rattle.proto_records.specs.Known.{Over}
-use Rattle.proto_store.specs.Stores.{Held, HoldsFiles, IsListed, bytes_at}
-use Rattle.proto_store.proofs.PathOrder.{equal_itself}
+use Rattle.proto_store.proofs.Common.{Held, HoldsFiles, IsListed, bytes_at, equal_itself}
 
 -- a file of the list stands at its path
 there : (files : List FileOf) (k : ℕ) (f : FileOf) → k < length files → get_or files k f ≡ f → IsSome (bytes_at f.path files)

@@ -1,22 +1,17 @@
 -- What is printed over files that compile, and over others.
 use Rattle.std.specs.Io.KnownBytes.{Keeps}
-use Rattle.std.proofs.Common.{◌≡◌, ℕ, List, ◌++◌, IfErr, IfOk, codes, refl, sym, ap, subst, ◌∙◌}
-use Rattle.std.specs.Prelude.{Option, Some, None, Result, Ok, Err}
+use Rattle.std.proofs.Common.{◌≡◌, ℕ, List, ◌++◌, IfErr, IfOk, codes, refl, sym, ap, subst, ◌∙◌, Option, Some, None, Result, Ok, Err}
 use Rattle.proto_descriptors.specs.Descriptors.{FileDesc}
 use Rattle.proto_json.specs.DescriptorText.{json_text}
-use Rattle.proto_desc.specs.Checked.{AreDescribed}
-use Rattle.proto_files.specs.Faults.{FaultAt, HasNoFault, IsLeastFault}
-use Rattle.proto_files.specs.FilesRead.{ReadOf, AreRead}
-use Rattle.proto_files.specs.GivenFiles.{FileOf}
+use Rattle.proto_desc.proofs.Common.{AreDescribed, IsSortedOf, WorkspaceFaults}
+use Rattle.proto_files.proofs.Common.{FaultAt, HasNoFault, IsLeastFault, ReadOf, AreRead, FileOf}
 use Rattle.proto_rules.specs.declared.rule_set.RuleSet.{RuleSet}
-use Rattle.proto_output.specs.Answers.{status_of, text_of}
-use Rattle.proto_output.specs.FaultLines.{IsLineOver}
+use Rattle.proto_output.proofs.Common.{status_of, text_of, IsLineOver}
 use Rattle.proto_output.specs.declared.answer.Answer.{Answer}
 use Rattle.proto_output.specs.declared.run_fault.RunFault.{RunFault}
 use Rattle.proto_output.specs.declared.run_fault.RunFault.TheVariants as ends
 use Rattle.proto_output.specs.declared.status.Status.{Status}
 use Rattle.proto_output.specs.declared.status.Status.TheVariants.{Done, Problem}
-use Rattle.proto_desc.specs.Whole.{IsSortedOf, WorkspaceFaults}
 use Rattle.proto_store.specs.Stores.{Held, HoldsFiles}
 use Rattle.protoref_run.specs.Commands.{Answers, Ran}
 use Rattle.protoref_run.specs.Linted.{IsLintOf, of_findings, of_fault}

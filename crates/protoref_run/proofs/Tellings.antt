@@ -4,30 +4,24 @@ use Rattle.proto_journal.specs.Workspaces.{Asked}
 use Rattle.proto_entries.specs.Entries.{ChangeOf}
 use Rattle.proto_entries.specs.declared.refusal.Refusal.{Refusal}
 use Rattle.proto_entries.specs.declared.refusal.Refusal.TheVariants as refusal
-use Rattle.proto_files.specs.Faults.{FaultAt, IsLeastFault}
-use Rattle.proto_files.specs.GivenFiles.{FileOf}
+use Rattle.proto_files.proofs.Common.{FaultAt, IsLeastFault, FileOf}
 use Rattle.proto_journal.specs.Commits.{CommitOutcome}
-use Rattle.proto_records.specs.ReadJournals.{IsReady}
-use Rattle.proto_records.specs.Known.{Over}
+use Rattle.proto_records.proofs.Common.{IsReady, Over, IsJournal}
 use Rattle.proto_journal.specs.Loads.{IsUnready}
 use Rattle.proto_journal.specs.Undoing.{UndoOutcome}
-use Rattle.proto_output.specs.Answers.{status_of, text_of}
-use Rattle.proto_output.specs.EditLines.{faulty_line}
-use Rattle.proto_output.specs.FaultLines.{IsLineOver}
+use Rattle.proto_output.proofs.Common.{status_of, text_of, faulty_line, IsLineOver}
 use Rattle.proto_output.specs.declared.answer.Answer.{Answer}
 use Rattle.proto_output.specs.declared.run_fault.RunFault.{RunFault}
 use Rattle.proto_output.specs.declared.run_fault.RunFault.TheVariants as ends
 use Rattle.proto_output.specs.declared.status.Status.{Status}
 use Rattle.proto_output.specs.declared.status.Status.TheVariants.{Problem}
-use Rattle.proto_records.specs.Journals.{IsJournal}
 use Rattle.proto_records.specs.declared.fault.JournalFault.{JournalFault}
 use Rattle.proto_records.specs.declared.fault.JournalFault.TheVariants as fault
 use Rattle.proto_records.specs.declared.record.Record.{Record}
 use Rattle.proto_desc.specs.Whole.{WorkspaceFaults}
 use Rattle.proto_store.specs.Stores.{Held, HoldsFiles, HoldsJournal}
-use Rattle.protoref_run.specs.Changes.{AnswersEdit, AnswersUndo, Begins, IsEditCut, IsUndoingCut, MayBegin, of_journal, of_files, of_change}
+use Rattle.protoref_run.specs.Common.{AnswersEdit, AnswersUndo, Begins, IsEditCut, IsUndoingCut, MayBegin, of_journal, of_files, of_change, CountsAlike, IsFaultTold, IsNoRefusal, IsTold, Tells, TellsOf}
 use Rattle.protoref_run.specs.Logs.{AnswersLog, PrintsLog, TellsLog}
-use Rattle.protoref_run.specs.Told.{CountsAlike, IsFaultTold, IsNoRefusal, IsTold, Tells, TellsOf}
 use Rattle.protoref_run.specs.declared.beginning.Beginning.TheVariants as beginning
 
 -- ---- one fault

@@ -1,5 +1,6 @@
 pub mod Changes
 pub mod Commands
+pub mod Common
 pub mod Linted
 pub mod Logs
 pub mod Printed

@@ -1,8 +1,6 @@
 -- The answer to what is asked for, from its parts.
 use Rattle.std.proofs.Common.{◌≡◌, ◌∙◌, ◌⊎◌, inl, inr, true, List, [], ◌∷◌, Option, Some, None, Result, Ok, Err, String, string_bytes, refl, sym, ap, subst, IsErrAnd}
-use Rattle.std.specs.List.{list_all}
-use Rattle.std.specs.Option.{option_map_or}
-use Rattle.std.specs.declared.alloc.Global.{Global}
+use Rattle.proto_faults.proofs.Common.{list_all, option_map_or, Global, Text}
 use Rattle.clap.specs.Walk.{Row}
 use Rattle.clap.specs.Kinds.{IsAmong, Kinds}
 use Rattle.clap.specs.Simple.{subcommand_of}
@@ -10,15 +8,10 @@ use Rattle.clap.specs.Faults.{fault_of}
 use Rattle.clap.specs.declared.error.kind.ErrorKind.{ErrorKind}
 use Rattle.clap.specs.declared.error.kind.ErrorKind.TheVariants as kind
 use Rattle.clap.proofs.WalkLemmas.{both}
-use Rattle.proto_faults.specs.Texts.{Text}
 use Rattle.proto_rules.specs.declared.rule_set.RuleSet.{RuleSet}
-use Rattle.protoref_words.specs.CommandLines.{Asked, bad_line, help, lint, taken}
-use Rattle.protoref_words.specs.Matched.{asked_of}
-use Rattle.protoref_words.specs.Program.{program}
-use Rattle.protoref_words.specs.Requests.{IsAnswerTo, IsHelpOf, IsSetFor, IsTextOf}
+use Rattle.protoref_words.specs.Common.{Asked, bad_line, help, lint, taken, asked_of, program, IsAnswerTo, IsHelpOf, IsSetFor, IsTextOf, WordsFault}
 use Rattle.protoref_words.specs.declared.request.Request.{Request}
 use Rattle.protoref_words.specs.declared.request.Request.TheVariants as request
-use Rattle.protoref_words.specs.declared.request.WordsFault.{WordsFault}
 use Rattle.protoref_words.specs.declared.request.WordsFault.TheVariants as fault
 use Rattle.protoref_words.proofs.Lines.{EndsAt, are_refusals, helped, is_refusal, read, refused}
 

@@ -1,7 +1,6 @@
 -- What the program's commands and their arguments make of it, for `clap`.
-use Rattle.std.proofs.Common.{◌≡◌, ◌∙◌, ℕ, ◌+◌, ◌<◌, Bool, true, false, not, is_some, List, [], ◌∷◌, ◌++◌, map, take, length, refl, sym, ap, ap₂, append-nil, append_assoc}
-use Rattle.std.specs.List.{list_all, slice_index_or}
-use Rattle.std.proofs.lemmas.List.{map-append, take_more}
+use Rattle.std.proofs.Common.{◌≡◌, ◌∙◌, ℕ, ◌+◌, ◌<◌, Bool, true, false, not, is_some, List, [], ◌∷◌, ◌++◌, map, take, length, refl, sym, ap, ap₂, append-nil, append_assoc, slice_index_or}
+use Rattle.proto_faults.proofs.Common.{list_all, map-append, take_more}
 use Rattle.clap.specs.Walk.{Rule, is_empty, is_simple_arg, rule_of}
 use Rattle.clap.specs.Simple.{App, Shape, app_of, on_top, shape_of, with_rule, with_subcommand}
 use Rattle.clap.specs.Built.{AddsArg, AddsInTurn, AddsSubcommand}

@@ -1,11 +1,7 @@
 -- What `clap` makes of a command line, for every list of words.
-use Rattle.std.proofs.Common.{◌≡◌, ◌∙◌, ◌⊎◌, inl, inr, ℕ, ◌≤◌, Bool, true, false, ◌&&◌, ◌||◌, not, cond, List, [], ◌∷◌, ◌++◌, map, length, Option, Some, None, is_some, refl, sym, ap, subst, codes, arith, unwrap_or, drop, append-nil, append_assoc, le-ltb, slice_index, ◌==◌}
-use Rattle.std.specs.List.{find, fold, list_all}
-use Rattle.std.specs.Str.{bytes_eq}
-use Rattle.std.proofs.lemmas.Slice.Eq.{bytes_eq-Decides}
-use Rattle.std.proofs.lemmas.Bool.{eqb-true}
-use Rattle.clap.specs.Walk.{Names, Row, Rule, Walk, finished, nothing_held, rows_after, settled, stop_after, walk, walk_from, walked}
-use Rattle.clap.specs.Walk.{answers_to, positional}
+use Rattle.std.proofs.Common.{◌≡◌, ◌∙◌, ◌⊎◌, inl, inr, ℕ, ◌≤◌, Bool, true, false, ◌&&◌, ◌||◌, not, cond, List, [], ◌∷◌, ◌++◌, map, length, Option, Some, None, is_some, refl, sym, ap, subst, codes, arith, unwrap_or, drop, append-nil, append_assoc, le-ltb, slice_index, ◌==◌, find, fold, bytes_eq, eqb-true}
+use Rattle.proto_faults.proofs.Common.{list_all, bytes_eq-Decides, Text}
+use Rattle.clap.specs.Walk.{Names, Row, Rule, Walk, finished, nothing_held, rows_after, settled, stop_after, walk, walk_from, walked, answers_to, positional}
 use Rattle.clap.specs.Simple.{App, Shape, built, entered, help_shape, is_simple, label_of, names_of, rows_at, subcommand_of}
 use Rattle.clap.specs.Kinds.{Kinds, or_else, range_kinds, values_kinds}
 use Rattle.clap.specs.Lexer.{long_of, short_of, usize_max}
@@ -17,12 +13,7 @@ use Rattle.clap.proofs.FaultLemmas.{stopped_fault}
 use Rattle.clap.proofs.WalkLemmas.{both, walk_stopped}
 use Rattle.clap.proofs.SimpleLemmas.{is_false}
 use Rattle.clap.proofs.OnLiterals.{clap_on_literals}
-use Rattle.proto_faults.specs.Texts.{Text}
-use Rattle.protoref_words.specs.CommandLines.{Asked, Command, asked, asked_by, asks_help, bad_line, command_named, commands, help, name_of, taken}
-use Rattle.protoref_words.specs.CommandLines.{compile, lint, rename, delete_field, add_import, drop_import, undo, log, recover}
-use Rattle.protoref_words.specs.Marked.{begins_dashed, is_dashed, mark, marked}
-use Rattle.protoref_words.specs.Matched.{asked_of}
-use Rattle.protoref_words.specs.Program.{program}
+use Rattle.protoref_words.specs.Common.{Asked, Command, asked, asked_by, asks_help, bad_line, command_named, commands, help, name_of, taken, compile, lint, rename, delete_field, add_import, drop_import, undo, log, recover, begins_dashed, is_dashed, mark, marked, asked_of, program}
 
 pub simple : is_simple_and_free program ≡ true
 unfolding clap_on_literals

@@ -1,12 +1,7 @@
 -- The words as they are handed to `clap`, one by one.
-use Rattle.std.proofs.Common.{◌≡◌, ◌∙◌, ℕ, zero, suc, ◌+◌, ◌<◌, ◌==◌, true, false, List, [], ◌∷◌, ◌++◌, map, take, length, slice_index_or, Result, Ok, Err, String, string_bytes, refl, sym, ap, ap₂, subst, arith, IsErrAnd}
-use Rattle.std.specs.Prelude.{MatchResult}
-use Rattle.std.specs.declared.alloc.Global.{Global}
-use Rattle.std.proofs.lemmas.List.{append_assoc, length-map, length-take-le, map-append, take_more}
-use Rattle.proto_faults.specs.Texts.{Text}
-use Rattle.protoref_words.specs.Marked.{begins_dashed, is_bad_at, mark, marked, marks}
-use Rattle.protoref_words.specs.Requests.{IsFaultOf}
-use Rattle.protoref_words.specs.declared.request.WordsFault.{WordsFault}
+use Rattle.std.proofs.Common.{◌≡◌, ◌∙◌, ℕ, zero, suc, ◌+◌, ◌<◌, ◌==◌, true, false, List, [], ◌∷◌, ◌++◌, map, take, length, slice_index_or, Result, Ok, Err, String, string_bytes, refl, sym, ap, ap₂, subst, arith, IsErrAnd, MatchResult, append_assoc, length-take-le}
+use Rattle.proto_faults.proofs.Common.{Global, length-map, map-append, take_more, Text}
+use Rattle.protoref_words.specs.Common.{begins_dashed, is_bad_at, mark, marked, marks, IsFaultOf, WordsFault}
 use Rattle.protoref_words.specs.declared.request.WordsFault.TheVariants as fault
 
 marked_more : (xs : List Text) (w : Text) → marked (xs ++ w ∷ []) ≡ marked xs ++ marks (length xs) w

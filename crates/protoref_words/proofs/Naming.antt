@@ -1,17 +1,11 @@
 -- Rules by their identifiers.
-use Rattle.std.proofs.Common.{◌≡◌, ◌≢◌, ◌↔◌, ◌∙◌, ℕ, zero, suc, ◌+◌, ◌<◌, Bool, true, false, ◌&&◌, ◌||◌, List, [], ◌∷◌, ◌++◌, take, length, slice_index_or, Some, None, Bor, refl, sym, ap, ap₂, subst, arith}
-use Rattle.std.specs.List.{list_all, list_any}
-use Rattle.std.specs.Str.{bytes_eq}
-use Rattle.std.proofs.lemmas.List.{map-append, take_more}
-use Rattle.std.proofs.lemmas.List.Folds.{list_all-append, list_any-append}
-use Rattle.std.proofs.lemmas.Slice.Eq.{bytes_eq-Decides}
+use Rattle.std.proofs.Common.{◌≡◌, ◌≢◌, ◌↔◌, ◌∙◌, ℕ, zero, suc, ◌+◌, ◌<◌, Bool, true, false, ◌&&◌, ◌||◌, List, [], ◌∷◌, ◌++◌, take, length, slice_index_or, Some, None, Bor, refl, sym, ap, ap₂, subst, arith, bytes_eq}
+use Rattle.proto_faults.proofs.Common.{list_all, list_any, map-append, take_more, list_all-append, list_any-append, bytes_eq-Decides, Text}
 use Rattle.clap.specs.Walk.{texts}
-use Rattle.proto_faults.specs.Texts.{Text}
 use Rattle.proto_rules.specs.Rules.{identifier, is_chosen}
 use Rattle.proto_rules.specs.declared.rule.Rule.{Rule}
 use Rattle.proto_rules.specs.declared.rule.Rule.TheVariants as rule
-use Rattle.protoref_words.specs.CommandLines.{names_rule, rules}
-use Rattle.protoref_words.specs.Requests.{name_rule}
+use Rattle.protoref_words.specs.Common.{names_rule, rules, name_rule}
 
 known_identifier : (r : Rule) → names_rule (identifier r) ≡ true
 known_identifier rule.DirectorySamePackage = refl

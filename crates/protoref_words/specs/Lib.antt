@@ -1,4 +1,5 @@
 pub mod CommandLines
+pub mod Common
 pub mod Marked
 pub mod Matched
 pub mod Program

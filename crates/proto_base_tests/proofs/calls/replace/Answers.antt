@@ -1,9 +1,5 @@
-use Rattle.std.proofs.Common.{◌≡◌, ◌<◌, ◌∙◌, List, ap, get_or, length, map, rules, subst, sym}
-use Rattle.std.specs.Prelude.{Option, String}
-use Rattle.std.specs.Global.{Global}
-use Rattle.std.specs.String.{string_bytes}
-use Rattle.proto_store.specs.Stores.{Held, IsListed, ListsPaths}
-use Rattle.proto_store.proofs.PathOrder.{listed_string}
+use Rattle.std.proofs.Common.{◌≡◌, ◌<◌, ◌∙◌, List, ap, get_or, length, map, rules, subst, sym, Option, String, Global, string_bytes}
+use Rattle.proto_store.proofs.Common.{Held, IsListed, ListsPaths, listed_string}
 use Rattle.proto_base_tests.proofs.calls.replace.Goals as goal
 
 pub replace-requires-clause-listed : goal.replace-requires-clause-listed

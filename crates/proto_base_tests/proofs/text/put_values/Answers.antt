@@ -1,6 +1,5 @@
 use Rattle.std.proofs.Common.{sym, subst}
-use Rattle.proto_text.specs.Tokens.{AreTokens}
-use Rattle.proto_text.proofs.Order.{text_token_is_string}
+use Rattle.proto_text.proofs.Common.{AreTokens, text_token_is_string}
 use Rattle.proto_base_tests.proofs.text.put_values.Goals as goal
 
 pub string_value-requires : goal.string_value-requires

@@ -4,9 +4,7 @@ use Rattle.proto_tree.specs.declared.tree.EnumItem.{EnumItem}
 use Rattle.proto_tree.specs.File.{enum_item_tree, trees}
 use Rattle.proto_parts.specs.Parts.{statements}
 use Rattle.proto_rules.specs.declared.rule.Rule.TheVariants as rule
-use Rattle.proto_findings.specs.Placed.{Found, Named, found_at}
-use Rattle.proto_findings.specs.Readings.{reading_of}
-use Rattle.proto_findings.specs.Views.{found_of}
+use Rattle.proto_findings.proofs.Common.{Found, Named, found_at, reading_of, found_of}
 use Rattle.proto_block_rules.specs.NameRules.{allowed_alias}
 use Rattle.proto_faults.proofs.Turns.{all_listed, listed_turn}
 use Rattle.proto_block_rules.proofs.JoinedTrees.{placed_of_statements}

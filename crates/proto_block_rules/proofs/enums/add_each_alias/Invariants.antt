@@ -2,9 +2,7 @@ use Rattle.std.proofs.Common.{◌≡◌, ◌++◌, drop, map, flat_map}
 use Rattle.proto_tree.specs.File.{enum_item_tree, trees}
 use Rattle.proto_parts.specs.Parts.{statements}
 use Rattle.proto_rules.specs.declared.rule.Rule.TheVariants as rule
-use Rattle.proto_findings.specs.Placed.{found_at}
-use Rattle.proto_findings.specs.Readings.{reading_of}
-use Rattle.proto_findings.specs.Views.{found_of}
+use Rattle.proto_findings.proofs.Common.{found_at, reading_of, found_of}
 use Rattle.proto_block_rules.specs.NameRules.{allowed_alias}
 use Rattle.proto_block_rules.proofs.enums.add_each_alias.Given as goal
 

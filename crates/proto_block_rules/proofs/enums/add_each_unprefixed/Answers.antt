@@ -1,13 +1,10 @@
-use Rattle.std.proofs.Common.{List, ◌++◌, map, flat_map}
-use Rattle.std.specs.Prelude.{nat_eq}
+use Rattle.std.proofs.Common.{List, ◌++◌, map, flat_map, nat_eq}
 use Rattle.std.specs.List.{starts_with}
 use Rattle.proto_tree.specs.declared.tree.Value.{Value}
 use Rattle.proto_tree.specs.File.{enum_item_tree, trees}
 use Rattle.proto_parts.specs.Parts.{values_in}
 use Rattle.proto_rules.specs.declared.rule.Rule.TheVariants as rule
-use Rattle.proto_findings.specs.Placed.{Named, found_at, unless_word}
-use Rattle.proto_findings.specs.Readings.{reading_of}
-use Rattle.proto_findings.specs.Views.{found_of}
+use Rattle.proto_findings.proofs.Common.{Named, found_at, unless_word, reading_of, found_of}
 use Rattle.proto_block_rules.proofs.EnumItems.{values_turn}
 use Rattle.proto_block_rules.proofs.enums.add_each_unprefixed.Goals as goal
 

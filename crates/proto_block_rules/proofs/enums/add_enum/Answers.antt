@@ -5,9 +5,7 @@ use Rattle.proto_tree.specs.File.{enum_item_tree, trees}
 use Rattle.proto_case.specs.Cases.{is_pascal}
 use Rattle.proto_rules.specs.declared.rule.Rule.TheVariants as rule
 use Rattle.proto_meaning.specs.Forest.{under}
-use Rattle.proto_findings.specs.Placed.{Found, found_by, unless}
-use Rattle.proto_findings.specs.Readings.{reading_of, text}
-use Rattle.proto_findings.specs.Views.{found_of}
+use Rattle.proto_findings.proofs.Common.{Found, found_by, unless, reading_of, text, found_of}
 use Rattle.proto_block_rules.specs.NameRules.{enum_first_value_zero, enum_no_allow_alias, enum_value_prefix, enum_value_upper_snake_case, enum_zero_value_suffix}
 use Rattle.proto_block_rules.proofs.Steps.{by_equal, six}
 use Rattle.proto_block_rules.proofs.enums.add_enum.Goals as goal

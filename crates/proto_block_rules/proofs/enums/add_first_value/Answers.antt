@@ -1,13 +1,9 @@
-use Rattle.std.proofs.Common.{◌≡◌, Bool, ◌++◌, List, get_or, map, sym, ap, subst, ◌∙◌}
-use Rattle.std.specs.Result.{OnOk}
-use Rattle.std.proofs.lemmas.List.{append-nil}
+use Rattle.std.proofs.Common.{◌≡◌, Bool, ◌++◌, List, get_or, map, sym, ap, subst, ◌∙◌, OnOk, append-nil}
 use Rattle.proto_tree.specs.declared.tree.EnumItem.{EnumItem}
 use Rattle.proto_findings.specs.declared.found.Found.{Found as FoundAt}
 use Rattle.proto_rules.specs.declared.rule.Rule.TheVariants as rule
 use Rattle.proto_meaning.specs.Forest.{under}
-use Rattle.proto_findings.specs.Placed.{Found, found_at, unless}
-use Rattle.proto_findings.specs.Readings.{reading_of, text}
-use Rattle.proto_findings.specs.Views.{found_of}
+use Rattle.proto_findings.proofs.Common.{Found, found_at, unless, reading_of, text, found_of}
 use Rattle.proto_block_rules.proofs.EnumItems.{first_found, first_there, none_found, none_left}
 use Rattle.proto_block_rules.proofs.enums.add_first_value.Goals as goal
 

@@ -1,12 +1,9 @@
-use Rattle.std.proofs.Common.{◌≡◌, ◌++◌, ◌||◌, drop, map, flat_map}
-use Rattle.std.specs.Prelude.{not, nat_eq, codes}
+use Rattle.std.proofs.Common.{◌≡◌, ◌++◌, ◌||◌, drop, map, flat_map, not, nat_eq, codes}
 use Rattle.std.specs.List.{ends_with}
 use Rattle.proto_tree.specs.File.{enum_item_tree, trees}
 use Rattle.proto_parts.specs.Parts.{values_in}
 use Rattle.proto_rules.specs.declared.rule.Rule.TheVariants as rule
-use Rattle.proto_findings.specs.Placed.{found_at, unless_word}
-use Rattle.proto_findings.specs.Readings.{reading_of}
-use Rattle.proto_findings.specs.Views.{found_of}
+use Rattle.proto_findings.proofs.Common.{found_at, unless_word, reading_of, found_of}
 use Rattle.proto_block_rules.specs.NameRules.{is_zero}
 use Rattle.proto_block_rules.proofs.enums.add_zero_suffixes.Given as goal
 

@@ -1,15 +1,11 @@
 use Rattle.std.proofs.Common.{Bool, List, ◌++◌, map, flat_map, refl, ap, ◌∙◌}
-use Rattle.std.proofs.lemmas.List.{map-append}
+use Rattle.proto_faults.proofs.Common.{map-append, all_listed, listed_turn}
 use Rattle.proto_parts.specs.declared.fields.FieldAt.{FieldAt}
-use Rattle.proto_parts.specs.Parts.{FieldOf}
-use Rattle.proto_parts.specs.Views.{field_of}
+use Rattle.proto_parts.proofs.Common.{FieldOf, field_of}
 use Rattle.proto_case.specs.Cases.{is_lower_snake}
 use Rattle.proto_rules.specs.declared.rule.Rule.TheVariants as rule
 use Rattle.proto_meaning.specs.Forest.{under}
-use Rattle.proto_findings.specs.Placed.{Found, Named, found_at, unless, unless_word}
-use Rattle.proto_findings.specs.Readings.{reading_of, text}
-use Rattle.proto_findings.specs.Views.{found_of}
-use Rattle.proto_faults.proofs.Turns.{all_listed, listed_turn}
+use Rattle.proto_findings.proofs.Common.{Found, Named, found_at, unless, unless_word, reading_of, text, found_of}
 use Rattle.proto_block_rules.proofs.messages.add_each_field.Goals as goal
 
 abbrev told : (Named → Found) → (FieldOf → List Named) → List FieldAt → List Found

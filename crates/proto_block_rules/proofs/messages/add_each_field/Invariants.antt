@@ -2,9 +2,7 @@ use Rattle.std.proofs.Common.{◌≡◌, ◌++◌, drop, map, flat_map}
 use Rattle.proto_parts.specs.Views.{field_of}
 use Rattle.proto_case.specs.Cases.{is_lower_snake}
 use Rattle.proto_rules.specs.declared.rule.Rule.TheVariants as rule
-use Rattle.proto_findings.specs.Placed.{found_at, unless_word}
-use Rattle.proto_findings.specs.Readings.{reading_of}
-use Rattle.proto_findings.specs.Views.{found_of}
+use Rattle.proto_findings.proofs.Common.{found_at, unless_word, reading_of, found_of}
 use Rattle.proto_block_rules.proofs.messages.add_each_field.Given as goal
 
 abbrev pub invariant-loop-field : goal.invariant-loop-field

@@ -1,12 +1,9 @@
-use Rattle.std.proofs.Common.{◌≡◌, Bool, true, false, List, map, sym, ap, ◌∙◌}
-use Rattle.std.specs.Prelude.{not, ◌||◌, codes, is_some}
+use Rattle.std.proofs.Common.{◌≡◌, Bool, true, false, List, map, sym, ap, ◌∙◌, not, ◌||◌, codes, is_some}
 use Rattle.std.proofs.lemmas.Result.{on_ok_weaker}
 use Rattle.proto_case.specs.Cases.{is_pascal}
 use Rattle.proto_rules.specs.declared.rule.Rule.{Rule}
 use Rattle.proto_rules.specs.declared.rule.Rule.TheVariants as rule
-use Rattle.proto_findings.specs.Placed.{Found, found_by}
-use Rattle.proto_findings.specs.Readings.{reading_of, text}
-use Rattle.proto_findings.specs.Views.{found_of}
+use Rattle.proto_findings.proofs.Common.{Found, found_by, reading_of, text, found_of}
 use Rattle.proto_block_rules.specs.Methods.{is_shared, is_standard, method_unless, type_meant}
 use Rattle.proto_block_rules.proofs.Steps.{by_equal, six}
 use Rattle.proto_block_rules.proofs.methods.add_method.Goals as goal

@@ -1,6 +1,5 @@
 use Rattle.std.proofs.Common.{◌++◌, ◌∙◌, Some, None}
-use Rattle.std.proofs.lemmas.Bool.Decides.{Decides-eqb}
-use Rattle.std.proofs.lemmas.Slice.Eq.{strip_prefix_is}
+use Rattle.proto_faults.proofs.Common.{Decides-eqb, strip_prefix_is}
 use Rattle.proto_block_rules.proofs.Joins.{joins_behind, joins_not}
 use Rattle.proto_block_rules.proofs.methods.is_joined_of_three.Goals as goal
 

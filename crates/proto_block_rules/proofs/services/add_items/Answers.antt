@@ -2,9 +2,7 @@ use Rattle.std.proofs.Common.{List, ◌++◌, map, flat_map, refl}
 use Rattle.proto_tree.specs.declared.tree.ServiceItem.{ServiceItem}
 use Rattle.proto_tree.specs.declared.tree.Signature.{Signature}
 use Rattle.proto_tree.specs.File.{service_item_tree, trees}
-use Rattle.proto_findings.specs.Placed.{Found}
-use Rattle.proto_findings.specs.Readings.{reading_of}
-use Rattle.proto_findings.specs.Views.{found_of}
+use Rattle.proto_findings.proofs.Common.{Found, reading_of, found_of}
 use Rattle.proto_block_rules.specs.Methods.{method_finds, signatures_in}
 use Rattle.proto_faults.proofs.Turns.{all_listed, listed_turn}
 use Rattle.proto_block_rules.proofs.JoinedTrees.{of_signatures}

@@ -1,7 +1,6 @@
 use Rattle.std.proofs.Common.{◌≡◌, ◌++◌, drop, map, flat_map}
 use Rattle.proto_tree.specs.File.{service_item_tree, trees}
-use Rattle.proto_findings.specs.Readings.{reading_of}
-use Rattle.proto_findings.specs.Views.{found_of}
+use Rattle.proto_findings.proofs.Common.{reading_of, found_of}
 use Rattle.proto_block_rules.specs.Methods.{method_finds, signatures_in}
 use Rattle.proto_block_rules.proofs.services.add_items.Given as goal
 

@@ -1,5 +1,4 @@
-use Rattle.std.specs.Prelude.{codes}
-use Rattle.std.proofs.lemmas.Str.Pattern.{ends_text}
+use Rattle.proto_faults.proofs.Common.{codes, ends_text}
 use Rattle.proto_block_rules.proofs.services.has_service_suffix.Goals as goal
 
 pub returns : goal.returns

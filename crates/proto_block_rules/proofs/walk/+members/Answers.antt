@@ -1,14 +1,10 @@
 use Rattle.std.proofs.Common.{ℕ, ◌++◌, List, map, ◌∙◌, refl, ap, sym, arith}
-use Rattle.std.proofs.lemmas.Result.{on_ok_weaker}
+use Rattle.proto_faults.proofs.Common.{on_ok_weaker, all_listed, listed_turn}
 use Rattle.proto_tree.specs.declared.tree.Member.{Member}
-use Rattle.proto_tree.specs.File.{member_tree, trees}
-use Rattle.proto_tree.proofs.Nodes.{member_tree-Enum, member_tree-Oneof}
-use Rattle.proto_findings.specs.Placed.{Found}
-use Rattle.proto_findings.specs.Views.{found_of}
-use Rattle.proto_block_rules.specs.declared.walk.Walk.{Walk}
-use Rattle.proto_block_rules.specs.Walks.{walk_finds}
+use Rattle.proto_tree.proofs.Common.{member_tree, trees, member_tree-Enum, member_tree-Oneof}
+use Rattle.proto_findings.proofs.Common.{Found, found_of}
+use Rattle.proto_block_rules.specs.Common.{Walk, walk_finds}
 use Rattle.proto_block_rules.proofs.BlockTrees.{finds_of_enum, finds_of_items, finds_of_oneof}
-use Rattle.proto_faults.proofs.Turns.{all_listed, listed_turn}
 use Rattle.proto_block_rules.proofs.walk.+members.Goals as goal
 
 abbrev told : Walk → List ℕ → List Member → List Found

@@ -1,10 +1,8 @@
 use Rattle.std.proofs.Common.{ℕ, List, ◌++◌, map, ◌∙◌, ap, refl}
 use Rattle.proto_tree.specs.declared.tree.Item.{Item}
 use Rattle.proto_tree.specs.File.{item_tree, tree_of_file, trees}
-use Rattle.proto_findings.specs.Placed.{Found}
-use Rattle.proto_findings.specs.Views.{found_of}
-use Rattle.proto_block_rules.specs.declared.walk.Walk.{Walk}
-use Rattle.proto_block_rules.specs.Walks.{walk_finds}
+use Rattle.proto_findings.proofs.Common.{Found, found_of}
+use Rattle.proto_block_rules.specs.Common.{Walk, walk_finds}
 use Rattle.proto_block_rules.proofs.BlockTrees.{finds_of_items}
 use Rattle.proto_faults.proofs.Turns.{all_listed, listed_turn}
 use Rattle.proto_block_rules.proofs.walk.add_blocks.Goals as goal

@@ -1,8 +1,6 @@
-use Rattle.std.proofs.Common.{◌≡◌, length, map, not, subst, sym, ap, ◌∙◌, string_bytes, IfOk}
-use Rattle.std.specs.Prelude.{◌==◌}
+use Rattle.std.proofs.Common.{◌≡◌, length, map, not, subst, sym, ap, ◌∙◌, string_bytes, IfOk, ◌==◌}
 use Rattle.proto_text.specs.Texts.{word_at}
-use Rattle.proto_captures.specs.Capturing.{bytes_before}
-use Rattle.proto_captures.specs.NewTexts.{texts_of}
+use Rattle.proto_captures.specs.Common.{bytes_before, texts_of}
 use Rattle.proto_captures.proofs.UsesByTexts.{captures_is, cons_is}
 use Rattle.proto_captures.proofs.capturing.is_captured.Goals as goal
 

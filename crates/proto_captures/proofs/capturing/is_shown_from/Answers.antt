@@ -1,9 +1,7 @@
 use Rattle.std.proofs.Common.{ℕ, List, Bool, ◌&&◌, nat_le, length, map, sym, ap, ◌∙◌, string_bytes, arith}
 use Rattle.std.proofs.lemmas.List.{at_drop_all}
 use Rattle.proto_meaning.specs.Forest.{under}
-use Rattle.proto_captures.specs.Capturing.{shown_from}
-use Rattle.proto_captures.specs.NewTexts.{texts_of}
-use Rattle.proto_captures.specs.ShownTexts.{shown_below}
+use Rattle.proto_captures.specs.Common.{shown_from, texts_of, shown_below}
 use Rattle.proto_captures.proofs.UsesByTexts.{not_shown_here, shown_here}
 use Rattle.proto_captures.proofs.capturing.is_shown_from.Goals as goal
 

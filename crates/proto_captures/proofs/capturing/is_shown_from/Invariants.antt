@@ -1,7 +1,5 @@
 use Rattle.std.proofs.Common.{◌≡◌, [], map, drop, string_bytes}
-use Rattle.proto_captures.specs.Capturing.{shown_from}
-use Rattle.proto_captures.specs.NewTexts.{texts_of}
-use Rattle.proto_captures.specs.ShownTexts.{shown_below}
+use Rattle.proto_captures.specs.Common.{shown_from, texts_of, shown_below}
 use Rattle.proto_captures.proofs.capturing.is_shown_from.Given as goal
 
 abbrev pub invariant-loop-part : goal.invariant-loop-part

@@ -1,7 +1,7 @@
 use Rattle.std.proofs.Common.{◌≡◌, ◌↔◌, ◌++◌, List, ℕ, Bor, Option, Some, None, option_map, sym, ap, subst, ◌∙◌, if◌then◌else◌}
 use Rattle.proto_case.specs.Camel.{entry_name}
 use Rattle.proto_imports.specs.Links.{names_of_files, text_of}
-use Rattle.proto_meaning.specs.Edits.{Collides}
+use Rattle.proto_meaning.proofs.Common.{Collides, name_of}
 use Rattle.proto_rename_laws.specs.Targets.{name_map}
 use Rattle.proto_captures.specs.Collisions.{IsOneTaken}
 use Rattle.proto_captures.proofs.Aimed.{spelled_aim}
@@ -9,7 +9,6 @@ use Rattle.proto_captures.proofs.Aims.{aim_inside}
 use Rattle.proto_captures.proofs.IfOks.{if_ok_tests}
 use Rattle.proto_captures.proofs.JoinedNames.{lead}
 use Rattle.proto_captures.proofs.Taken.{collides_aimed}
-use Rattle.proto_meaning.specs.Skeleton.{name_of}
 use Rattle.proto_captures.proofs.collisions.collides.Goals as goal
 
 pub word-own-requires : goal.word-own-requires

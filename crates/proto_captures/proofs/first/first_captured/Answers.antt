@@ -1,7 +1,6 @@
 use Rattle.std.proofs.Common.{◌≡◌, None, subst, inl, inr, arith}
 use Rattle.std.proofs.lemmas.Bool.{cases_lt}
-use Rattle.proto_captures.specs.FirstCaptured.{IsFirstIn}
-use Rattle.proto_captures.specs.NewTexts.{texts_of}
+use Rattle.proto_captures.specs.Common.{IsFirstIn, texts_of}
 use Rattle.proto_captures.proofs.AllFiles.{aim_inside, first_of_all, names_of_aim, none_in_all, nothing, rename_of}
 use Rattle.proto_captures.proofs.first.first_captured.Goals as goal
 

@@ -1,8 +1,7 @@
 use Rattle.std.proofs.Common.{ℕ, ◌<◌, List, None}
 use Rattle.proto_files.specs.FilesRead.{ReadOf, AreRead}
 use Rattle.proto_rename_laws.specs.Targets.{Target}
-use Rattle.proto_captures.specs.Aims.{IsAimedAt}
-use Rattle.proto_captures.specs.FirstCaptured.{IsFirstIn}
+use Rattle.proto_captures.specs.Common.{IsAimedAt, IsFirstIn}
 use Rattle.proto_captures.proofs.first.first_captured.Given as goal
 
 abbrev pub invariant-loop-place : goal.invariant-loop-place

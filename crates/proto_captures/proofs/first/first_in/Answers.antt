@@ -1,11 +1,9 @@
 use Rattle.std.proofs.Common.{sym, ◌∙◌, ap}
 use Rattle.proto_text.specs.Texts.{word_at}
 use Rattle.proto_tree.specs.File.{tree_of_file}
-use Rattle.proto_files.specs.FilesRead.{read_at}
-use Rattle.proto_files.proofs.OneReading.{same_tree}
+use Rattle.proto_files.proofs.Common.{read_at, same_tree}
 use Rattle.proto_listing.specs.FromTree.{file_names}
-use Rattle.proto_captures.specs.FirstCaptured.{captures_by, first_of}
-use Rattle.proto_captures.specs.NewTexts.{texts_of}
+use Rattle.proto_captures.specs.Common.{captures_by, first_of, texts_of}
 use Rattle.proto_captures.proofs.AllFiles.{if_ok}
 use Rattle.proto_captures.proofs.FileCaptures.{first_is}
 use Rattle.proto_captures.proofs.first.first_in.Goals as goal

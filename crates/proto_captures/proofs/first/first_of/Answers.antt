@@ -1,12 +1,7 @@
 use Rattle.std.proofs.Common.{◌≡◌, Some, length, sym, ◌∙◌, ap}
-use Rattle.std.proofs.lemmas.List.{length_push}
-use Rattle.std.proofs.lemmas.Slice.Zip.{zip_end, zip_turn}
-use Rattle.std.specs.Iterator.Adapters.{zip_first, zip_second}
-use Rattle.std.specs.Slice.Iter.{iter_rest}
+use Rattle.proto_faults.proofs.Common.{length_push, zip_end, zip_turn, zip_first, zip_second, iter_rest}
 use Rattle.proto_text.specs.Texts.{word_at}
-use Rattle.proto_captures.specs.Capturing.{captures_use}
-use Rattle.proto_captures.specs.FirstCaptured.{captures_by}
-use Rattle.proto_captures.specs.NewTexts.{texts_of}
+use Rattle.proto_captures.specs.Common.{captures_use, captures_by, texts_of}
 use Rattle.proto_captures.proofs.FirstOnes.{none_behind, passed_over, stops_here}
 use Rattle.proto_captures.proofs.first.first_of.Goals as goal
 

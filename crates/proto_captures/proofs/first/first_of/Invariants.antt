@@ -1,7 +1,6 @@
 use Rattle.std.proofs.Common.{◌≡◌, length, drop}
 use Rattle.proto_text.specs.Texts.{word_at}
-use Rattle.proto_captures.specs.FirstCaptured.{captures_by, first_of}
-use Rattle.proto_captures.specs.NewTexts.{texts_of}
+use Rattle.proto_captures.specs.Common.{captures_by, first_of, texts_of}
 use Rattle.proto_captures.proofs.first.first_of.Given as goal
 
 abbrev pub invariant-loop-used : goal.invariant-loop-used

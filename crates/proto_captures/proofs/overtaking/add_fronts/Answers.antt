@@ -1,7 +1,5 @@
-use Rattle.std.proofs.Common.{◌∙◌, true, ap, cond, string_bytes}
-use Rattle.std.proofs.lemmas.Map.Text.{hash_set_updates_text}
-use Rattle.std.specs.HashSet.{contains_text}
-use Rattle.std.specs.Str.{bytes_eq}
+use Rattle.std.proofs.Common.{◌∙◌, true, ap, cond, string_bytes, bytes_eq}
+use Rattle.proto_faults.proofs.Common.{hash_set_updates_text, contains_text}
 use Rattle.proto_meaning.specs.Forest.{under}
 use Rattle.proto_text.specs.Texts.{word_at}
 use Rattle.proto_captures.proofs.PackageSets.{one_front}

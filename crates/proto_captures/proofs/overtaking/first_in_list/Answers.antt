@@ -1,9 +1,5 @@
 use Rattle.std.proofs.Common.{◌≡◌, Some, length, sym, ◌∙◌, ap}
-use Rattle.std.proofs.lemmas.List.{length_push}
-use Rattle.std.proofs.lemmas.Slice.Zip.{zip_end, zip_turn}
-use Rattle.std.specs.HashSet.{contains_text}
-use Rattle.std.specs.Iterator.Adapters.{zip_first, zip_second}
-use Rattle.std.specs.Slice.Iter.{iter_rest}
+use Rattle.proto_faults.proofs.Common.{length_push, zip_end, zip_turn, contains_text, zip_first, zip_second, iter_rest}
 use Rattle.proto_text.specs.Texts.{word_at}
 use Rattle.proto_captures.specs.Overtaking.{overtakes_by, overtakes_use}
 use Rattle.proto_captures.proofs.FirstOnes.{none_behind, passed_over, stops_here}

@@ -1,8 +1,7 @@
 use Rattle.std.proofs.Common.{◌≡◌, length, drop}
 use Rattle.std.specs.HashSet.{contains_text}
 use Rattle.proto_text.specs.Texts.{word_at}
-use Rattle.proto_captures.specs.FirstCaptured.{first_of}
-use Rattle.proto_captures.specs.Overtaking.{overtakes_by}
+use Rattle.proto_captures.specs.Common.{first_of, overtakes_by}
 use Rattle.proto_captures.proofs.overtaking.first_in_list.Given as goal
 
 abbrev pub invariant-loop-used : goal.invariant-loop-used

@@ -2,11 +2,9 @@ use Rattle.std.proofs.Common.{sym, ◌∙◌, ap}
 use Rattle.std.specs.HashSet.{contains_text}
 use Rattle.proto_text.specs.Texts.{word_at}
 use Rattle.proto_tree.specs.File.{tree_of_file}
-use Rattle.proto_files.specs.FilesRead.{read_at}
-use Rattle.proto_files.proofs.OneReading.{same_tree}
+use Rattle.proto_files.proofs.Common.{read_at, same_tree}
 use Rattle.proto_listing.specs.FromTree.{file_names}
-use Rattle.proto_captures.specs.FirstCaptured.{first_of}
-use Rattle.proto_captures.specs.Overtaking.{overtakes_by}
+use Rattle.proto_captures.specs.Common.{first_of, overtakes_by}
 use Rattle.proto_captures.proofs.AllFiles.{if_ok}
 use Rattle.proto_captures.proofs.FileOvertaken.{first_is}
 use Rattle.proto_captures.proofs.overtaking.first_overtaken.Goals as goal

@@ -1,5 +1,4 @@
-use Rattle.std.proofs.Common.{◌≡◌, length, map, not, subst, sym, ap, ◌∙◌, string_bytes, IfOk}
-use Rattle.std.specs.Prelude.{◌==◌}
+use Rattle.std.proofs.Common.{◌≡◌, length, map, not, subst, sym, ap, ◌∙◌, string_bytes, IfOk, ◌==◌}
 use Rattle.std.specs.HashSet.{contains_text}
 use Rattle.proto_text.specs.Texts.{word_at}
 use Rattle.proto_captures.specs.Capturing.{bytes_before}

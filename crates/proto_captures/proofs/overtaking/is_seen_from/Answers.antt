@@ -1,10 +1,7 @@
 use Rattle.std.proofs.Common.{ℕ, List, Bool, ◌&&◌, nat_le, length, map, sym, ap, ◌∙◌, string_bytes, arith}
-use Rattle.std.proofs.lemmas.List.{at_drop_all}
-use Rattle.std.specs.HashSet.{contains_text}
-use Rattle.proto_meaning.specs.Forest.{under}
-use Rattle.proto_captures.specs.Capturing.{shown_from}
-use Rattle.proto_captures.specs.Overtaking.{sees_text}
-use Rattle.proto_meaning.specs.Joined.{below}
+use Rattle.proto_faults.proofs.Common.{at_drop_all, contains_text}
+use Rattle.proto_meaning.proofs.Common.{under, below}
+use Rattle.proto_captures.specs.Common.{shown_from, sees_text}
 use Rattle.proto_captures.proofs.UsesByTexts.{not_shown_here, shown_here}
 use Rattle.proto_captures.proofs.overtaking.is_seen_from.Goals as goal
 

@@ -1,7 +1,6 @@
 use Rattle.std.proofs.Common.{◌≡◌, [], map, drop, string_bytes}
 use Rattle.std.specs.HashSet.{contains_text}
-use Rattle.proto_captures.specs.Capturing.{shown_from}
-use Rattle.proto_captures.specs.Overtaking.{sees_text}
+use Rattle.proto_captures.specs.Common.{shown_from, sees_text}
 use Rattle.proto_meaning.specs.Joined.{below}
 use Rattle.proto_captures.proofs.overtaking.is_seen_from.Given as goal
 

@@ -2,8 +2,7 @@ use Rattle.std.proofs.Common.{◌∙◌, ◌||◌, [], ap, map, subst, sym, ◌�
 use Rattle.std.specs.HashSet.{contains_text}
 use Rattle.proto_text.specs.Texts.{word_at}
 use Rattle.proto_tree.specs.File.{tree_of_file}
-use Rattle.proto_files.specs.FilesRead.{read_at}
-use Rattle.proto_files.proofs.OneReading.{same_tree}
+use Rattle.proto_files.proofs.Common.{read_at, same_tree}
 use Rattle.proto_listing.specs.FromTree.{items_in}
 use Rattle.proto_meaning.specs.Tree.{package_of}
 use Rattle.proto_captures.specs.Overtaking.{fronts_from}

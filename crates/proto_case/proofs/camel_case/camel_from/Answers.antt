@@ -1,8 +1,5 @@
-use Rattle.std.proofs.Common.{◌≡◌, ℕ, List, [], ◌∷◌, length, refl, sym, ◌∙◌, if◌then◌else◌, arith}
-use Rattle.std.specs.Char.{to_ascii_uppercase}
-use Rattle.std.specs.Str.Iter.{chars_rest}
-use Rattle.std.specs.String.{string_bytes}
-use Rattle.std.proofs.lemmas.Bool.{cond-true, cond-false}
+use Rattle.std.proofs.Common.{◌≡◌, ℕ, List, [], ◌∷◌, length, refl, sym, ◌∙◌, if◌then◌else◌, arith, string_bytes}
+use Rattle.proto_faults.proofs.Common.{to_ascii_uppercase, chars_rest, cond-true, cond-false}
 use Rattle.proto_case.specs.Camel.{camel_from}
 use Rattle.proto_case.proofs.Camel.{letter_step, letter_end, line_step}
 use Rattle.proto_case.proofs.camel_case.camel_from.Goals.{then-up, else-up}

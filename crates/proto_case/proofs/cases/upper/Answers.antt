@@ -1,8 +1,5 @@
-use Rattle.std.proofs.Common.{◌≡◌, List, ℕ, [], ◌∷◌, ◌++◌, true, false, ap, sym, ◌∙◌, if◌then◌else◌, arith}
-use Rattle.std.specs.Str.Iter.{chars_rest}
-use Rattle.std.specs.String.{string_bytes}
-use Rattle.std.proofs.lemmas.List.{append-nil}
-use Rattle.std.proofs.lemmas.Str.{encode_ascii}
+use Rattle.std.proofs.Common.{◌≡◌, List, ℕ, [], ◌∷◌, ◌++◌, true, false, ap, sym, ◌∙◌, if◌then◌else◌, arith, string_bytes, append-nil}
+use Rattle.proto_faults.proofs.Common.{chars_rest, encode_ascii}
 use lib.Utf8.{encode}
 use Rattle.proto_case.specs.Cases.{begins_word, upper}
 use Rattle.proto_case.proofs.Uppers.{letter_step}

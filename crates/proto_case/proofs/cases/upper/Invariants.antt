@@ -1,6 +1,5 @@
-use Rattle.std.proofs.Common.{◌≡◌, ◌++◌}
+use Rattle.std.proofs.Common.{◌≡◌, ◌++◌, string_bytes}
 use Rattle.std.specs.Str.Iter.{chars_rest}
-use Rattle.std.specs.String.{string_bytes}
 use Rattle.proto_case.specs.Cases.{upper, upper_behind}
 use Rattle.proto_case.proofs.cases.upper.Given as goal
 

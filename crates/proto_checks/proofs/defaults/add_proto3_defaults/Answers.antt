@@ -1,9 +1,6 @@
 use Rattle.std.proofs.Common.{◌≡◌, ◌++◌, ◌&&◌, Bool, List, flat_map, codes, ap, ◌∙◌, rules}
 use Rattle.proto_faults.specs.declared.fault.FaultKind.TheVariants as kind
-use Rattle.proto_parts.specs.Options.{is_named}
-use Rattle.proto_parts.specs.Parts.{OptionOf}
-use Rattle.proto_parts.specs.Scenes.{text}
-use Rattle.proto_parts.specs.Views.{option_of}
+use Rattle.proto_parts.proofs.Common.{is_named, OptionOf, text, option_of}
 use Rattle.proto_numbers.specs.Flaws.{flaw_if}
 use Rattle.proto_faults.proofs.Turns.{and_then, and_else, seen_more, seen_all}
 use Rattle.proto_checks.proofs.defaults.add_proto3_defaults.Goals.{then-is_proto3, else-is_proto3}

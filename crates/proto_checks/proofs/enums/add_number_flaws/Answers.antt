@@ -2,13 +2,11 @@ use Rattle.std.proofs.Common.{◌≡◌, List, [], if◌then◌else◌, ◌++◌
 use Rattle.std.proofs.lemmas.Result.{on_ok_weaker}
 use Rattle.proto_faults.specs.declared.fault.FaultKind.TheVariants as kind
 use Rattle.proto_tree.specs.File.{trees, enum_item_tree}
-use Rattle.proto_parts.specs.Parts.{OptionOf, enum_ranges, statements}
+use Rattle.proto_parts.proofs.Common.{OptionOf, enum_ranges, statements, option_of}
 use Rattle.proto_numbers.specs.declared.numbers.NumberAt.{NumberAt}
 use Rattle.proto_parts.specs.declared.ranges.RangeAt.{RangeAt}
-use Rattle.proto_numbers.specs.Flaws.{marked}
-use Rattle.proto_numbers.specs.NumberFlaws.{broken_ranges, enum_range_of, is_value_number, least_value, most_value, number_of_value, outside, overlaps, repeated_numbers, reserved_numbers}
+use Rattle.proto_numbers.proofs.Common.{marked, broken_ranges, enum_range_of, is_value_number, least_value, most_value, number_of_value, outside, overlaps, repeated_numbers, reserved_numbers}
 use Rattle.proto_checks.specs.FileFlaws.{allows_alias, first_value_flaws}
-use Rattle.proto_parts.specs.Views.{option_of}
 use Rattle.proto_checks.proofs.enums.add_number_flaws.Goals as goal
 
 pub returns : goal.returns

@@ -1,11 +1,6 @@
 use Rattle.std.proofs.Common.{◌∙◌, sym, ◌&&◌, codes, rules, tests}
-use Rattle.std.proofs.lemmas.Iterator.{YieldsList-from_slice}
-use Rattle.std.proofs.lemmas.Iterator.Search.{any_from_yields_List}
-use Rattle.proto_parts.specs.Options.{is_named, truth_of, is_true}
-use Rattle.proto_parts.specs.Parts.{OptionOf}
-use Rattle.proto_parts.specs.Scenes.{text}
-use Rattle.proto_parts.specs.Views.{option_of}
-use Rattle.proto_faults.proofs.Lists.{any_map}
+use Rattle.proto_faults.proofs.Common.{YieldsList-from_slice, any_from_yields_List, any_map}
+use Rattle.proto_parts.proofs.Common.{is_named, truth_of, is_true, OptionOf, text, option_of}
 use Rattle.proto_checks.proofs.enums.allows_alias.Goals as goal
 
 pub returns : goal.returns

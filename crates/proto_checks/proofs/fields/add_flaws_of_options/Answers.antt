@@ -1,10 +1,8 @@
 use Rattle.std.proofs.Common.{List, ◌++◌, map, ap, ◌∙◌}
-use Rattle.std.proofs.lemmas.Result.{on_ok_weaker}
-use Rattle.proto_parts.specs.Parts.{OptionOf}
-use Rattle.proto_parts.specs.Views.{field_of, option_of}
+use Rattle.proto_faults.proofs.Common.{on_ok_weaker, then_added}
+use Rattle.proto_parts.proofs.Common.{OptionOf, field_of, option_of}
 use Rattle.proto_parts.specs.declared.options.Element.TheVariants as element
 use Rattle.proto_checks.specs.FieldFlaws.{default_flaws, option_flaws, packed_flaws, proto3_defaults}
-use Rattle.proto_faults.proofs.Turns.{then_added}
 use Rattle.proto_checks.proofs.fields.add_flaws_of_options.Goals as goal
 
 pub returns : goal.returns

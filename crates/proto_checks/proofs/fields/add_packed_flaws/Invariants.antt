@@ -1,9 +1,6 @@
-use Rattle.std.proofs.Common.{◌≡◌, ◌++◌, map, take, codes}
-use Rattle.std.specs.Prelude.{flat_map, ◌&&◌, not}
+use Rattle.std.proofs.Common.{◌≡◌, ◌++◌, map, take, codes, flat_map, ◌&&◌, not}
 use Rattle.proto_faults.specs.declared.fault.FaultKind.TheVariants as kind
-use Rattle.proto_parts.specs.Options.{is_named}
-use Rattle.proto_parts.specs.Scenes.{text}
-use Rattle.proto_parts.specs.Views.{field_of, option_of}
+use Rattle.proto_parts.proofs.Common.{is_named, text, field_of, option_of}
 use Rattle.proto_numbers.specs.Flaws.{flaw_if}
 use Rattle.proto_checks.specs.FieldFlaws.{may_be_packed}
 use Rattle.proto_checks.proofs.fields.add_packed_flaws.Given as goal

@@ -4,12 +4,10 @@ use Rattle.proto_tree.specs.declared.piece.Header.TheVariants as header
 use Rattle.proto_tree.specs.declared.tree.MethodEnd.{MethodEnd}
 use Rattle.proto_tree.specs.declared.tree.MethodItem.{MethodItem}
 use Rattle.proto_tree.specs.File.{trees, method_by, method_item_tree}
-use Rattle.proto_parts.specs.Parts.{OptionOf, options_in}
-use Rattle.proto_parts.specs.Views.{option_of}
+use Rattle.proto_parts.proofs.Common.{OptionOf, options_in, option_of}
 use Rattle.proto_parts.specs.declared.options.Element.TheVariants as element
 use Rattle.proto_numbers.specs.declared.flaw.Flaw.{Flaw}
-use Rattle.proto_checks.specs.FieldFlaws.{option_flaws}
-use Rattle.proto_checks.specs.FileFlaws.{flaws_in_blocks}
+use Rattle.proto_checks.specs.Common.{option_flaws, flaws_in_blocks}
 use Rattle.proto_checks.proofs.Blocks.{flaws_of_method}
 use Rattle.proto_checks.proofs.file.add_method.Goals as goal
 

@@ -1,5 +1,4 @@
-use Rattle.std.proofs.Common.{◌++◌, List, flat_map, ◌∙◌, ap, sym, arith}
-use Rattle.std.proofs.lemmas.List.{take_all}
+use Rattle.std.proofs.Common.{◌++◌, List, flat_map, ◌∙◌, ap, sym, arith, take_all}
 use Rattle.proto_tree.specs.declared.tree.ServiceItem.{ServiceItem}
 use Rattle.proto_tree.specs.File.{service_item_tree}
 use Rattle.proto_numbers.specs.declared.flaw.Flaw.{Flaw}

@@ -1,11 +1,8 @@
-use Rattle.std.proofs.Common.{◌≡◌, ℕ, List, [], Bool, ◌++◌, map, ap, ◌∙◌}
-use Rattle.std.specs.Str.{bytes_eq}
-use Rattle.std.specs.String.{string_bytes}
+use Rattle.std.proofs.Common.{◌≡◌, ℕ, List, [], Bool, ◌++◌, map, ap, ◌∙◌, bytes_eq, string_bytes}
 use Rattle.std.proofs.lemmas.Result.{on_ok_weaker}
 use Rattle.proto_faults.specs.declared.fault.FaultKind.TheVariants as kind
-use Rattle.proto_parts.specs.Views.{field_of}
+use Rattle.proto_parts.proofs.Common.{field_of, json_name_of}
 use Rattle.proto_numbers.specs.Flaws.{after_earlier, marked}
-use Rattle.proto_parts.specs.JsonNames.{json_name_of}
 use Rattle.proto_checks.proofs.OptionNames.{earlier_map, flags_length}
 use Rattle.proto_checks.proofs.json_clashes.add_repeated_names.Goals as goal
 

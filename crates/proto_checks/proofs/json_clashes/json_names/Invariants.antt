@@ -1,7 +1,5 @@
-use Rattle.std.proofs.Common.{◌≡◌, take, map}
-use Rattle.std.specs.String.{string_bytes}
-use Rattle.proto_parts.specs.Views.{field_of}
-use Rattle.proto_parts.specs.JsonNames.{json_name_of}
+use Rattle.std.proofs.Common.{◌≡◌, take, map, string_bytes}
+use Rattle.proto_parts.proofs.Common.{field_of, json_name_of}
 use Rattle.proto_checks.proofs.json_clashes.json_names.Given as goal
 
 abbrev pub invariant-loop-field : goal.invariant-loop-field

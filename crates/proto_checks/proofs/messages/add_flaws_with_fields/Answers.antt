@@ -1,13 +1,10 @@
 use Rattle.std.proofs.Common.{List, ◌++◌, map, flat_map, ap, ◌∙◌}
-use Rattle.std.proofs.lemmas.Result.{on_ok_weaker}
+use Rattle.proto_faults.proofs.Common.{on_ok_weaker, then_added}
 use Rattle.proto_tree.specs.File.{trees, member_tree}
-use Rattle.proto_parts.specs.Parts.{FieldOf, closed_ranges, options_in, reserved_names_in, statements}
-use Rattle.proto_parts.specs.Views.{field_of}
+use Rattle.proto_parts.proofs.Common.{FieldOf, closed_ranges, options_in, reserved_names_in, statements, field_of}
 use Rattle.proto_parts.specs.declared.options.Element.TheVariants as element
 use Rattle.proto_numbers.specs.NumberFlaws.{field_number_flaws, number_of_field, range_of}
-use Rattle.proto_checks.specs.FieldFlaws.{field_flaws, option_flaws}
-use Rattle.proto_checks.specs.FileFlaws.{extension_flaws, json_clashes, name_flaws}
-use Rattle.proto_faults.proofs.Turns.{then_added}
+use Rattle.proto_checks.specs.Common.{field_flaws, option_flaws, extension_flaws, json_clashes, name_flaws}
 use Rattle.proto_checks.proofs.messages.add_flaws_with_fields.Goals as goal
 
 pub returns : goal.returns

@@ -1,10 +1,8 @@
-use Rattle.std.proofs.Common.{◌++◌, Bool, get_or, map, refl, ap, ◌∙◌}
-use Rattle.std.specs.List.{list_any}
-use Rattle.std.specs.Str.{bytes_eq}
+use Rattle.std.proofs.Common.{◌++◌, Bool, get_or, map, refl, ap, ◌∙◌, bytes_eq}
+use Rattle.proto_faults.proofs.Common.{list_any, added_more, added_all}
 use Rattle.proto_faults.specs.declared.fault.FaultKind.TheVariants as kind
 use Rattle.proto_parts.specs.Scenes.{text}
 use Rattle.proto_numbers.specs.Flaws.{flaw_if}
-use Rattle.proto_faults.proofs.Turns.{added_more, added_all}
 use Rattle.proto_checks.proofs.names.add_known.Goals as goal
 
 pub loop-name-preserved : goal.loop-name-preserved

@@ -1,6 +1,5 @@
-use Rattle.std.proofs.Common.{◌≡◌, ◌++◌, take, map, flat_map}
+use Rattle.std.proofs.Common.{◌≡◌, ◌++◌, take, map, flat_map, bytes_eq}
 use Rattle.std.specs.List.{list_any}
-use Rattle.std.specs.Str.{bytes_eq}
 use Rattle.proto_faults.specs.declared.fault.FaultKind.TheVariants as kind
 use Rattle.proto_parts.specs.Scenes.{text}
 use Rattle.proto_numbers.specs.Flaws.{flaw_if}

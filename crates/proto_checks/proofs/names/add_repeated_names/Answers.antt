@@ -1,10 +1,7 @@
-use Rattle.std.proofs.Common.{List, [], Bool, ◌++◌, length, ap, sym, ◌∙◌}
-use Rattle.std.specs.Str.{bytes_eq}
-use Rattle.std.specs.String.{string_bytes}
+use Rattle.std.proofs.Common.{List, [], Bool, ◌++◌, length, ap, sym, ◌∙◌, bytes_eq, string_bytes}
 use Rattle.std.proofs.lemmas.Result.{on_ok_weaker}
 use Rattle.proto_faults.specs.declared.fault.FaultKind.TheVariants as kind
-use Rattle.proto_numbers.specs.Flaws.{marked}
-use Rattle.proto_numbers.proofs.FlawLists.{repeats_length}
+use Rattle.proto_numbers.proofs.Common.{marked, repeats_length}
 use Rattle.proto_checks.proofs.OptionNames.{earlier_map}
 use Rattle.proto_checks.proofs.names.add_repeated_names.Goals as goal
 

@@ -1,8 +1,5 @@
-use Rattle.std.proofs.Common.{ℕ, List, Bool, ◌++◌, map, ap, ◌∙◌}
-use Rattle.std.specs.List.{list_any}
-use Rattle.std.specs.Str.{bytes_eq}
-use Rattle.std.specs.String.{string_bytes}
-use Rattle.std.proofs.lemmas.Result.{on_ok_weaker}
+use Rattle.std.proofs.Common.{ℕ, List, Bool, ◌++◌, map, ap, ◌∙◌, bytes_eq, string_bytes}
+use Rattle.proto_faults.proofs.Common.{list_any, on_ok_weaker}
 use Rattle.proto_faults.specs.declared.fault.FaultKind.TheVariants as kind
 use Rattle.proto_parts.specs.Scenes.{text}
 use Rattle.proto_numbers.specs.declared.flaw.Flaw.{Flaw}

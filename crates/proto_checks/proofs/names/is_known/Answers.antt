@@ -1,7 +1,5 @@
-use Rattle.std.proofs.Common.{◌∙◌, List, ℕ, map, ap, sym}
-use Rattle.std.specs.List.{list_any}
-use Rattle.std.specs.Str.{bytes_eq}
-use Rattle.proto_faults.proofs.Lists.{any_map}
+use Rattle.std.proofs.Common.{◌∙◌, List, ℕ, map, ap, sym, bytes_eq}
+use Rattle.proto_faults.proofs.Common.{list_any, any_map}
 use Rattle.proto_checks.proofs.names.is_known.Goals as goal
 
 pub returns : goal.returns

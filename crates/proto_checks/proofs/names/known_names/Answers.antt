@@ -1,8 +1,5 @@
-use Rattle.std.proofs.Common.{ℕ, List, [], ◌∷◌, ◌++◌, take, map, ap, sym, ◌∙◌}
-use Rattle.std.specs.List.{list_any}
-use Rattle.std.specs.Str.{bytes_eq}
-use Rattle.std.specs.String.{string_bytes}
-use Rattle.std.proofs.lemmas.List.{map_more}
+use Rattle.std.proofs.Common.{ℕ, List, [], ◌∷◌, ◌++◌, take, map, ap, sym, ◌∙◌, bytes_eq, string_bytes}
+use Rattle.proto_faults.proofs.Common.{list_any, map_more}
 use Rattle.proto_checks.proofs.KnownNames.{known_more}
 use Rattle.proto_checks.proofs.names.known_names.Goals as goal
 

@@ -1,5 +1,4 @@
-use Rattle.std.proofs.Common.{◌≡◌, take, map}
-use Rattle.std.specs.String.{string_bytes}
+use Rattle.std.proofs.Common.{◌≡◌, take, map, string_bytes}
 use Rattle.proto_parts.specs.Scenes.{value}
 use Rattle.proto_checks.proofs.names.values.Given as goal
 

@@ -1,8 +1,6 @@
 use Rattle.std.proofs.Common.{◌++◌, Bool, not, ap, ◌∙◌}
 use Rattle.proto_faults.specs.declared.fault.FaultKind.TheVariants as kind
-use Rattle.proto_parts.specs.Options.{is_allowed}
-use Rattle.proto_parts.specs.Scenes.{text}
-use Rattle.proto_parts.specs.Views.{option_of}
+use Rattle.proto_parts.proofs.Common.{is_allowed, text, option_of}
 use Rattle.proto_numbers.specs.Flaws.{flaw_if}
 use Rattle.proto_faults.proofs.Turns.{seen_more, seen_all}
 use Rattle.proto_checks.proofs.options.add_misplaced.Goals as goal

@@ -1,13 +1,9 @@
-use Rattle.std.proofs.Common.{◌≡◌, ◌++◌, ℕ, Bool, List, [], ◌∷◌, length, map, OnOk, take, sym, ap, subst, ◌∙◌}
-use Rattle.std.specs.Str.{bytes_eq}
-use Rattle.std.proofs.lemmas.List.{map_push, take_all}
+use Rattle.std.proofs.Common.{◌≡◌, ◌++◌, ℕ, Bool, List, [], ◌∷◌, length, map, OnOk, take, sym, ap, subst, ◌∙◌, bytes_eq, take_all}
+use Rattle.proto_faults.proofs.Common.{map_push, listed_more}
 use Rattle.proto_faults.specs.declared.fault.FaultKind.TheVariants as kind
-use Rattle.proto_parts.specs.Parts.{OptionOf}
-use Rattle.proto_parts.specs.Scenes.{text}
-use Rattle.proto_parts.specs.Views.{option_of}
+use Rattle.proto_parts.proofs.Common.{OptionOf, text, option_of}
 use Rattle.proto_numbers.specs.Flaws.{after_earlier, marked}
 use Rattle.proto_checks.proofs.OptionNames.{earlier_map, flags_length}
-use Rattle.proto_faults.proofs.Turns.{listed_more}
 use Rattle.proto_checks.proofs.options.add_repeated.Goals as goal
 
 pub loop-option-preserved : goal.loop-option-preserved

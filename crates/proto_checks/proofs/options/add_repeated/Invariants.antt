@@ -1,6 +1,5 @@
 use Rattle.std.proofs.Common.{◌≡◌, map, take}
-use Rattle.proto_parts.specs.Scenes.{text}
-use Rattle.proto_parts.specs.Views.{option_of}
+use Rattle.proto_parts.proofs.Common.{text, option_of}
 use Rattle.proto_checks.proofs.options.add_repeated.Given as goal
 
 abbrev pub invariant-loop-option : goal.invariant-loop-option

@@ -1,5 +1,4 @@
-use Rattle.std.proofs.Common.{Some, None, subst}
-use Rattle.std.specs.List.{Contains}
+use Rattle.std.proofs.Common.{Some, None, subst, Contains}
 use Rattle.proto_tree.specs.File.{tree_of_file}
 use Rattle.proto_checks.specs.FileFlaws.{file_flaws}
 use Rattle.proto_numbers.specs.Flaws.{IsLeast}

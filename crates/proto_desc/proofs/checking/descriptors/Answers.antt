@@ -1,7 +1,6 @@
 use Rattle.std.proofs.Common.{◌≡◌, ℕ, ◌<◌, List, [], ◌∷◌, length, length-append, sym, ap, subst, ◌∙◌, arith}
 use Rattle.proto_tree.specs.File.{tree_of_file}
-use Rattle.proto_files.specs.FilesRead.{read_at}
-use Rattle.proto_files.proofs.FilesAreRead.{each_pushed}
+use Rattle.proto_files.proofs.Common.{read_at, each_pushed}
 use Rattle.proto_scenes.specs.Scenes.{IsSceneOf}
 use Rattle.proto_described.specs.Described.{file_described}
 use Rattle.proto_descriptors.specs.Views.{file_desc}

@@ -1,10 +1,8 @@
-use Rattle.std.proofs.Common.{◌≡◌, List, length}
-use Rattle.proto_files.specs.GivenFiles.{file_at}
-use Rattle.proto_files.specs.FilesRead.{Each, ReadOf, AreRead, read_at}
+use Rattle.std.proofs.Common.{◌≡◌, List, length, None}
+use Rattle.proto_files.proofs.Common.{file_at, Each, ReadOf, AreRead, read_at}
 use Rattle.proto_described.specs.Described.{file_described}
 use Rattle.proto_scenes.specs.SceneOf.{scene_of}
 use Rattle.proto_descriptors.specs.Views.{file_desc}
-use Rattle.std.specs.Prelude.{None}
 use Rattle.proto_desc.proofs.checking.descriptors.Given as goal
 
 abbrev pub invariant-loop-file : goal.invariant-loop-file

@@ -1,5 +1,4 @@
-use Rattle.std.proofs.Common.{List, ◌∙◌, subst}
-use Rattle.std.specs.List.{Contains}
+use Rattle.std.proofs.Common.{List, ◌∙◌, subst, Contains}
 use Rattle.proto_numbers.specs.Flaws.{IsLeast}
 use Rattle.proto_numbers.specs.declared.flaw.Flaw.{Flaw}
 use Rattle.proto_desc.proofs.checking.least_flaw.Goals as goal

@@ -1,7 +1,6 @@
 use Rattle.std.proofs.Common.{refl, arith}
 use Rattle.proto_tree.specs.File.{item_tree}
-use Rattle.proto_described.specs.Described.{enums_described}
-use Rattle.proto_described.proofs.Levels.{enums_joined, described_turn, described_none}
+use Rattle.proto_described.proofs.Common.{enums_described, enums_joined, described_turn, described_none}
 use Rattle.proto_desc.proofs.described_items.enum_descriptors.Goals as goal
 
 pub loop-item-preserved : goal.loop-item-preserved

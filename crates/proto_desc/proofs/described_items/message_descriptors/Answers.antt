@@ -1,11 +1,8 @@
-use Rattle.std.proofs.Common.{◌+◌, List, Some, None, drop, sym, ap, ◌∙◌, arith, Vec, Global}
-use Rattle.std.specs.Prelude.{option_to_list}
-use Rattle.std.proofs.lemmas.List.{append-nil}
+use Rattle.std.proofs.Common.{◌+◌, List, Some, None, drop, sym, ap, ◌∙◌, arith, Vec, Global, option_to_list, append-nil}
 use Rattle.proto_tree.specs.File.{trees, item_tree}
-use Rattle.proto_described.specs.Described.{messages_described}
+use Rattle.proto_described.proofs.Common.{messages_described, and_then, described_more, described_all}
 use Rattle.proto_descriptors.specs.Views.{messages_desc}
 use Rattle.proto_descriptors.specs.declared.message.MessageDescriptor.{MessageDescriptor}
-use Rattle.proto_described.proofs.Levels.{and_then, described_more, described_all}
 use Rattle.proto_desc.proofs.described_items.message_descriptors.Goals as goal
 use Rattle.proto_desc.proofs.described_items.message_descriptors.Goals.{in-Some+in_ok-push, in_default}
 

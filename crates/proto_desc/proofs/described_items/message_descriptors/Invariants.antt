@@ -1,8 +1,7 @@
 use Rattle.std.proofs.Common.{◌≡◌, drop}
 use Rattle.proto_tree.specs.File.{trees, item_tree}
-use Rattle.proto_described.specs.Described.{messages_described}
+use Rattle.proto_described.proofs.Common.{messages_described, and_then}
 use Rattle.proto_descriptors.specs.Views.{messages_desc}
-use Rattle.proto_described.proofs.Levels.{and_then}
 use Rattle.proto_desc.proofs.described_items.message_descriptors.Given as goal
 
 abbrev pub invariant-loop-item : goal.invariant-loop-item

@@ -1,9 +1,7 @@
-use Rattle.std.proofs.Common.{◌∙◌, List, ap, map, Bor, arith}
-use Rattle.std.proofs.lemmas.List.{take_all}
+use Rattle.std.proofs.Common.{◌∙◌, List, ap, map, Bor, arith, take_all}
 use Rattle.proto_tree.specs.declared.tree.Value.{Value}
 use Rattle.proto_described.specs.Described.{value_described}
-use Rattle.proto_descriptors.proofs.Mapped.{map_both}
-use Rattle.proto_descriptors.specs.Views.{enum_value_desc}
+use Rattle.proto_descriptors.proofs.Common.{map_both, enum_value_desc}
 use Rattle.proto_described.proofs.Levels.{mapped_turn}
 use Rattle.proto_described.proofs.described_enum.value_descriptors.Goals as goal
 

@@ -1,6 +1,4 @@
-use Rattle.std.proofs.Common.{◌+◌, List, Some, None, drop, sym, ap, ◌∙◌, arith, Vec, Global}
-use Rattle.std.specs.Prelude.{option_to_list}
-use Rattle.std.proofs.lemmas.List.{append-nil}
+use Rattle.std.proofs.Common.{◌+◌, List, Some, None, drop, sym, ap, ◌∙◌, arith, Vec, Global, option_to_list, append-nil}
 use Rattle.proto_tree.specs.File.{trees, member_tree}
 use Rattle.proto_described.specs.Described.{messages_described}
 use Rattle.proto_descriptors.specs.Views.{messages_desc}

@@ -1,8 +1,6 @@
-use Rattle.std.proofs.Common.{◌∙◌, ap, map, arith}
-use Rattle.std.proofs.lemmas.List.{take_all}
+use Rattle.std.proofs.Common.{◌∙◌, ap, map, arith, take_all}
 use Rattle.proto_parts.specs.Views.{field_of}
-use Rattle.proto_descriptors.specs.Views.{field_desc}
-use Rattle.proto_descriptors.proofs.Mapped.{map_both}
+use Rattle.proto_descriptors.proofs.Common.{field_desc, map_both}
 use Rattle.proto_described.specs.Described.{field_described}
 use Rattle.proto_described.proofs.Levels.{mapped_turn}
 use Rattle.proto_described.proofs.described_message.field_descriptors.Goals as goal

@@ -1,8 +1,7 @@
 use Rattle.std.proofs.Common.{◌∙◌, ap}
 use Rattle.proto_tree.specs.File.{member_tree, trees}
-use Rattle.proto_descriptors.specs.Descriptors.{MessageDesc}
+use Rattle.proto_descriptors.proofs.Common.{MessageDesc, messages_desc}
 use Rattle.proto_described.specs.Described.{message_described}
-use Rattle.proto_descriptors.specs.Views.{messages_desc}
 use Rattle.proto_described.proofs.Levels.{level_of, same_parts}
 use Rattle.proto_described.proofs.described_message.message_around.Goals as goal
 

@@ -1,5 +1,4 @@
-use Rattle.std.proofs.Common.{◌∙◌, sym, ap, map, arith}
-use Rattle.std.proofs.lemmas.List.{take_all}
+use Rattle.std.proofs.Common.{◌∙◌, sym, ap, map, arith, take_all}
 use Rattle.proto_numbers.specs.NumberFlaws.{range_of}
 use Rattle.proto_described.specs.Described.{number_range}
 use Rattle.proto_descriptors.proofs.Mapped.{map_both}

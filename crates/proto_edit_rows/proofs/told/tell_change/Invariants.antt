@@ -1,5 +1,4 @@
-use Rattle.std.proofs.Common.{◌≡◌, ◌++◌, map, take, string_bytes}
-use Rattle.std.specs.List.{flat_map}
+use Rattle.std.proofs.Common.{◌≡◌, ◌++◌, map, take, string_bytes, flat_map}
 use Rattle.proto_text.specs.Splicing.{edit_of}
 use Rattle.proto_edit_rows.specs.Told.{splice_told}
 use Rattle.proto_edit_rows.proofs.told.tell_change.Given as goal

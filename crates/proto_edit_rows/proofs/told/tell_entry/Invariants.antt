@@ -1,5 +1,4 @@
-use Rattle.std.proofs.Common.{◌≡◌, ◌++◌, map, take, string_bytes}
-use Rattle.std.specs.List.{flat_map}
+use Rattle.std.proofs.Common.{◌≡◌, ◌++◌, map, take, string_bytes, flat_map}
 use Rattle.proto_entries.specs.Entries.{change_of}
 use Rattle.proto_edit_rows.specs.Told.{change_told}
 use Rattle.proto_edit_rows.proofs.told.tell_entry.Given as goal

@@ -1,5 +1,4 @@
-use Rattle.std.proofs.Common.{length, ap, arith}
-use Rattle.std.proofs.lemmas.List.{length-append}
+use Rattle.std.proofs.Common.{length, ap, arith, length-append}
 use Rattle.proto_edit_rows.proofs.unlike.in_words.Goals as goal
 
 pub invariant_of-result : goal.invariant_of-result

@@ -1,6 +1,5 @@
 use Rattle.std.proofs.Common.{◌≡◌, ◌+◌, List, [], ◌∷◌, ◌++◌, drop, sym, ap, ◌∙◌, append_assoc, append-nil, arith}
-use Rattle.std.proofs.lemmas.List.{drop_all, drop_more}
-use Rattle.std.proofs.lemmas.Result.{IfOk-weaker}
+use Rattle.proto_faults.proofs.Common.{drop_all, drop_more, IfOk-weaker}
 use Rattle.proto_text.specs.declared.splice.Splice.{Splice}
 use Rattle.proto_text.specs.Splicing.{edit_of, edits}
 use Rattle.proto_entries.proofs.change.copied.Goals as goal

@@ -1,6 +1,4 @@
-use Rattle.std.proofs.Common.{arith, ◌∙◌, ap}
-use Rattle.std.proofs.lemmas.List.{take_all}
-use Rattle.std.specs.Prelude.{sum_by}
+use Rattle.std.proofs.Common.{arith, ◌∙◌, ap, take_all, sum_by}
 use Rattle.proto_entries.proofs.EntrySums.{new_of, new_sum_fits, sum_more, sum_below}
 use Rattle.proto_entries.proofs.entry.new_len.Goals as goal
 

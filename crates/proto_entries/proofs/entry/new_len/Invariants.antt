@@ -1,5 +1,4 @@
-use Rattle.std.proofs.Common.{◌≡◌, take}
-use Rattle.std.specs.Prelude.{sum_by}
+use Rattle.std.proofs.Common.{◌≡◌, take, sum_by}
 use Rattle.proto_entries.proofs.EntrySums.{new_of}
 use Rattle.proto_entries.proofs.entry.new_len.Given as goal
 

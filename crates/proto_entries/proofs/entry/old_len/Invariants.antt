@@ -1,5 +1,4 @@
-use Rattle.std.proofs.Common.{◌≡◌, take}
-use Rattle.std.specs.Prelude.{sum_by}
+use Rattle.std.proofs.Common.{◌≡◌, take, sum_by}
 use Rattle.proto_entries.proofs.EntrySums.{old_of}
 use Rattle.proto_entries.proofs.entry.old_len.Given as goal
 

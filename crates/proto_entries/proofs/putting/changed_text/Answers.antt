@@ -1,5 +1,4 @@
-use Rattle.std.proofs.Common.{◌∙◌, ap, subst}
-use Rattle.std.specs.Prelude.{Err}
+use Rattle.std.proofs.Common.{◌∙◌, ap, subst, Err}
 use Rattle.proto_text.specs.Splicing.{IsApplied}
 use Rattle.proto_entries.specs.Entries.{change_of}
 use Rattle.proto_entries.proofs.Walks.{too_long}

@@ -1,6 +1,5 @@
 use Rattle.std.proofs.Common.{◌≡◌, ◌+◌, length}
-use Rattle.proto_files.specs.Stages.{named_paths}
-use Rattle.proto_files.specs.FirstFault.{first_fault}
+use Rattle.proto_files.specs.Common.{named_paths, first_fault}
 use Rattle.proto_files.proofs.paths.first_fault.Given as goal
 
 abbrev pub invariant-loop-file : goal.invariant-loop-file

@@ -1,9 +1,6 @@
 use Rattle.std.proofs.Common.{◌≡◌, rules, ap, ◌∙◌}
-use Rattle.std.proofs.lemmas.Iterator.{YieldsList-from_map, items_from_collect}
-use Rattle.std.proofs.lemmas.Iterator.Adapters.{YieldsList-from_vec}
-use Rattle.std.proofs.lemmas.Result.{IfOk-weaker}
-use Rattle.proto_files.specs.GivenFiles.{files_of}
-use Rattle.proto_files.specs.Stages.{named_files}
+use Rattle.proto_faults.proofs.Common.{YieldsList-from_map, items_from_collect, YieldsList-from_vec, IfOk-weaker}
+use Rattle.proto_files.specs.Common.{files_of, named_files}
 use Rattle.proto_files.proofs.NamedLists.{name_pair, named_files-map}
 use Rattle.proto_files.proofs.paths.named.Goals as goal
 

@@ -1,7 +1,5 @@
-use Rattle.std.proofs.Common.{◌≡◌}
-use Rattle.std.specs.List.{All}
-use Rattle.proto_files.specs.Reading.{IsLexedFile}
-use Rattle.proto_files.specs.Stages.{named_files, lexed_files}
+use Rattle.std.proofs.Common.{◌≡◌, All}
+use Rattle.proto_files.specs.Common.{IsLexedFile, named_files, lexed_files}
 use Rattle.proto_files.proofs.reading.lex_files.Given as goal
 
 abbrev pub invariant-loop-file : goal.invariant-loop-file

@@ -1,10 +1,6 @@
 use Rattle.std.proofs.Common.{length, rules}
-use Rattle.std.proofs.lemmas.Iterator.Adapters.{YieldsList-from_vec}
-use Rattle.std.proofs.lemmas.Iterator.Consumers.{YieldsList-so_far, YieldsList-turn}
-use Rattle.std.proofs.lemmas.Result.{err_from_is_err_and}
-use Rattle.proto_files.specs.ReadFaults.{IsGrammarFault}
-use Rattle.proto_files.specs.Reading.{IsLexedFile, IsReadFile}
-use Rattle.proto_files.specs.Stages.{lexed_file, read_file, read_files}
+use Rattle.proto_faults.proofs.Common.{YieldsList-from_vec, YieldsList-so_far, YieldsList-turn, err_from_is_err_and}
+use Rattle.proto_files.specs.Common.{IsGrammarFault, IsLexedFile, IsReadFile, lexed_file, read_file, read_files}
 use Rattle.proto_files.proofs.FirstErrors.{first_error, none_read, same_push, all_push, given_at}
 use Rattle.proto_files.proofs.reading.parse_files.Goals as goal
 

@@ -1,7 +1,5 @@
-use Rattle.std.proofs.Common.{◌≡◌}
-use Rattle.std.specs.List.{All}
-use Rattle.proto_files.specs.Reading.{IsReadFile}
-use Rattle.proto_files.specs.Stages.{lexed_files, read_files}
+use Rattle.std.proofs.Common.{◌≡◌, All}
+use Rattle.proto_files.specs.Common.{IsReadFile, lexed_files, read_files}
 use Rattle.proto_files.proofs.reading.parse_files.Given as goal
 
 abbrev pub invariant-loop-file : goal.invariant-loop-file

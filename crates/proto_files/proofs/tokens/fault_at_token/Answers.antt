@@ -1,8 +1,6 @@
-use Rattle.std.proofs.Common.{◌∙◌, ap, refl}
-use Rattle.std.specs.Prelude.{List}
+use Rattle.std.proofs.Common.{◌∙◌, ap, refl, List}
 use Rattle.proto_text.specs.declared.lexer.Token.{Token}
-use Rattle.proto_text.specs.Texts.{offset_at}
-use Rattle.proto_text.proofs.Once.{one_token_list}
+use Rattle.proto_text.proofs.Common.{offset_at, one_token_list}
 use Rattle.proto_files.specs.GivenFiles.{file_at}
 use Rattle.proto_files.proofs.tokens.fault_at_token.Goals as goal
 

@@ -1,6 +1,5 @@
 use Rattle.std.proofs.Common.{◌≡◌, ◌++◌, map}
-use Rattle.proto_findings.specs.Listings.{found_in}
-use Rattle.proto_findings.specs.Views.{finding_of, found_of}
+use Rattle.proto_findings.specs.Common.{found_in, finding_of, found_of}
 use Rattle.proto_findings.proofs.finding.add_findings.Given as goal
 
 abbrev pub invariant-loop-offset : goal.invariant-loop-offset

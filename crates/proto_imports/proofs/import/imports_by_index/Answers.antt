@@ -1,7 +1,6 @@
 use Rattle.std.proofs.Common.{◌≡◌, length, map, option_map, sym, ◌∙◌, ap, subst}
 use Rattle.proto_meaning.specs.Faults.{ImportFault, imports_of}
-use Rattle.proto_imports.specs.Importing.{all_asked, all_imports, fault_of}
-use Rattle.proto_imports.specs.ImportSteps.{IsFirst}
+use Rattle.proto_imports.specs.Common.{all_asked, all_imports, fault_of, IsFirst}
 use Rattle.proto_imports.proofs.ImportFaults.{first_is}
 use Rattle.proto_imports.proofs.ImportGraph.{resolved_within}
 use Rattle.proto_imports.proofs.import.imports_by_index.Goals as goal

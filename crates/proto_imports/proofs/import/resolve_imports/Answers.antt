@@ -1,6 +1,5 @@
 use Rattle.std.proofs.Common.{map, sym, ◌∙◌}
-use Rattle.std.proofs.lemmas.List.{length-map}
-use Rattle.std.proofs.lemmas.Result.{IfErr-weaker, IfOk-weaker}
+use Rattle.proto_faults.proofs.Common.{length-map, IfErr-weaker, IfOk-weaker}
 use Rattle.proto_imports.proofs.import.resolve_imports.Goals as goal
 
 pub imports_by_index-requires-clause-index : goal.imports_by_index-requires-clause-index

@@ -1,6 +1,5 @@
-use Rattle.std.proofs.Common.{map, ap, arith, ◌∙◌}
+use Rattle.std.proofs.Common.{map, ap, arith, ◌∙◌, take_all}
 use Rattle.std.proofs.lemmas.Grind.{common_steps}
-use Rattle.std.proofs.lemmas.List.{take_all}
 use Rattle.proto_imports.proofs.import.targets.Goals as goal
 
 pub returns : goal.returns

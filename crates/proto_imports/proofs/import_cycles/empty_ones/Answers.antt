@@ -1,5 +1,4 @@
-use Rattle.std.proofs.Common.{◌∙◌, ◌<◌, length, ap, subst, sym}
-use Rattle.std.specs.List.{All}
+use Rattle.std.proofs.Common.{◌∙◌, ◌<◌, length, ap, subst, sym, All}
 use Rattle.proto_imports.proofs.Ranks.{below_push}
 use Rattle.proto_imports.proofs.import_cycles.empty_ones.Goals as goal
 use Rattle.proto_imports.proofs.import_cycles.empty_ones.Goals.{then-is_empty+in_ok-push, else-is_empty}

@@ -1,5 +1,4 @@
-use Rattle.std.proofs.Common.{ℕ, ◌<◌, [], get_or, map}
-use Rattle.std.specs.List.{Contains}
+use Rattle.std.proofs.Common.{ℕ, ◌<◌, [], get_or, map, Contains}
 use Rattle.proto_imports.proofs.import_cycles.falls.Given as goal
 
 abbrev pub invariant-loop-file : goal.invariant-loop-file

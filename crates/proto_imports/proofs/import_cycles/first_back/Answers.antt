@@ -1,7 +1,6 @@
 use Rattle.std.proofs.Common.{◌<◌, [], get_or, map, option_map, sym, ◌∙◌, ap, subst, arith}
 use Rattle.std.proofs.lemmas.List.{get_or-map, length-map}
-use Rattle.proto_imports.specs.Importing.{fault_of}
-use Rattle.proto_imports.specs.ImportSteps.{IsFirst, MarkedFault}
+use Rattle.proto_imports.specs.Common.{fault_of, IsFirst, MarkedFault}
 use Rattle.proto_imports.proofs.CycleFaults.{MarksBack, cycle_within, cycle_some, cycle_more}
 use Rattle.proto_imports.proofs.import_cycles.first_back.Goals as goal
 

@@ -1,7 +1,6 @@
 use Rattle.std.proofs.Common.{ℕ, ◌<◌, List, map}
 use Rattle.proto_meaning.specs.Faults.{Fault, imports_of}
-use Rattle.proto_imports.specs.Importing.{all_asked}
-use Rattle.proto_imports.specs.ImportSteps.{AreImporters, CycleFault, IsFileIndex}
+use Rattle.proto_imports.specs.Common.{all_asked, AreImporters, CycleFault, IsFileIndex}
 use Rattle.proto_imports.proofs.import_cycles.first_back.Given as goal
 
 abbrev pub invariant-loop-file : goal.invariant-loop-file

@@ -1,10 +1,7 @@
-use Rattle.std.proofs.Common.{◌≡◌, ◌<◌, ℕ, List, [], length, get_or, map, option_map, sym, ◌∙◌, ap, subst, arith}
-use Rattle.std.specs.List.{Contains}
-use Rattle.std.proofs.lemmas.List.{length-map}
-use Rattle.std.proofs.lemmas.Result.{IfOk-weaker}
+use Rattle.std.proofs.Common.{◌≡◌, ◌<◌, ℕ, List, [], length, get_or, map, option_map, sym, ◌∙◌, ap, subst, arith, Contains}
+use Rattle.proto_faults.proofs.Common.{length-map, IfOk-weaker}
 use Rattle.proto_meaning.specs.Faults.{imports_of}
-use Rattle.proto_imports.specs.Importing.{all_asked, all_imports, fault_of}
-use Rattle.proto_imports.specs.ImportSteps.{AreTurned, AreImporters, CycleFault, IsFileIndex, IsFirst}
+use Rattle.proto_imports.specs.Common.{all_asked, all_imports, fault_of, AreTurned, AreImporters, CycleFault, IsFileIndex, IsFirst}
 use Rattle.proto_imports.proofs.ImportGraph.{IsGraph, graph_of, importers_of, no_cycle, within_map, all_within, targets_twice}
 use Rattle.proto_imports.proofs.Turned.{contains_within}
 use Rattle.proto_imports.proofs.import_cycles.first_on_cycle.Goals as goal

@@ -1,8 +1,7 @@
 use Rattle.std.proofs.Common.{◌≡◌, true, false, get_or, string_bytes, sym, ◌∙◌, ap, subst}
 use Rattle.std.specs.Option.{option_map_or}
 use Rattle.indexmap.specs.IndexMap.{get_by_text}
-use Rattle.proto_meaning.specs.Faults.{fault, IsLeast}
-use Rattle.proto_meaning.specs.Grown.{at}
+use Rattle.proto_meaning.proofs.Common.{fault, IsLeast, at}
 use Rattle.proto_imports.specs.ImportSteps.{MarkedFault}
 use Rattle.proto_imports.proofs.CycleFaults.{marked_least}
 use Rattle.proto_imports.proofs.import_cycles.first_to_marked.Goals as goal

@@ -1,5 +1,5 @@
-use Rattle.std.proofs.Common.{◌≡◌, ◌<◌, [], ◌∷◌, ◌++◌, length, get_or, map, take, ap, subst, arith}
-use Rattle.std.proofs.lemmas.List.{length-map, take_all, length-set}
+use Rattle.std.proofs.Common.{◌≡◌, ◌<◌, [], ◌∷◌, ◌++◌, length, get_or, map, take, ap, subst, arith, take_all, length-set}
+use Rattle.std.proofs.lemmas.List.{length-map}
 use Rattle.proto_imports.proofs.Turned.{HasPut, put_step}
 use Rattle.proto_imports.proofs.import_cycles.put_in_all.Goals as goal
 

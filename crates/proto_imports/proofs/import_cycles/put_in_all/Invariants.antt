@@ -1,5 +1,4 @@
-use Rattle.std.proofs.Common.{◌≡◌, ◌⊎◌, ◌↔◌, ℕ, [], length, get_or, map, take}
-use Rattle.std.specs.List.{Contains}
+use Rattle.std.proofs.Common.{◌≡◌, ◌⊎◌, ◌↔◌, ℕ, [], length, get_or, map, take, Contains}
 use Rattle.proto_imports.proofs.import_cycles.put_in_all.Given as goal
 
 abbrev pub invariant-loop-place : goal.invariant-loop-place

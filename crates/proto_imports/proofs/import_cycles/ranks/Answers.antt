@@ -1,5 +1,4 @@
-use Rattle.std.proofs.Common.{◌<◌, Some, length, ◌∙◌, arith}
-use Rattle.std.proofs.lemmas.List.{length-set}
+use Rattle.std.proofs.Common.{◌<◌, Some, length, ◌∙◌, arith, length-set}
 use Rattle.std.proofs.lemmas.List.Elements.{All-pop}
 use Rattle.proto_imports.proofs.Ranks.{list_within, same_bound}
 use Rattle.proto_imports.proofs.import_cycles.ranks.Goals as goal

@@ -1,5 +1,4 @@
-use Rattle.std.proofs.Common.{◌≡◌, ◌<◌, length}
-use Rattle.std.specs.List.{All}
+use Rattle.std.proofs.Common.{◌≡◌, ◌<◌, length, All}
 use Rattle.proto_imports.proofs.import_cycles.ranks.Given as goal
 
 abbrev pub invariant-loop-rank : goal.invariant-loop-rank

@@ -1,6 +1,4 @@
-use Rattle.std.proofs.Common.{◌∙◌, ap, length, get_or, subst, sym, ◌<◌}
-use Rattle.std.specs.List.{All}
-use Rattle.std.proofs.lemmas.List.{length-set}
+use Rattle.std.proofs.Common.{◌∙◌, ap, length, get_or, subst, sym, ◌<◌, All, length-set}
 use Rattle.proto_imports.proofs.Ranks.{below_push}
 use Rattle.proto_imports.proofs.import_cycles.release.Goals as goal
 use Rattle.proto_imports.proofs.import_cycles.release.Goals.{then-left-eq0+in_ok-push, else-left-eq0}

@@ -1,7 +1,6 @@
 use Rattle.std.proofs.Common.{◌<◌, [], get_or, map, option_map, sym, ◌∙◌, ap, subst, arith}
 use Rattle.std.proofs.lemmas.List.{get_or-map, length-map}
-use Rattle.proto_imports.specs.Importing.{asked_by, fault_of}
-use Rattle.proto_imports.specs.ImportSteps.{IsFirst, PathFault}
+use Rattle.proto_imports.specs.Common.{asked_by, fault_of, IsFirst, PathFault}
 use Rattle.proto_imports.proofs.FilesAsked.{path_in, path_some, path_more}
 use Rattle.proto_imports.proofs.import_paths.first_path_fault.Goals as goal
 

@@ -1,7 +1,6 @@
 use Rattle.std.proofs.Common.{ℕ, ◌<◌, List, map}
 use Rattle.proto_meaning.specs.Faults.{Fault}
-use Rattle.proto_imports.specs.Importing.{all_asked}
-use Rattle.proto_imports.specs.ImportSteps.{IsFileIndex, PathFault}
+use Rattle.proto_imports.specs.Common.{all_asked, IsFileIndex, PathFault}
 use Rattle.proto_imports.proofs.import_paths.first_path_fault.Given as goal
 
 abbrev pub invariant-loop-file : goal.invariant-loop-file

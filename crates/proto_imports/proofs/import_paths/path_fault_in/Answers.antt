@@ -1,12 +1,8 @@
-use Rattle.std.proofs.Common.{◌≡◌, ◌⊎◌, ℕ, Bool, true, false, Some, None, length, get_or, map, nat_eq, string_bytes, not, refl, sym, ◌∙◌, ap, subst, inl, inr, arith, cond}
-use Rattle.std.specs.HashSet.{contains}
-use Rattle.std.proofs.lemmas.Bool.{cases_Bool, cond-true, cond-false, eqb-true, eq-eqb}
-use Rattle.std.proofs.lemmas.List.{get_or_default}
+use Rattle.std.proofs.Common.{◌≡◌, ◌⊎◌, ℕ, Bool, true, false, Some, None, length, get_or, map, nat_eq, string_bytes, not, refl, sym, ◌∙◌, ap, subst, inl, inr, arith, cond, eqb-true, eq-eqb}
+use Rattle.proto_faults.proofs.Common.{contains, cases_Bool, cond-true, cond-false, get_or_default}
 use Rattle.indexmap.specs.IndexMap.{get_by_text}
-use Rattle.proto_meaning.specs.Faults.{fault, IsLeast}
-use Rattle.proto_meaning.specs.Grown.{at}
-use Rattle.proto_imports.specs.Importing.{asked_by}
-use Rattle.proto_imports.specs.ImportSteps.{PathFault}
+use Rattle.proto_meaning.proofs.Common.{fault, IsLeast, at}
+use Rattle.proto_imports.specs.Common.{asked_by, PathFault}
 use Rattle.proto_imports.proofs.PathFaults.{IsFresh, fresh_more, path_none, path_unknown, path_double}
 use Rattle.proto_imports.proofs.import_paths.path_fault_in.Goals as goal
 

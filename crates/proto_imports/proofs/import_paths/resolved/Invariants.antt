@@ -1,7 +1,6 @@
 use Rattle.std.proofs.Common.{◌≡◌, ℕ, List, length, map, take}
 use Rattle.proto_meaning.specs.Faults.{imports_of}
-use Rattle.proto_imports.specs.Importing.{all_asked, all_imports}
-use Rattle.proto_imports.specs.ImportSteps.{IsFileIndex}
+use Rattle.proto_imports.specs.Common.{all_asked, all_imports, IsFileIndex}
 use Rattle.proto_imports.proofs.import_paths.resolved.Given as goal
 
 abbrev pub invariant-loop-written : goal.invariant-loop-written

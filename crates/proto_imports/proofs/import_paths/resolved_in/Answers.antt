@@ -1,9 +1,7 @@
-use Rattle.std.proofs.Common.{◌≡◌, map, string_bytes, sym, ◌∙◌, ap, refl}
-use Rattle.std.proofs.lemmas.List.{take_all}
+use Rattle.std.proofs.Common.{◌≡◌, map, string_bytes, sym, ◌∙◌, ap, refl, take_all}
 use Rattle.indexmap.specs.IndexMap.{get_by_text}
 use Rattle.proto_meaning.specs.Faults.{file_of, imports_of}
-use Rattle.proto_imports.specs.Importing.{asked_by, import_from}
-use Rattle.proto_imports.specs.declared.import.FileImport.{FileImport}
+use Rattle.proto_imports.specs.Common.{asked_by, import_from, FileImport}
 use Rattle.proto_imports.proofs.Resolving.{resolve_some, resolve_none}
 use Rattle.proto_imports.proofs.import_paths.resolved_in.Goals as goal
 use Rattle.proto_imports.proofs.import_paths.resolved_in.Goals.{in-Some+in_ok-push, in_default}

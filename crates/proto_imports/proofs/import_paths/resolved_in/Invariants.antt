@@ -1,7 +1,6 @@
 use Rattle.std.proofs.Common.{◌≡◌, ℕ, List, map, take}
 use Rattle.proto_meaning.specs.Faults.{imports_of}
-use Rattle.proto_imports.specs.Importing.{asked_by, import_from}
-use Rattle.proto_imports.specs.ImportSteps.{IsFileIndex}
+use Rattle.proto_imports.specs.Common.{asked_by, import_from, IsFileIndex}
 use Rattle.proto_imports.proofs.import_paths.resolved_in.Given as goal
 
 abbrev pub invariant-loop-import : goal.invariant-loop-import

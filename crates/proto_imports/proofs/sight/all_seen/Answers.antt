@@ -1,9 +1,7 @@
-use Rattle.std.proofs.Common.{◌↔◌, ◌<◌, ℕ, [], ◌∷◌, length, get_or, map, slice_set, sym, ◌∙◌, ap, subst, arith}
-use Rattle.std.specs.List.{Contains}
+use Rattle.std.proofs.Common.{◌↔◌, ◌<◌, ℕ, [], ◌∷◌, length, get_or, map, slice_set, sym, ◌∙◌, ap, subst, arith, Contains}
 use Rattle.std.proofs.lemmas.List.{get_or-map, length-map, map-append}
 use Rattle.proto_meaning.specs.Names.{Import}
-use Rattle.proto_imports.specs.Importing.{all_imports}
-use Rattle.proto_imports.specs.Walks.{IsMarked, Walks}
+use Rattle.proto_imports.specs.Common.{all_imports, IsMarked, Walks}
 use Rattle.proto_imports.proofs.ImportGraph.{all_within}
 use Rattle.proto_imports.proofs.SeenFiles.{own_of, public_of, public_within, pushed, imports_within, public_twice, steps_from, marks_seen}
 use Rattle.proto_imports.proofs.sight.all_seen.Goals as goal

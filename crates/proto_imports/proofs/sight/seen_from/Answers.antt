@@ -1,6 +1,5 @@
-use Rattle.std.proofs.Common.{◌≡◌, ◌↔◌, ℕ, [], length, get_or, map, slice_set, sym, ◌∙◌, ap, subst, arith}
-use Rattle.std.specs.List.{Contains}
-use Rattle.std.proofs.lemmas.List.{get_or-map, length-map, length-set, map-set}
+use Rattle.std.proofs.Common.{◌≡◌, ◌↔◌, ℕ, [], length, get_or, map, slice_set, sym, ◌∙◌, ap, subst, arith, Contains, length-set}
+use Rattle.std.proofs.lemmas.List.{get_or-map, length-map, map-set}
 use Rattle.proto_imports.specs.Walks.{IsMarked, Walks}
 use Rattle.proto_imports.proofs.ImportGraph.{all_within}
 use Rattle.proto_imports.proofs.SeenFiles.{lists_within, set_within, own_within, own_of, set_back}

@@ -1,5 +1,4 @@
-use Rattle.std.proofs.Common.{◌<◌, length, get_or, subst, arith}
-use Rattle.std.proofs.lemmas.List.{take_all}
+use Rattle.std.proofs.Common.{◌<◌, length, get_or, subst, arith, take_all}
 use Rattle.proto_imports.specs.Walks.{Visits}
 use Rattle.proto_imports.proofs.Walks.{visit_step, visits_none}
 use Rattle.proto_imports.proofs.walk.visit.Goals as goal

@@ -1,8 +1,5 @@
-use Rattle.std.proofs.Common.{◌≡◌, List, false, get_or, Some, refl, sym, ap, ◌∙◌, arith, string_bytes, subst}
-use Rattle.std.proofs.lemmas.List.{take_all}
-use Rattle.proto_text.specs.Strings.{IsString}
-use Rattle.proto_text.specs.Texts.{word_at}
-use Rattle.proto_text.specs.Values.{value_of}
+use Rattle.std.proofs.Common.{◌≡◌, List, false, get_or, Some, refl, sym, ap, ◌∙◌, arith, string_bytes, subst, take_all}
+use Rattle.proto_text.proofs.Common.{IsString, word_at, value_of}
 use Rattle.proto_imports.specs.Written.{AreWritten}
 use Rattle.proto_imports.specs.declared.import.WrittenImport.{WrittenImport}
 use Rattle.proto_listing.specs.declared.wanted.Wanted.{Wanted}

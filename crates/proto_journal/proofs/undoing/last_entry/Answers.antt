@@ -1,5 +1,4 @@
-use Rattle.std.proofs.Common.{arith, length, ◌≡◌, List, true, false, sym, ap, ◌∙◌}
-use Rattle.std.specs.Prelude.{Err}
+use Rattle.std.proofs.Common.{arith, length, ◌≡◌, List, true, false, sym, ap, ◌∙◌, Err}
 use Rattle.std.proofs.lemmas.Result.{err_from_is_err_and}
 use Rattle.proto_records.specs.declared.record.Record.{Record}
 use Rattle.proto_records.specs.Journals.{is_last_open}

@@ -1,5 +1,4 @@
-use Rattle.std.proofs.Common.{◌≡◌}
-use Rattle.std.specs.Prelude.{option_map}
+use Rattle.std.proofs.Common.{◌≡◌, option_map}
 use Rattle.proto_journal.specs.Written.{with_files}
 use Rattle.proto_journal.proofs.Between.{up_to}
 use Rattle.proto_journal.proofs.writing.replace_files.Given as goal

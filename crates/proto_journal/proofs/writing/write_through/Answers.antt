@@ -1,5 +1,4 @@
-use Rattle.std.proofs.Common.{sym, subst}
-use Rattle.std.specs.Prelude.{Option}
+use Rattle.std.proofs.Common.{sym, subst, Option}
 use Rattle.proto_store.specs.Stores.{Held, HoldsFiles}
 use Rattle.proto_journal.proofs.Holdings.{cut_files, cut_first, cut_last, files_stay, went_through}
 use Rattle.proto_journal.proofs.Replacing.{err_of, on_err, on_ok}

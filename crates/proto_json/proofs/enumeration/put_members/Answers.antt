@@ -1,8 +1,6 @@
-use Rattle.proto_descriptors.proofs.Mapped.{map_both}
-use Rattle.proto_descriptors.specs.Views.{enum_value_desc}
+use Rattle.proto_descriptors.proofs.Common.{map_both, enum_value_desc}
 use Rattle.proto_json.proofs.Sending.{last, listed, more}
-use Rattle.proto_json.specs.DescriptorText.{enum_value_text}
-use Rattle.proto_json.specs.JsonText.{quoted}
+use Rattle.proto_json.specs.Common.{enum_value_text, quoted}
 use Rattle.std.proofs.Common.{string_bytes}
 use Rattle.std.proofs.lemmas.Result.{on_ok_weaker}
 use Rattle.proto_json.proofs.enumeration.put_members.Goals as goal

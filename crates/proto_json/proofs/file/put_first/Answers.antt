@@ -1,8 +1,6 @@
-use Rattle.proto_descriptors.proofs.Mapped.{map_both}
-use Rattle.proto_descriptors.specs.Views.{enum_desc}
+use Rattle.proto_descriptors.proofs.Common.{map_both, enum_desc}
 use Rattle.proto_json.proofs.Sending.{last, listed, more}
-use Rattle.proto_json.specs.DescriptorText.{enum_text}
-use Rattle.proto_json.specs.JsonText.{quoted}
+use Rattle.proto_json.specs.Common.{enum_text, quoted}
 use Rattle.std.proofs.Common.{string_bytes}
 use Rattle.std.proofs.lemmas.Result.{on_ok_weaker}
 use Rattle.proto_json.proofs.file.put_first.Goals as goal

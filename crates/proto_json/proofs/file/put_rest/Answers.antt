@@ -1,8 +1,6 @@
-use Rattle.proto_descriptors.proofs.Mapped.{map_both}
-use Rattle.proto_descriptors.specs.Views.{service_desc}
+use Rattle.proto_descriptors.proofs.Common.{map_both, service_desc}
 use Rattle.proto_json.proofs.Sending.{last, listed, more, option_map-option_map, valued}
-use Rattle.proto_json.specs.DescriptorText.{service_text}
-use Rattle.proto_json.specs.JsonText.{quoted}
+use Rattle.proto_json.specs.Common.{service_text, quoted}
 use Rattle.std.proofs.Common.{string_bytes}
 use Rattle.std.proofs.lemmas.Result.{on_ok_weaker}
 use Rattle.proto_json.proofs.file.put_rest.Goals as goal

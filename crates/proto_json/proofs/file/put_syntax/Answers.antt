@@ -1,8 +1,7 @@
 use Rattle.std.proofs.Common.{option_map, refl, sym, ap}
 use Rattle.std.proofs.lemmas.Result.{on_ok_weaker}
 use Rattle.proto_descriptors.specs.declared.file.Syntax.{Syntax}
-use Rattle.proto_json.specs.DescriptorText.{syntax_name}
-use Rattle.proto_json.specs.JsonText.{quoted}
+use Rattle.proto_json.specs.Common.{syntax_name, quoted}
 use Rattle.proto_json.proofs.Sending.{valued, absent, member_sent, text_sent}
 use Rattle.proto_json.proofs.file.put_syntax.Goals as goal
 

@@ -1,7 +1,5 @@
-use Rattle.std.proofs.Common.{◌≡◌, List, [], map, length, refl, sym, ap, ◌∙◌, true≢false}
-use Rattle.std.proofs.lemmas.Bool.{eqb-true, eq-eqb}
-use Rattle.std.proofs.lemmas.List.{nil_from_length}
-use Rattle.std.proofs.lemmas.Result.{on_ok_weaker}
+use Rattle.std.proofs.Common.{◌≡◌, List, [], map, length, refl, sym, ap, ◌∙◌, true≢false, eqb-true, eq-eqb}
+use Rattle.proto_faults.proofs.Common.{nil_from_length, on_ok_weaker}
 use Rattle.proto_json.proofs.Sending.{listed, list_absent, any_sent, map_some}
 use Rattle.proto_json.proofs.members.put_slice.Goals as goal
 

@@ -1,7 +1,5 @@
-use Rattle.std.proofs.Common.{◌≡◌, List, [], length, refl, sym, ap, ◌∙◌, true≢false, arith}
-use Rattle.std.proofs.lemmas.Bool.{eqb-true, eq-eqb}
-use Rattle.std.proofs.lemmas.List.{nil_from_length}
-use Rattle.std.proofs.lemmas.Result.{on_ok_weaker}
+use Rattle.std.proofs.Common.{◌≡◌, List, [], length, refl, sym, ap, ◌∙◌, true≢false, arith, eqb-true, eq-eqb}
+use Rattle.proto_faults.proofs.Common.{nil_from_length, on_ok_weaker}
 use Rattle.proto_json.proofs.Nesting.{level_sent, message_more, messages_sent}
 use Rattle.proto_json.proofs.Sending.{listed, list_absent, no_values}
 use Rattle.proto_json.specs.DescriptorText.{message_texts}

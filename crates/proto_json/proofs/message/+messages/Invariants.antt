@@ -1,7 +1,6 @@
 use Rattle.std.proofs.Common.{take}
 use Rattle.proto_descriptors.specs.Views.{messages_desc}
-use Rattle.proto_json.specs.DescriptorText.{message_texts}
-use Rattle.proto_json.specs.Written.{PutsValues}
+use Rattle.proto_json.specs.Common.{message_texts, PutsValues}
 use Rattle.proto_json.proofs.message.+messages.Given as goal
 
 abbrev pub invariant-put_messages-loop-message : goal.invariant-put_messages-loop-message

@@ -1,9 +1,7 @@
-use Rattle.proto_descriptors.proofs.Mapped.{map_both}
-use Rattle.proto_descriptors.specs.Views.{oneof_desc}
+use Rattle.proto_descriptors.proofs.Common.{map_both, oneof_desc}
 use Rattle.proto_descriptors.specs.declared.message.MessageDescriptor.{out-MessageDescriptor}
 use Rattle.proto_json.proofs.Sending.{last, listed, more}
-use Rattle.proto_json.specs.DescriptorText.{oneof_text}
-use Rattle.proto_json.specs.JsonText.{quoted}
+use Rattle.proto_json.specs.Common.{oneof_text, quoted}
 use Rattle.std.proofs.Common.{string_bytes}
 use Rattle.std.proofs.lemmas.Result.{on_ok_weaker}
 use Rattle.proto_json.proofs.message.put_after_nested.Goals as goal

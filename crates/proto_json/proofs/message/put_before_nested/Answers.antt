@@ -1,5 +1,4 @@
-use Rattle.proto_descriptors.proofs.Mapped.{map_both}
-use Rattle.proto_descriptors.specs.Views.{enum_desc, field_desc}
+use Rattle.proto_descriptors.proofs.Common.{map_both, enum_desc, field_desc}
 use Rattle.proto_descriptors.specs.declared.message.MessageDescriptor.{out-MessageDescriptor}
 use Rattle.proto_json.proofs.Sending.{last, listed, more}
 use Rattle.proto_json.specs.DescriptorText.{enum_text, field_text}

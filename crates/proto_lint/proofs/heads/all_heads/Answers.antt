@@ -2,8 +2,7 @@ use Rattle.std.proofs.Common.{◌≡◌, ◌<◌, List, [], ◌∷◌, ◌++◌,
 use Rattle.proto_files.specs.FilesRead.{ReadOf}
 use Rattle.proto_imports.proofs.Turned.{take_more}
 use Rattle.proto_lint.proofs.FileHeads.{heads_at, heads_count}
-use Rattle.proto_lint.specs.Heads.{heads}
-use Rattle.proto_lint.specs.Packages.{Head}
+use Rattle.proto_lint.specs.Common.{heads, Head}
 use Rattle.proto_lint.proofs.heads.all_heads.Goals as goal
 
 pub loop-file-preserved : goal.loop-file-preserved

@@ -1,8 +1,7 @@
 use Rattle.std.proofs.Common.{List, ℕ, [], ◌∷◌, ◌++◌, length, map, ◌∙◌, ap, subst, arith, take_all, IfOk}
-use Rattle.std.proofs.lemmas.List.{length-map, map-append}
+use Rattle.proto_faults.proofs.Common.{length-map, map-append, pushed_more}
 use Rattle.proto_imports.specs.ImportSteps.{IsFileIndex}
 use Rattle.proto_lint.specs.Packages.{directory}
-use Rattle.proto_faults.proofs.Turns.{pushed_more}
 use Rattle.proto_lint.proofs.heads.first_of_directories.Goals as goal
 
 pub loop-head-preserved : goal.loop-head-preserved

@@ -1,5 +1,4 @@
-use Rattle.std.proofs.Common.{◌≡◌, ◌∷◌, ◌++◌, map, drop, string_bytes}
-use Rattle.std.specs.List.{flat_map}
+use Rattle.std.proofs.Common.{◌≡◌, ◌∷◌, ◌++◌, map, drop, string_bytes, flat_map}
 use Rattle.proto_meaning.specs.Joined.{joined}
 use Rattle.proto_lint.proofs.heads.joined_behind.Given as goal
 

@@ -1,17 +1,11 @@
-use Rattle.std.proofs.Common.{◌≡◌, ◌++◌, List, map, get_or, sym, ◌∙◌, ap, subst}
-use Rattle.std.specs.List.{Contains, flat_map}
-use Rattle.std.proofs.lemmas.List.Elements.{Contains-get_or}
-use Rattle.std.proofs.lemmas.Result.{on_ok_weaker}
+use Rattle.std.proofs.Common.{◌≡◌, ◌++◌, List, map, get_or, sym, ◌∙◌, ap, subst, Contains, flat_map}
+use Rattle.proto_faults.proofs.Common.{Contains-get_or, on_ok_weaker, contains_map}
 use Rattle.proto_text.specs.Strings.{IsString}
-use Rattle.proto_faults.proofs.Lists.{contains_map}
 use Rattle.proto_tree.specs.File.{tree_of_file}
 use Rattle.proto_tree.specs.declared.tree.Import.{Import}
-use Rattle.proto_files.specs.GivenFiles.{file_at, paths_of}
-use Rattle.proto_files.specs.FilesRead.{ReadOf, read_at}
+use Rattle.proto_files.proofs.Common.{file_at, paths_of, ReadOf, read_at, same_tree}
 use Rattle.proto_imports.specs.Links.{names_of_files}
-use Rattle.proto_files.proofs.OneReading.{same_tree}
-use Rattle.proto_findings.specs.Readings.{Reading, reading_of, text}
-use Rattle.proto_findings.specs.Views.{found_of}
+use Rattle.proto_findings.proofs.Common.{Reading, reading_of, text, found_of}
 use Rattle.proto_lint.proofs.ImportLists.{paths_are_strings}
 use Rattle.proto_lint.specs.Imports.{import_finds, imports_in}
 use Rattle.proto_lint.proofs.imports.add_imports.Goals as goal

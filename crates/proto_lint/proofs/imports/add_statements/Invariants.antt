@@ -1,10 +1,7 @@
-use Rattle.std.proofs.Common.{◌≡◌, ◌++◌, List, map, take}
-use Rattle.std.specs.List.{flat_map}
-use Rattle.proto_files.specs.GivenFiles.{paths_of}
-use Rattle.proto_files.specs.FilesRead.{ReadOf, AreRead}
+use Rattle.std.proofs.Common.{◌≡◌, ◌++◌, List, map, take, flat_map}
+use Rattle.proto_files.proofs.Common.{paths_of, ReadOf, AreRead}
 use Rattle.proto_imports.specs.Links.{names_of_files}
-use Rattle.proto_findings.specs.Readings.{reading_of}
-use Rattle.proto_findings.specs.Views.{found_of}
+use Rattle.proto_findings.proofs.Common.{reading_of, found_of}
 use Rattle.proto_lint.specs.Imports.{import_finds}
 use Rattle.proto_lint.proofs.imports.add_statements.Given as goal
 

@@ -1,9 +1,8 @@
 use Rattle.std.proofs.Common.{◌≡◌, ℕ, List, length}
 use Rattle.proto_meaning.specs.Grown.{at}
 use Rattle.proto_listing.specs.FromTree.{imports_in}
-use Rattle.proto_imports.specs.ImportSteps.{IsFileIndex}
+use Rattle.proto_imports.proofs.Common.{IsFileIndex, text_of}
 use Rattle.proto_files.specs.FilesRead.{ReadOf, AreRead, Each, read_at}
-use Rattle.proto_imports.specs.Links.{text_of}
 use Rattle.proto_lint.specs.ImportTables.{public_targets}
 use Rattle.proto_lint.proofs.imports.all_public.Given as goal
 

@@ -1,16 +1,10 @@
-use Rattle.std.proofs.Common.{ℕ, List, map, sym, ◌∙◌, ap, subst}
-use Rattle.std.specs.List.{All}
-use Rattle.proto_text.specs.Strings.{IsString}
-use Rattle.proto_text.specs.Texts.{word_at}
-use Rattle.proto_text.specs.Tokens.{Lexeme, lexeme_at}
+use Rattle.std.proofs.Common.{ℕ, List, map, sym, ◌∙◌, ap, subst, All}
+use Rattle.proto_text.proofs.Common.{IsString, word_at, Lexeme, lexeme_at}
 use Rattle.proto_tree.specs.File.{tree_of_file}
-use Rattle.proto_files.specs.GivenFiles.{file_at}
-use Rattle.proto_listing.specs.FromTree.{imports_in}
-use Rattle.proto_listing.specs.Listing.{wanted_of}
+use Rattle.proto_files.proofs.Common.{file_at, ReadOf, read_at, AreWordsAt, same_tree, same_words}
+use Rattle.proto_listing.proofs.Common.{imports_in, wanted_of}
 use Rattle.proto_listing.specs.declared.wanted.Wanted.{Wanted}
-use Rattle.proto_files.specs.FilesRead.{ReadOf, read_at}
 use Rattle.proto_names.proofs.FileLists.{strings_at}
-use Rattle.proto_files.proofs.OneReading.{AreWordsAt, same_tree, same_words}
 use Rattle.proto_lint.specs.ImportTables.{public_targets}
 use Rattle.proto_lint.proofs.imports.public_of.Goals as goal
 

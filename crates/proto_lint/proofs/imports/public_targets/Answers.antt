@@ -1,5 +1,4 @@
-use Rattle.std.proofs.Common.{◌++◌, ℕ, List, Option, false, map, take, sym, ◌∙◌, ap}
-use Rattle.std.specs.Prelude.{option_to_list}
+use Rattle.std.proofs.Common.{◌++◌, ℕ, List, Option, false, map, take, sym, ◌∙◌, ap, option_to_list}
 use Rattle.proto_text.specs.Texts.{word_at}
 use Rattle.proto_listing.specs.Listing.{wanted_of}
 use Rattle.proto_listing.specs.declared.wanted.Wanted.{Wanted}

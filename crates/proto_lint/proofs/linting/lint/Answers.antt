@@ -1,8 +1,6 @@
 use Rattle.std.proofs.Common.{List, map, subst, sym, ap, ◌∙◌}
-use Rattle.proto_files.specs.GivenFiles.{FileOf}
-use Rattle.proto_files.specs.FilesRead.{AreRead}
-use Rattle.proto_findings.specs.Listings.{FindingOf, IsListingOf}
-use Rattle.proto_findings.specs.Views.{finding_of}
+use Rattle.proto_files.proofs.Common.{FileOf, AreRead}
+use Rattle.proto_findings.proofs.Common.{FindingOf, IsListingOf, finding_of}
 use Rattle.proto_rules.specs.declared.rule_set.RuleSet.{RuleSet}
 use Rattle.proto_lint.specs.Findings.{findings}
 use Rattle.proto_lint.proofs.linting.lint.Goals as goal

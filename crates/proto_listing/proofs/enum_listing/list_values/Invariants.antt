@@ -1,7 +1,6 @@
 use Rattle.std.proofs.Common.{◌≤◌, length, drop}
 use Rattle.proto_tree.specs.File.{trees, enum_item_tree}
-use Rattle.proto_listing.specs.declared.listing.Listing.{Listing}
-use Rattle.proto_listing.specs.Listing.{Adds, needs}
+use Rattle.proto_listing.specs.Common.{Listing, Adds, needs}
 use Rattle.proto_listing.proofs.Listed.{values_placed, no_uses}
 use Rattle.proto_listing.proofs.enum_listing.list_values.Given as goal
 

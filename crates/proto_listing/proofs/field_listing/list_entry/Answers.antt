@@ -1,9 +1,7 @@
 use Rattle.std.proofs.Common.{◌∙◌, arith}
 use Rattle.proto_meaning.specs.declared.kind.Kind.TheVariants.{Entry}
-use Rattle.proto_meaning.specs.Skeleton.{EntryOf}
-use Rattle.proto_meaning.specs.Tree.{key_word, value_word}
-use Rattle.proto_listing.specs.declared.listing.Above.TheVariants.{Below}
-use Rattle.proto_listing.specs.Listing.{path_of, read}
+use Rattle.proto_meaning.proofs.Common.{EntryOf, key_word, value_word}
+use Rattle.proto_listing.specs.Common.{Below, path_of, read}
 use Rattle.proto_listing.proofs.Growing.{adds_then, adds_below, path_below, stable, entry_last, given_last}
 use Rattle.proto_listing.proofs.field_listing.list_entry.Goals as goal
 

@@ -1,8 +1,6 @@
-use Rattle.std.proofs.Common.{refl, sym, arith}
-use Rattle.std.proofs.lemmas.List.{append-nil}
+use Rattle.std.proofs.Common.{refl, sym, arith, append-nil}
 use Rattle.proto_tree.specs.File.{field_tree}
-use Rattle.proto_listing.specs.declared.listing.Above.TheVariants.{Below}
-use Rattle.proto_listing.specs.FromTree.{type_uses, flat_uses}
+use Rattle.proto_listing.specs.Common.{Below, type_uses, flat_uses}
 use Rattle.proto_listing.proofs.Growing.{adds_as, adds_turn, adds_end}
 use Rattle.proto_listing.proofs.Listed.{fields_placed, fields_parted}
 use Rattle.proto_listing.proofs.field_listing.list_fields.Goals as goal

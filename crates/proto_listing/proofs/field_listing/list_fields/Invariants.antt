@@ -1,9 +1,6 @@
 use Rattle.std.proofs.Common.{◌≤◌, length, drop}
 use Rattle.proto_tree.specs.File.{trees, field_tree}
-use Rattle.proto_listing.specs.declared.listing.Above.TheVariants.{Below}
-use Rattle.proto_listing.specs.declared.listing.Listing.{Listing}
-use Rattle.proto_listing.specs.FromTree.{flat_uses}
-use Rattle.proto_listing.specs.Listing.{Adds, needs}
+use Rattle.proto_listing.specs.Common.{Below, Listing, flat_uses, Adds, needs}
 use Rattle.proto_listing.proofs.Listed.{fields_placed}
 use Rattle.proto_listing.proofs.field_listing.list_fields.Given as goal
 

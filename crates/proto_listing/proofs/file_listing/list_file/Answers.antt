@@ -1,5 +1,4 @@
-use Rattle.std.proofs.Common.{◌↔◌, List, sym, subst, ◌∙◌}
-use Rattle.std.specs.List.{Contains}
+use Rattle.std.proofs.Common.{◌↔◌, List, sym, subst, ◌∙◌, Contains}
 use Rattle.proto_tree.specs.File.{tree_of_file}
 use Rattle.proto_listing.specs.FromTree.{items_in}
 use Rattle.proto_meaning.specs.Tree.{Placed, file_placed}

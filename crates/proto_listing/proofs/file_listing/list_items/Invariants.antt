@@ -1,8 +1,6 @@
 use Rattle.std.proofs.Common.{◌≤◌, length, drop}
 use Rattle.proto_tree.specs.File.{trees, item_tree}
-use Rattle.proto_listing.specs.declared.listing.Listing.{Listing}
-use Rattle.proto_listing.specs.FromTree.{item_uses}
-use Rattle.proto_listing.specs.Listing.{Adds, needs}
+use Rattle.proto_listing.specs.Common.{Listing, item_uses, Adds, needs}
 use Rattle.proto_listing.proofs.Listed.{items_placed}
 use Rattle.proto_listing.proofs.file_listing.list_items.Given as goal
 

@@ -1,8 +1,7 @@
 use Rattle.std.proofs.Common.{◌≡◌, ◌+◌, ℕ, List, [], ◌∷◌, ◌++◌, get_or, map, take, refl, sym, ap, ◌∙◌, arith}
 use Rattle.std.proofs.lemmas.List.{map-append, take_more, at_drop_more}
 use Rattle.proto_meaning.specs.declared.kind.Kind.TheVariants.{Package}
-use Rattle.proto_meaning.specs.Skeleton.{Source, Token}
-use Rattle.proto_meaning.specs.Tree.{prefixes}
+use Rattle.proto_meaning.proofs.Common.{Source, Token, prefixes}
 use Rattle.proto_listing.proofs.Growing.{adds_as, adds_below, path_below}
 use Rattle.proto_listing.proofs.file_listing.list_package.Goals as goal
 

@@ -1,9 +1,6 @@
 use Rattle.std.proofs.Common.{◌≡◌, ◌≤◌, [], length, map, drop, take}
-use Rattle.proto_meaning.specs.Skeleton.{Token}
-use Rattle.proto_meaning.specs.Tree.{prefixes}
-use Rattle.proto_listing.specs.declared.listing.Above.TheVariants.{Outermost}
-use Rattle.proto_listing.specs.declared.listing.Listing.{Listing}
-use Rattle.proto_listing.specs.Listing.{Adds, needs, path_at, read}
+use Rattle.proto_meaning.proofs.Common.{Token, prefixes}
+use Rattle.proto_listing.specs.Common.{Outermost, Listing, Adds, needs, path_at, read}
 use Rattle.proto_listing.proofs.file_listing.list_package.Given as goal
 
 abbrev pub invariant-loop-word : goal.invariant-loop-word

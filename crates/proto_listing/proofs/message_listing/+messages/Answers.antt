@@ -1,10 +1,9 @@
 use Rattle.std.proofs.Common.{arith}
 use Rattle.std.proofs.lemmas.Result.{on_ok_weaker}
 use Rattle.proto_tree.specs.File.{member_tree}
-use Rattle.proto_listing.specs.FromTree.{member_uses}
+use Rattle.proto_listing.specs.Common.{member_uses, Below}
 use Rattle.proto_meaning.specs.declared.kind.Kind.TheVariants.{Message}
 use Rattle.proto_meaning.specs.Skeleton.{Token}
-use Rattle.proto_listing.specs.declared.listing.Above.TheVariants.{Below}
 use Rattle.proto_listing.proofs.Growing.{adds_below, adds_turn, adds_end}
 use Rattle.proto_listing.proofs.Listed.{members_placed, members_parted}
 use Rattle.proto_listing.proofs.message_listing.+messages.Goals as goal

@@ -1,9 +1,6 @@
 use Rattle.std.proofs.Common.{◌+◌, ◌*◌, ◌≤◌, length, drop}
 use Rattle.proto_tree.specs.File.{trees, member_tree}
-use Rattle.proto_listing.specs.declared.listing.Above.TheVariants.{Below}
-use Rattle.proto_listing.specs.declared.listing.Listing.{Listing}
-use Rattle.proto_listing.specs.FromTree.{member_uses}
-use Rattle.proto_listing.specs.Listing.{Adds, needs}
+use Rattle.proto_listing.specs.Common.{Below, Listing, member_uses, Adds, needs}
 use Rattle.proto_listing.proofs.Listed.{members_placed}
 use Rattle.proto_listing.proofs.message_listing.+messages.Given as goal
 

@@ -1,7 +1,6 @@
 use Rattle.std.proofs.Common.{arith}
 use Rattle.proto_tree.specs.File.{service_item_tree}
-use Rattle.proto_listing.specs.declared.listing.Above.TheVariants.{Below}
-use Rattle.proto_listing.specs.FromTree.{flat_uses}
+use Rattle.proto_listing.specs.Common.{Below, flat_uses}
 use Rattle.proto_listing.proofs.Growing.{adds_turn, adds_end}
 use Rattle.proto_listing.proofs.Listed.{methods_placed, methods_parted}
 use Rattle.proto_listing.proofs.service_listing.list_methods.Goals as goal

@@ -1,11 +1,9 @@
-use Rattle.std.proofs.Common.{◌≡◌, List, Vec, [], ◌∷◌, ◌++◌, map, refl, sym, ap, ◌∙◌}
-use Rattle.std.proofs.lemmas.List.{append-nil, map-append}
+use Rattle.std.proofs.Common.{◌≡◌, List, Vec, [], ◌∷◌, ◌++◌, map, refl, sym, ap, ◌∙◌, append-nil}
+use Rattle.proto_faults.proofs.Common.{map-append, all_listed, listed_turn}
 use Rattle.proto_tree.specs.declared.tree.Item.{Item}
 use Rattle.proto_tree.specs.File.{item_tree, trees}
-use Rattle.proto_listing.specs.FromTree.{imports_in}
-use Rattle.proto_listing.specs.Listing.{wanted_of}
+use Rattle.proto_listing.specs.Common.{imports_in, wanted_of}
 use Rattle.proto_listing.proofs.Behind.{imports_joined}
-use Rattle.proto_faults.proofs.Turns.{all_listed, listed_turn}
 use Rattle.proto_listing.proofs.wanted.imports.Goals.{in-Some+in_ok-push, in_default}
 use Rattle.proto_listing.proofs.wanted.imports.Goals as goal
 

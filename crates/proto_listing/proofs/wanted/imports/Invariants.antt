@@ -1,7 +1,6 @@
 use Rattle.std.proofs.Common.{◌≡◌, ◌++◌, map, drop}
 use Rattle.proto_tree.specs.File.{item_tree, trees}
-use Rattle.proto_listing.specs.FromTree.{imports_in}
-use Rattle.proto_listing.specs.Listing.{wanted_of}
+use Rattle.proto_listing.specs.Common.{imports_in, wanted_of}
 use Rattle.proto_listing.proofs.wanted.imports.Given as goal
 
 abbrev pub invariant-loop-item : goal.invariant-loop-item

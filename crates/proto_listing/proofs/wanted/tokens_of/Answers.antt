@@ -1,5 +1,4 @@
-use Rattle.std.proofs.Common.{List, [], ◌∷◌, map, refl, ap, ◌∙◌}
-use Rattle.std.proofs.lemmas.List.{take_all}
+use Rattle.std.proofs.Common.{List, [], ◌∷◌, map, refl, ap, ◌∙◌, take_all}
 use Rattle.proto_tree.specs.declared.tree.Behind.{Behind}
 use Rattle.proto_faults.proofs.Turns.{pushed_more}
 use Rattle.proto_listing.proofs.wanted.tokens_of.Goals as goal

@@ -1,13 +1,10 @@
 use Rattle.std.proofs.Common.{List, [], ◌∷◌, ◌++◌, map, refl, sym, ap, ◌∙◌, arith}
-use Rattle.std.proofs.lemmas.List.{map-append}
+use Rattle.proto_faults.proofs.Common.{map-append, all_listed}
 use Rattle.proto_tree.specs.declared.tree.Member.{Member}
-use Rattle.proto_tree.specs.File.{member_tree, trees}
-use Rattle.proto_tree.proofs.Nodes.{member_tree-Enum, member_tree-Oneof}
-use Rattle.proto_parts.specs.Parts.{BlockOf}
-use Rattle.proto_parts.proofs.ItemBlocks.{wanted_turn}
+use Rattle.proto_tree.proofs.Common.{member_tree, trees, member_tree-Enum, member_tree-Oneof}
+use Rattle.proto_parts.proofs.Common.{BlockOf, wanted_turn}
 use Rattle.proto_members.specs.Blocks.{block_of, holders_in, may_hold}
 use Rattle.proto_members.proofs.BlockTrees.{enum_alone, oneof_alone}
-use Rattle.proto_faults.proofs.Turns.{all_listed}
 use Rattle.proto_members.proofs.blocks.+blocks.Goals as goal
 
 pub push_members-loop-member-preserved : goal.push_members-loop-member-preserved

@@ -1,8 +1,7 @@
 use Rattle.std.proofs.Common.{List, find, map, option_map, ap, ◌∙◌}
 use Rattle.std.proofs.lemmas.Result.{IfOk-weaker}
 use Rattle.proto_parts.specs.Parts.{BlockOf}
-use Rattle.proto_members.specs.Blocks.{block_of}
-use Rattle.proto_members.specs.Members.{holds_value, name_token}
+use Rattle.proto_members.specs.Common.{block_of, holds_value, name_token}
 use Rattle.proto_members.proofs.enum_names.enum_in.Goals as goal
 
 pub returns : goal.returns

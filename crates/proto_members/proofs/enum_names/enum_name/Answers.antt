@@ -1,5 +1,4 @@
-use Rattle.std.proofs.Common.{List, ℕ, ◌++◌, sym, ap, ◌∙◌}
-use Rattle.std.specs.String.{string_bytes}
+use Rattle.std.proofs.Common.{List, ℕ, ◌++◌, sym, ap, ◌∙◌, string_bytes}
 use Rattle.proto_text.specs.Texts.{word_at}
 use Rattle.proto_tree.specs.File.{tree_of_file}
 use Rattle.proto_files.specs.FilesRead.{read_at}

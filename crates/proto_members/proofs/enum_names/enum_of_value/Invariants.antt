@@ -1,7 +1,5 @@
-use Rattle.std.proofs.Common.{◌≡◌, map, drop}
-use Rattle.std.specs.Prelude.{find}
-use Rattle.proto_members.specs.Blocks.{block_of}
-use Rattle.proto_members.specs.Members.{holds_value}
+use Rattle.std.proofs.Common.{◌≡◌, map, drop, find}
+use Rattle.proto_members.specs.Common.{block_of, holds_value}
 use Rattle.proto_members.proofs.enum_names.enum_of_value.Given as goal
 
 abbrev pub invariant-loop-block : goal.invariant-loop-block

@@ -1,9 +1,7 @@
 use Rattle.std.proofs.Common.{None, [], ◌∷◌, ◌++◌, map, refl, ap, ◌∙◌, arith}
-use Rattle.std.proofs.lemmas.List.{map-append}
+use Rattle.proto_faults.proofs.Common.{map-append, all_listed, listed_turn}
 use Rattle.proto_tree.specs.File.{field_tree, trees}
-use Rattle.proto_parts.specs.Parts.{fields_in, plain_field}
-use Rattle.proto_parts.specs.Views.{field_of}
-use Rattle.proto_faults.proofs.Turns.{all_listed, listed_turn}
+use Rattle.proto_parts.proofs.Common.{fields_in, plain_field, field_of}
 use Rattle.proto_members.proofs.members.oneof_fields.Goals as goal
 
 pub loop-field-preserved : goal.loop-field-preserved

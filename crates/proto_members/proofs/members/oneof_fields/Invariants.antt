@@ -1,7 +1,6 @@
 use Rattle.std.proofs.Common.{◌≡◌, ◌++◌, map, drop}
 use Rattle.proto_tree.specs.File.{field_tree, trees}
-use Rattle.proto_parts.specs.Parts.{fields_in}
-use Rattle.proto_parts.specs.Views.{field_of}
+use Rattle.proto_parts.proofs.Common.{fields_in, field_of}
 use Rattle.proto_members.proofs.members.oneof_fields.Given as goal
 
 abbrev pub invariant-loop-field : goal.invariant-loop-field

@@ -1,10 +1,8 @@
 use Rattle.std.proofs.Common.{◌↔◌, IsTrue, map, sym, subst, ap, ◌∙◌}
-use Rattle.std.specs.List.{list_any}
-use Rattle.std.proofs.lemmas.Result.{IfOk-weaker}
+use Rattle.proto_faults.proofs.Common.{list_any, IfOk-weaker}
 use Rattle.proto_tree.specs.File.{tree_of_file}
 use Rattle.proto_captures.specs.Cases.{Reserves}
-use Rattle.proto_members.specs.Blocks.{block_of}
-use Rattle.proto_members.specs.Members.{reserves}
+use Rattle.proto_members.specs.Common.{block_of, reserves}
 use Rattle.proto_members.proofs.AimedAt.{aim_inside}
 use Rattle.proto_members.proofs.ReservedNames.{reserves_from, reserves_to}
 use Rattle.proto_members.proofs.reserved.is_reserved.Goals as goal

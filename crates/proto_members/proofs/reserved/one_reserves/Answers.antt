@@ -1,6 +1,5 @@
 use Rattle.std.proofs.Common.{sym, ◌∙◌, arith}
-use Rattle.proto_members.specs.Blocks.{block_of}
-use Rattle.proto_members.specs.Members.{reserves}
+use Rattle.proto_members.specs.Common.{block_of, reserves}
 use Rattle.proto_faults.proofs.Turns.{none_passed, passed_over, stops_here}
 use Rattle.proto_members.proofs.reserved.one_reserves.Goals as goal
 

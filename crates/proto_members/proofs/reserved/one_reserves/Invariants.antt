@@ -1,7 +1,6 @@
 use Rattle.std.proofs.Common.{◌≡◌, map, drop}
 use Rattle.std.specs.List.{list_any}
-use Rattle.proto_members.specs.Blocks.{block_of}
-use Rattle.proto_members.specs.Members.{reserves}
+use Rattle.proto_members.specs.Common.{block_of, reserves}
 use Rattle.proto_members.proofs.reserved.one_reserves.Given as goal
 
 abbrev pub invariant-loop-block : goal.invariant-loop-block

@@ -1,6 +1,5 @@
 use Rattle.std.proofs.Common.{sym, ap, ◌∙◌}
-use Rattle.proto_members.specs.Blocks.{block_of}
-use Rattle.proto_members.specs.Members.{reserves}
+use Rattle.proto_members.specs.Common.{block_of, reserves}
 use Rattle.proto_members.proofs.BlockTrees.{oneof_reserves}
 use Rattle.proto_members.proofs.reserved.reserves.Goals as goal
 

@@ -1,16 +1,11 @@
-use Rattle.std.proofs.Common.{◌<◌, ℕ, List, [], ◌∷◌, ◌++◌, length, get_or, map, sym, ◌∙◌, ap, subst, arith}
-use Rattle.std.specs.Prelude.{is_ok}
-use Rattle.std.proofs.lemmas.Bool.{cond-true}
-use Rattle.std.proofs.lemmas.List.{get_or-map, length-append, length-map, map-append}
-use Rattle.std.proofs.lemmas.Result.{err_from_is_err_and}
-use Rattle.proto_names.specs.FileReferences.{AreFileMeant}
+use Rattle.std.proofs.Common.{◌<◌, ℕ, List, [], ◌∷◌, ◌++◌, length, get_or, map, sym, ◌∙◌, ap, subst, arith, is_ok, length-append}
+use Rattle.proto_faults.proofs.Common.{cond-true, get_or-map, length-map, map-append, err_from_is_err_and}
+use Rattle.proto_names.specs.Common.{AreFileMeant, Meant}
 use Rattle.proto_files.specs.FilesRead.{read_at}
-use Rattle.proto_imports.specs.Links.{IsListing}
+use Rattle.proto_imports.proofs.Common.{IsListing, pushed}
 use Rattle.proto_listing.specs.declared.listing.Listing.{Listing}
-use Rattle.proto_names.specs.declared.references.Meant.{Meant}
 use Rattle.proto_names.proofs.FileMeanings.{linked_at}
 use Rattle.proto_names.proofs.LeastFlaws.{all_clean, least_error}
-use Rattle.proto_imports.proofs.SeenFiles.{pushed}
 use Rattle.proto_names.proofs.all_references.all_meanings.Goals as goal
 
 pub file_meanings-requires-clause-listing : goal.file_meanings-requires-clause-listing

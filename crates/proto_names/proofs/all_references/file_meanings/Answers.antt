@@ -1,9 +1,6 @@
-use Rattle.std.proofs.Common.{◌≡◌, List, map, refl, sym, ◌∙◌, ap, subst}
-use Rattle.std.specs.List.{All}
+use Rattle.std.proofs.Common.{◌≡◌, List, map, refl, sym, ◌∙◌, ap, subst, All}
 use Rattle.std.proofs.lemmas.Result.{IfOk-weaker, IfErr-weaker}
-use Rattle.proto_text.proofs.Once.{one_token_list}
-use Rattle.proto_text.specs.Texts.{word_at}
-use Rattle.proto_text.specs.Tokens.{Lexeme, lexeme_at}
+use Rattle.proto_text.proofs.Common.{one_token_list, word_at, Lexeme, lexeme_at}
 use Rattle.proto_files.specs.GivenFiles.{file_at}
 use Rattle.proto_names.specs.FileReferences.{declared_names}
 use Rattle.proto_tree.specs.References.{dotted}

@@ -1,8 +1,6 @@
-use Rattle.std.proofs.Common.{[], ◌++◌, get_or, length, map, refl, ◌∙◌, ap, arith}
-use Rattle.std.proofs.lemmas.List.{length-map, length-set, take_all}
-use Rattle.std.proofs.lemmas.Result.{IfOk-from_err}
-use Rattle.proto_names.specs.Linking.{meant_by, references_to}
-use Rattle.proto_names.specs.declared.references.Meant.{Meant}
+use Rattle.std.proofs.Common.{[], ◌++◌, get_or, length, map, refl, ◌∙◌, ap, arith, length-set, take_all}
+use Rattle.proto_faults.proofs.Common.{length-map, IfOk-from_err}
+use Rattle.proto_names.specs.Common.{meant_by, references_to, Meant}
 use Rattle.proto_names.proofs.MeantBy.{more_put}
 use Rattle.proto_names.proofs.backlinks.put_all.Goals as goal
 

@@ -1,5 +1,4 @@
-use Rattle.std.proofs.Common.{true, false, option_map, sym, ◌∙◌, ap}
-use Rattle.std.specs.Option.{option_and_then}
+use Rattle.std.proofs.Common.{true, false, option_map, sym, ◌∙◌, ap, option_and_then}
 use Rattle.std.proofs.lemmas.Option.{slice_get_past}
 use Rattle.proto_names.proofs.Linking.{own_row}
 use Rattle.proto_names.proofs.link.declared.Goals as goal

@@ -1,18 +1,14 @@
 use Rattle.std.proofs.Common.{◌≡◌, ℕ, ◌≤◌, ◌<◌, List, length, get_or, map, Some, sym, subst, arith}
 use Rattle.proto_text.specs.Texts.{word_at}
-use Rattle.proto_listing.specs.FromTree.{items_in}
+use Rattle.proto_listing.proofs.Common.{items_in, last_token, needs, package_first, read, whole}
 use Rattle.proto_meaning.specs.Grown.{at}
-use Rattle.proto_table.specs.LastWords.{AreListed, named_as}
-use Rattle.proto_files.specs.FilesRead.{ReadOf, AreRead, read_at}
+use Rattle.proto_table.proofs.Common.{AreListed, named_as, AreSpelled, named_in}
+use Rattle.proto_files.proofs.Common.{ReadOf, AreRead, read_at, each_pushed, AreWordsAt}
 use Rattle.proto_imports.specs.Links.{IsListing, text_of}
-use Rattle.proto_listing.specs.Listing.{last_token, needs, package_first, read, whole}
-use Rattle.proto_table.specs.Spelled.{AreSpelled, named_in}
 use Rattle.proto_listing.specs.declared.listing.Listed.{Listed}
 use Rattle.proto_listing.specs.declared.listing.Listing.{Listing}
 use Rattle.proto_names.proofs.EachFile.{all_pushed, named_files}
-use Rattle.proto_files.proofs.FilesAreRead.{each_pushed}
 use Rattle.proto_names.proofs.FileLists.{listed_at, named_at}
-use Rattle.proto_files.proofs.OneReading.{AreWordsAt}
 use Rattle.proto_names.proofs.read_files.all_spelled.Goals as goal
 
 pub spelled-requires-clause-ordered : goal.spelled-requires-clause-ordered

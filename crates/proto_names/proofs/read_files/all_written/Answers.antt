@@ -1,18 +1,12 @@
-use Rattle.std.proofs.Common.{◌≡◌, List, length, map, sym, subst, arith}
-use Rattle.std.specs.List.{All}
-use Rattle.proto_text.specs.Strings.{IsString}
-use Rattle.proto_text.specs.Texts.{word_at}
+use Rattle.std.proofs.Common.{◌≡◌, List, length, map, sym, subst, arith, All}
+use Rattle.proto_text.proofs.Common.{IsString, word_at}
 use Rattle.proto_tree.specs.File.{tree_of_file}
 use Rattle.proto_listing.specs.FromTree.{imports_in}
-use Rattle.proto_imports.specs.Importing.{asked_by, AreRising}
-use Rattle.proto_files.specs.FilesRead.{ReadOf, read_at}
-use Rattle.proto_imports.specs.Links.{asked_as, text_of}
-use Rattle.proto_imports.specs.Written.{AreWritten}
+use Rattle.proto_imports.proofs.Common.{asked_by, AreRising, asked_as, text_of, AreWritten}
+use Rattle.proto_files.proofs.Common.{ReadOf, read_at, each_pushed, AreWordsAt}
 use Rattle.proto_listing.specs.declared.wanted.Wanted.{Wanted}
 use Rattle.proto_names.proofs.EachFile.{all_pushed, asked_files}
-use Rattle.proto_files.proofs.FilesAreRead.{each_pushed}
 use Rattle.proto_names.proofs.FileLists.{asked_at, rising_at, strings_at}
-use Rattle.proto_files.proofs.OneReading.{AreWordsAt}
 use Rattle.proto_names.proofs.read_files.all_written.Goals as goal
 
 pub written-requires : goal.written-requires

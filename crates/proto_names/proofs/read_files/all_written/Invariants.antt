@@ -1,10 +1,7 @@
-use Rattle.std.proofs.Common.{◌≡◌, List, length, map}
-use Rattle.std.specs.List.{All}
+use Rattle.std.proofs.Common.{◌≡◌, List, length, map, All}
 use Rattle.proto_listing.specs.FromTree.{imports_in}
-use Rattle.proto_imports.specs.Importing.{asked_by, AreRising}
-use Rattle.proto_files.specs.FilesRead.{ReadOf, AreRead, read_at}
-use Rattle.proto_files.specs.FilesRead.{Each}
-use Rattle.proto_imports.specs.Links.{asked_as, text_of}
+use Rattle.proto_imports.proofs.Common.{asked_by, AreRising, asked_as, text_of}
+use Rattle.proto_files.specs.FilesRead.{ReadOf, AreRead, read_at, Each}
 use Rattle.proto_names.proofs.read_files.all_written.Given as goal
 
 abbrev pub invariant-loop-file : goal.invariant-loop-file

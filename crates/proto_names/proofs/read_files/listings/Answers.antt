@@ -1,8 +1,7 @@
 use Rattle.std.proofs.Common.{◌≡◌, List, length, arith}
 use Rattle.proto_tree.specs.File.{tree_of_file}
-use Rattle.proto_files.specs.FilesRead.{ReadOf, read_at}
+use Rattle.proto_files.proofs.Common.{ReadOf, read_at, each_pushed}
 use Rattle.proto_imports.specs.Links.{IsListing}
-use Rattle.proto_files.proofs.FilesAreRead.{each_pushed}
 use Rattle.proto_names.proofs.FileLists.{listing_at}
 use Rattle.proto_names.proofs.read_files.listings.Goals as goal
 

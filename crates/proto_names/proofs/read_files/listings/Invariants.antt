@@ -1,6 +1,5 @@
 use Rattle.std.proofs.Common.{◌≡◌, List, length}
-use Rattle.proto_files.specs.FilesRead.{ReadOf, AreRead, read_at}
-use Rattle.proto_files.specs.FilesRead.{Each}
+use Rattle.proto_files.specs.FilesRead.{ReadOf, AreRead, read_at, Each}
 use Rattle.proto_imports.specs.Links.{IsListing}
 use Rattle.proto_names.proofs.read_files.listings.Given as goal
 

@@ -1,7 +1,5 @@
-use Rattle.std.proofs.Common.{◌<◌, ◌+◌, take, ◌∷◌, ◌++◌, [], length, get_or, map, option_map, refl, sym, ◌∙◌, ap, subst}
-use Rattle.std.specs.Prelude.{is_ok}
+use Rattle.std.proofs.Common.{◌<◌, ◌+◌, take, ◌∷◌, ◌++◌, [], length, get_or, map, option_map, refl, sym, ◌∙◌, ap, subst, is_ok, take_all}
 use Rattle.std.proofs.lemmas.Bool.{cond-true}
-use Rattle.std.proofs.lemmas.List.{take_all}
 use Rattle.proto_text.specs.Texts.{word_at}
 use Rattle.proto_table.specs.Tables.{names_of}
 use Rattle.proto_names.specs.Referring.{first_token, reference_by, row_flaw, AreMeant}

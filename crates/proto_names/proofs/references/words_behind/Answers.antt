@@ -1,6 +1,5 @@
-use Rattle.std.proofs.Common.{ℕ, [], ◌∷◌, ◌++◌, map, take, sym, ◌∙◌, ap}
-use Rattle.std.proofs.lemmas.List.{map_more, map_push, take_all}
-use Rattle.std.proofs.lemmas.Result.{IfOk-from_err}
+use Rattle.std.proofs.Common.{ℕ, [], ◌∷◌, ◌++◌, map, take, sym, ◌∙◌, ap, take_all}
+use Rattle.proto_faults.proofs.Common.{map_more, map_push, IfOk-from_err}
 use Rattle.proto_text.specs.Texts.{word_at}
 use Rattle.proto_tree.specs.declared.tree.Behind.{Behind}
 use Rattle.proto_names.proofs.references.words_behind.Goals as goal

@@ -1,9 +1,7 @@
 use Rattle.std.proofs.Common.{◌≢◌, ℕ, ◌+◌, ◌<◌, [], length, get_or, map, sym, ◌∙◌, ap}
 use Rattle.proto_text.specs.Texts.{word_at}
-use Rattle.proto_table.specs.Resolved.{under_all}
-use Rattle.proto_table.specs.Tables.{names_of, look}
+use Rattle.proto_table.proofs.Common.{under_all, names_of, look, if_none}
 use Rattle.proto_names.proofs.InScope.{drop_behind, behind_step}
-use Rattle.proto_table.proofs.Resolved.{if_none}
 use Rattle.proto_names.proofs.resolve.follow.Goals as goal
 
 pub returns-in_err-row-clause-none : goal.returns-in_err-row-clause-none

@@ -1,14 +1,10 @@
 use Rattle.std.proofs.Common.{◌∷◌, [], get_or, option_map, is_some, None, sym, ◌∙◌, ap, subst, arith, string_bytes}
-use Rattle.std.proofs.lemmas.List.{length-map}
-use Rattle.std.proofs.lemmas.Option.{MatchOption-from_none}
-use Rattle.std.proofs.lemmas.Simd.{map-map}
+use Rattle.proto_faults.proofs.Common.{length-map, MatchOption-from_none, map-map}
 use Rattle.proto_text.specs.Texts.{word_at}
 use Rattle.proto_meaning.specs.Joined.{IsPlain, ArePlain}
-use Rattle.proto_table.specs.Resolved.{IsTypeAt, under_all}
-use Rattle.proto_table.specs.Tables.{names_of}
+use Rattle.proto_table.proofs.Common.{IsTypeAt, under_all, names_of, absolute_is, absolute_none}
 use Rattle.proto_names.proofs.InScope.{empty_behind, type_within, words_by, scoped_is, scoped_none}
 use Rattle.proto_names.proofs.Referring.{same_words}
-use Rattle.proto_table.proofs.Resolved.{absolute_is, absolute_none}
 use Rattle.proto_names.proofs.resolve.row_in_scope.Goals as goal
 
 pub returns-in_err-top-in-Some-clause-meant : goal.returns-in_err-top-in-Some-clause-meant

@@ -1,12 +1,9 @@
-use Rattle.std.proofs.Common.{◌≡◌, ℕ, ◌<◌, List, length, map, sym, ◌∙◌, ap, subst, arith}
-use Rattle.std.specs.List.{All}
-use Rattle.std.proofs.lemmas.List.{length-map}
-use Rattle.std.proofs.lemmas.Result.{IfOk-from_err}
+use Rattle.std.proofs.Common.{◌≡◌, ℕ, ◌<◌, List, length, map, sym, ◌∙◌, ap, subst, arith, All}
+use Rattle.proto_faults.proofs.Common.{length-map, IfOk-from_err}
 use Rattle.proto_meaning.specs.Faults.{Asked, Fault, ImportFault, imports_of}
 use Rattle.proto_faults.specs.declared.fault.SchemaFault.TheVariants.{NoMemory}
 use Rattle.proto_files.specs.GivenFiles.{paths_of}
-use Rattle.proto_imports.specs.Importing.{AreRising, IsImportError, all_asked, fault_of}
-use Rattle.proto_imports.specs.Links.{all_wanted, text_of}
+use Rattle.proto_imports.proofs.Common.{AreRising, IsImportError, all_asked, fault_of, all_wanted, text_of}
 use Rattle.proto_names.proofs.LinkErrors.{error_is, import_error, import_file, least_as_read}
 use Rattle.proto_names.proofs.whole_link.linked_imports.Goals as goal
 

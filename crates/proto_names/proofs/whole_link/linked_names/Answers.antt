@@ -1,9 +1,6 @@
-use Rattle.std.proofs.Common.{length, map, sym, ◌∙◌, ap, subst, arith}
-use Rattle.std.specs.List.{All}
-use Rattle.std.proofs.lemmas.List.{length-map}
-use Rattle.std.proofs.lemmas.Result.{err_from_is_err_and}
-use Rattle.proto_table.specs.Filling.{IsNameError}
-use Rattle.proto_table.specs.Spelled.{AreSpelled, ClashFault, all_named}
+use Rattle.std.proofs.Common.{length, map, sym, ◌∙◌, ap, subst, arith, All}
+use Rattle.proto_faults.proofs.Common.{length-map, err_from_is_err_and}
+use Rattle.proto_table.proofs.Common.{IsNameError, AreSpelled, ClashFault, all_named}
 use Rattle.proto_table.specs.declared.filling.NameError.TheVariants.{Clash}
 use Rattle.proto_names.proofs.NameErrors.{clash_error, clash_within, no_name_fault}
 use Rattle.proto_names.proofs.TableNames.{spelled_of, names_of_table, rows_listed, rows_within}

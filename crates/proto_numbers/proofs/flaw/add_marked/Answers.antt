@@ -1,6 +1,5 @@
 use Rattle.std.proofs.Common.{◌++◌, List, false, sym, ap, ◌∙◌, get_or, take, append_assoc}
-use Rattle.proto_numbers.specs.declared.flaw.Flaw.{Flaw}
-use Rattle.proto_numbers.specs.Flaws.{flaw_if, marked}
+use Rattle.proto_numbers.specs.Common.{Flaw, flaw_if, marked}
 use Rattle.proto_numbers.proofs.FlawLists.{marked_more, marked_whole}
 use Rattle.proto_numbers.proofs.flaw.add_marked.Goals as goal
 

@@ -1,8 +1,5 @@
-use Rattle.std.proofs.Common.{List, subst, refl}
-use Rattle.std.specs.List.{Contains}
-use Rattle.std.proofs.lemmas.List.{take_all}
-use Rattle.proto_numbers.specs.declared.flaw.Flaw.{Flaw}
-use Rattle.proto_numbers.specs.Flaws.{IsLeast}
+use Rattle.std.proofs.Common.{List, subst, refl, Contains, take_all}
+use Rattle.proto_numbers.specs.Common.{Flaw, IsLeast}
 use Rattle.proto_numbers.proofs.FlawLists.{least_none, least_more}
 use Rattle.proto_numbers.proofs.flaw.least.Goals as goal
 

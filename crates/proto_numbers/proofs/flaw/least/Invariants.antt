@@ -1,5 +1,4 @@
-use Rattle.std.proofs.Common.{take}
-use Rattle.std.specs.List.{Contains}
+use Rattle.std.proofs.Common.{take, Contains}
 use Rattle.proto_numbers.specs.Flaws.{IsLeast}
 use Rattle.proto_numbers.proofs.flaw.least.Given as goal
 

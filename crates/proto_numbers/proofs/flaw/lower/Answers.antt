@@ -1,5 +1,4 @@
-use Rattle.std.proofs.Common.{subst, sym, ◌∙◌}
-use Rattle.std.specs.List.{Contains}
+use Rattle.std.proofs.Common.{subst, sym, ◌∙◌, Contains}
 use Rattle.proto_numbers.specs.Flaws.{IsLeast}
 use Rattle.proto_numbers.proofs.FlawLists.{first_is_least, lower_is_least, least_stays}
 use Rattle.proto_numbers.proofs.flaw.lower.Goals as goal

@@ -1,9 +1,5 @@
-use Rattle.std.proofs.Common.{rules, ◌++◌, ◌∷◌, [], List, Bool, sym, ap, ◌∙◌}
-use Rattle.std.specs.Prelude.{not}
-use Rattle.std.specs.List.{list_any}
-use Rattle.std.proofs.lemmas.List.{map-id}
-use Rattle.std.proofs.lemmas.Iterator.Adapters.{YieldsList-from_vec}
-use Rattle.std.proofs.lemmas.Iterator.Consumers.{YieldsList-end}
+use Rattle.std.proofs.Common.{rules, ◌++◌, ◌∷◌, [], List, Bool, sym, ap, ◌∙◌, not, map-id}
+use Rattle.proto_faults.proofs.Common.{list_any, YieldsList-from_vec, YieldsList-end}
 use Rattle.indexmap.specs.IndexSet.{contains}
 use Rattle.proto_numbers.specs.Flaws.{after_earlier}
 use Rattle.proto_numbers.proofs.FlawLists.{repeats_snoc, new_is, seen_more}

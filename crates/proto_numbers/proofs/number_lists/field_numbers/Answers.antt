@@ -1,7 +1,6 @@
 use Rattle.std.proofs.Common.{[], ◌∷◌, ◌++◌, ap, ◌∙◌}
 use Rattle.proto_parts.specs.Views.{field_of}
-use Rattle.proto_numbers.specs.declared.numbers.NumberAt.{NumberAt}
-use Rattle.proto_numbers.specs.NumberFlaws.{number_of_field}
+use Rattle.proto_numbers.specs.Common.{NumberAt, number_of_field}
 use Rattle.proto_faults.proofs.Turns.{listed_more, listed_all}
 use Rattle.proto_numbers.proofs.number_lists.field_numbers.Goals as goal
 

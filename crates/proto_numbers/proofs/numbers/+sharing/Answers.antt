@@ -1,6 +1,5 @@
 use Rattle.std.proofs.Common.{subst, sym}
-use Rattle.proto_numbers.specs.NumberFlaws.{share}
-use Rattle.proto_numbers.specs.RangeIndex.{IsIndexOf}
+use Rattle.proto_numbers.specs.Common.{share, IsIndexOf}
 use Rattle.proto_numbers.proofs.FlawLists.{sharing_halves}
 use Rattle.proto_numbers.proofs.numbers.+sharing.Goals as goal
 

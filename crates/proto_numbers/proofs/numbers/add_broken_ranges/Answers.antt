@@ -1,7 +1,5 @@
-use Rattle.std.specs.Prelude.{not}
-use Rattle.std.proofs.Common.{◌++◌, take, ap, ◌∙◌}
-use Rattle.std.specs.Int.{w128}
-use Rattle.std.proofs.lemmas.Int.{to_z-of_z}
+use Rattle.std.proofs.Common.{not, ◌++◌, take, ap, ◌∙◌}
+use Rattle.proto_faults.proofs.Common.{w128, to_z-of_z}
 use mir.Val.{of_z, to_z}
 use Rattle.proto_faults.specs.declared.fault.FaultKind.TheVariants as kind
 use Rattle.proto_numbers.specs.NumberFlaws.{broken_ranges, is_sound_range}

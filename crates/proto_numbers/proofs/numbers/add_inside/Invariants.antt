@@ -1,7 +1,6 @@
 use Rattle.std.proofs.Common.{◌≡◌, ◌++◌, List, take}
 use Rattle.proto_parts.specs.declared.ranges.RangeAt.{RangeAt}
-use Rattle.proto_numbers.specs.NumberFlaws.{reserved_numbers}
-use Rattle.proto_numbers.specs.RangeIndex.{IsIndexOf}
+use Rattle.proto_numbers.specs.Common.{reserved_numbers, IsIndexOf}
 use Rattle.proto_numbers.proofs.numbers.add_inside.Given as goal
 
 abbrev pub invariant-loop-at : goal.invariant-loop-at

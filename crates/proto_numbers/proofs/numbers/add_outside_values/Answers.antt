@@ -1,5 +1,4 @@
-use Rattle.std.specs.Prelude.{not}
-use Rattle.std.proofs.Common.{rules, ap, ◌∙◌}
+use Rattle.std.proofs.Common.{not, rules, ap, ◌∙◌}
 use Rattle.proto_faults.specs.declared.fault.FaultKind.TheVariants as kind
 use Rattle.proto_numbers.specs.NumberFlaws.{is_value_number}
 use Rattle.proto_numbers.proofs.FlawLists.{flaws_turn, flaws_end}

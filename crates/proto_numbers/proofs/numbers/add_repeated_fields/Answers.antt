@@ -1,5 +1,4 @@
-use Rattle.std.proofs.Common.{◌∙◌}
-use Rattle.std.specs.Ordering.{int_eq}
+use Rattle.std.proofs.Common.{◌∙◌, int_eq}
 use Rattle.proto_numbers.proofs.FlawLists.{flags_length}
 use Rattle.proto_numbers.proofs.numbers.add_repeated_fields.Goals as goal
 

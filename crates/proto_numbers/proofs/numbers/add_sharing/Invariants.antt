@@ -1,8 +1,6 @@
 use Rattle.std.proofs.Common.{◌≡◌, ◌++◌, List, take}
 use Rattle.proto_parts.specs.declared.ranges.RangeAt.{RangeAt}
-use Rattle.proto_numbers.specs.Flaws.{earlier}
-use Rattle.proto_numbers.specs.NumberFlaws.{share}
-use Rattle.proto_numbers.specs.RangeIndex.{IsIndexOf}
+use Rattle.proto_numbers.specs.Common.{earlier, share, IsIndexOf}
 use Rattle.proto_numbers.proofs.numbers.add_sharing.Given as goal
 
 abbrev pub invariant-loop-i : goal.invariant-loop-i

@@ -1,5 +1,4 @@
-use Rattle.std.proofs.Common.{rules}
-use Rattle.std.specs.Prelude.{int_le}
+use Rattle.std.proofs.Common.{rules, int_le}
 use Rattle.std.proofs.lemmas.List.Sorted.{IsPartitionPoint-from_clause}
 use Rattle.proto_numbers.proofs.IndexLemmas.{partitioned}
 use Rattle.proto_numbers.proofs.range_index.begun.Goals as goal

@@ -1,5 +1,4 @@
-use Rattle.std.proofs.Common.{List, [], subst, sym, refl}
-use Rattle.std.proofs.lemmas.List.{take_all}
+use Rattle.std.proofs.Common.{List, [], subst, sym, refl, take_all}
 use Rattle.proto_parts.specs.declared.ranges.RangeAt.{RangeAt}
 use Rattle.proto_numbers.specs.RangeIndex.{AreRaised}
 use Rattle.proto_numbers.proofs.IndexLemmas.{none_raised, raised_turn, most_turn}

@@ -1,8 +1,5 @@
-use Rattle.std.proofs.Common.{ℕ, List, ◌++◌, codes, rules}
-use Rattle.std.specs.Prelude.{OnErr, OnOk}
-use Rattle.std.specs.Io.KnownBytes.{Appends}
-use Rattle.std.specs.String.{string_bytes}
-use Rattle.std.proofs.lemmas.Result.{err_from_is_err_and}
+use Rattle.std.proofs.Common.{ℕ, List, ◌++◌, codes, rules, OnErr, OnOk, string_bytes}
+use Rattle.proto_faults.proofs.Common.{Appends, err_from_is_err_and}
 use Rattle.proto_output.specs.Writing.{AppendsBeginning}
 use Rattle.proto_output.proofs.Beginnings.{begins_behind, begins_longer, three_begun, three_written}
 use Rattle.proto_output.proofs.edit_lines.write_change.Goals as goal

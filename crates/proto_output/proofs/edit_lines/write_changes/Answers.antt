@@ -1,7 +1,5 @@
 use Rattle.std.proofs.Common.{map, sym, subst, take}
-use Rattle.std.specs.Io.KnownBytes.{Appends}
-use Rattle.std.proofs.KnownBytes.{Appends-nil, Appends-trans}
-use Rattle.std.proofs.lemmas.Result.{err_from_is_err_and}
+use Rattle.proto_faults.proofs.Common.{Appends, Appends-nil, Appends-trans, err_from_is_err_and}
 use Rattle.proto_entries.specs.Entries.{change_of}
 use Rattle.proto_output.specs.EditLines.{changed_line, changed_lines}
 use Rattle.proto_output.proofs.ChangeLines.{changes_more, lines_begun}

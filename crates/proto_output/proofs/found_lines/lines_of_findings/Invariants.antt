@@ -1,6 +1,4 @@
-use Rattle.std.proofs.Common.{◌≡◌, map, take}
-use Rattle.std.specs.List.{flat_map}
-use Rattle.std.specs.String.{string_bytes}
+use Rattle.std.proofs.Common.{◌≡◌, map, take, flat_map, string_bytes}
 use Rattle.proto_files.specs.GivenFiles.{file_at}
 use Rattle.proto_findings.specs.Views.{finding_of}
 use Rattle.proto_output.specs.FoundLines.{found_line}

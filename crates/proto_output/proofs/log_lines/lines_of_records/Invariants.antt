@@ -1,5 +1,4 @@
-use Rattle.std.proofs.Common.{◌≡◌, take}
-use Rattle.std.specs.String.{string_bytes}
+use Rattle.std.proofs.Common.{◌≡◌, take, string_bytes}
 use Rattle.proto_output.specs.LogLines.{lines_from}
 use Rattle.proto_output.proofs.log_lines.lines_of_records.Given as goal
 

@@ -1,6 +1,4 @@
-use Rattle.std.proofs.Common.{◌≡◌, ◌++◌, ◌∷◌, [], List, ℕ, map, sym, take, ap, ◌∙◌, append-nil, append_assoc, arith, rules}
-use Rattle.std.proofs.lemmas.List.{take_all}
-use Rattle.std.specs.String.{string_bytes}
+use Rattle.std.proofs.Common.{◌≡◌, ◌++◌, ◌∷◌, [], List, ℕ, map, sym, take, ap, ◌∙◌, append-nil, append_assoc, arith, rules, take_all, string_bytes}
 use Rattle.proto_entries.specs.Entries.{change_of}
 use Rattle.proto_entries.specs.declared.entry.Change.{Change}
 use Rattle.proto_output.specs.LogLines.{joined_paths}

@@ -1,5 +1,4 @@
-use Rattle.std.proofs.Common.{◌≡◌, ◌++◌, map, take}
-use Rattle.std.specs.String.{string_bytes}
+use Rattle.std.proofs.Common.{◌≡◌, ◌++◌, map, take, string_bytes}
 use Rattle.proto_entries.specs.Entries.{change_of}
 use Rattle.proto_output.proofs.LogSteps.{behind}
 use Rattle.proto_output.proofs.log_lines.paths_text.Given as goal

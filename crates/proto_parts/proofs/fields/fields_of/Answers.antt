@@ -1,6 +1,5 @@
 use Rattle.std.proofs.Common.{map, refl, arith}
-use Rattle.proto_parts.specs.Parts.{fields_from, fields_in}
-use Rattle.proto_parts.specs.Views.{field_of}
+use Rattle.proto_parts.specs.Common.{fields_from, fields_in, field_of}
 use Rattle.proto_tree.specs.File.{member_tree, trees}
 use Rattle.proto_faults.proofs.Turns.{all_listed}
 use Rattle.proto_parts.proofs.Statements.{fields_turn}

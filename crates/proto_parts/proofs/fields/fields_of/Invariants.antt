@@ -1,7 +1,6 @@
 use Rattle.std.proofs.Common.{◌≡◌, ◌++◌, ◌≤◌, map, drop}
 use Rattle.proto_tree.specs.File.{trees, member_tree}
-use Rattle.proto_parts.specs.Parts.{fields_from}
-use Rattle.proto_parts.specs.Views.{field_of}
+use Rattle.proto_parts.specs.Common.{fields_from, field_of}
 use Rattle.proto_parts.proofs.fields.fields_of.Given as goal
 
 abbrev pub invariant-loop-member : goal.invariant-loop-member

@@ -1,8 +1,6 @@
-use Rattle.std.proofs.Common.{◌≡◌, ◌++◌, map, drop, Some}
-use Rattle.std.specs.List.{flat_map}
+use Rattle.std.proofs.Common.{◌≡◌, ◌++◌, map, drop, Some, flat_map}
 use Rattle.proto_tree.specs.File.{trees, field_tree}
-use Rattle.proto_parts.specs.Parts.{statement_fields, statements}
-use Rattle.proto_parts.specs.Views.{field_of}
+use Rattle.proto_parts.specs.Common.{statement_fields, statements, field_of}
 use Rattle.proto_parts.proofs.fields.push_oneof.Given as goal
 
 abbrev pub invariant-loop-field : goal.invariant-loop-field

@@ -1,6 +1,5 @@
 use Rattle.std.proofs.Common.{[], ◌∷◌, ◌++◌, map, refl, ap, ◌∙◌, arith}
-use Rattle.proto_parts.specs.Parts.{option_of_setting}
-use Rattle.proto_parts.specs.Views.{option_of}
+use Rattle.proto_parts.specs.Common.{option_of_setting, option_of}
 use Rattle.proto_faults.proofs.Turns.{all_listed, listed_turn}
 use Rattle.proto_parts.proofs.Statements.{pushed}
 use Rattle.proto_parts.proofs.fields.push_settings.Goals as goal

@@ -1,6 +1,5 @@
 use Rattle.std.proofs.Common.{◌≡◌, ◌++◌, map, drop}
-use Rattle.proto_parts.specs.Parts.{option_of_setting, separated}
-use Rattle.proto_parts.specs.Views.{option_of}
+use Rattle.proto_parts.specs.Common.{option_of_setting, separated, option_of}
 use Rattle.proto_parts.proofs.fields.push_settings.Given as goal
 
 abbrev pub invariant-loop-behind : goal.invariant-loop-behind

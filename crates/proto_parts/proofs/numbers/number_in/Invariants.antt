@@ -1,5 +1,4 @@
-use Rattle.std.proofs.Common.{◌≡◌, take}
-use Rattle.std.specs.Prelude.{min}
+use Rattle.std.proofs.Common.{◌≡◌, take, min}
 use Rattle.proto_parts.specs.Numbers.{past}
 use Rattle.proto_text.specs.Strings.{number_in}
 use Rattle.proto_parts.proofs.numbers.number_in.Given as goal

@@ -1,7 +1,6 @@
 use Rattle.std.proofs.Common.{◌≡◌, ◌++◌, map, drop}
 use Rattle.proto_tree.specs.File.{trees, service_item_tree}
-use Rattle.proto_parts.specs.Parts.{options_in}
-use Rattle.proto_parts.specs.Views.{option_of}
+use Rattle.proto_parts.specs.Common.{options_in, option_of}
 use Rattle.proto_parts.proofs.option_statements.service_options.Given as goal
 
 abbrev pub invariant-loop-item : goal.invariant-loop-item

@@ -1,10 +1,6 @@
-use Rattle.std.proofs.Common.{map, sym, ap, ◌∙◌, arith}
+use Rattle.std.proofs.Common.{map, sym, ap, ◌∙◌, arith, find, bytes_eq}
 use Rattle.std.proofs.lemmas.List.{at_drop_all}
-use Rattle.std.specs.Prelude.{find}
-use Rattle.std.specs.Str.{bytes_eq}
-use Rattle.proto_parts.specs.Options.{is_named}
-use Rattle.proto_parts.specs.Scenes.{text}
-use Rattle.proto_parts.specs.Views.{option_of}
+use Rattle.proto_parts.specs.Common.{is_named, text, option_of}
 use Rattle.proto_parts.proofs.Statements.{found_here, not_found_here}
 use Rattle.proto_parts.proofs.option_values.option_named.Goals as goal
 

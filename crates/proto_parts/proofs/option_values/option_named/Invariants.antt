@@ -1,8 +1,5 @@
-use Rattle.std.proofs.Common.{◌≡◌, map, drop}
-use Rattle.std.specs.Prelude.{find}
-use Rattle.proto_parts.specs.Options.{is_named}
-use Rattle.proto_parts.specs.Scenes.{text}
-use Rattle.proto_parts.specs.Views.{option_of}
+use Rattle.std.proofs.Common.{◌≡◌, map, drop, find}
+use Rattle.proto_parts.specs.Common.{is_named, text, option_of}
 use Rattle.proto_parts.proofs.option_values.option_named.Given as goal
 
 abbrev pub invariant-loop-option : goal.invariant-loop-option

@@ -1,5 +1,4 @@
-use Rattle.std.proofs.Common.{◌≡◌, ◌++◌, map, drop}
-use Rattle.std.specs.List.{flat_map}
+use Rattle.std.proofs.Common.{◌≡◌, ◌++◌, map, drop, flat_map}
 use Rattle.proto_tree.specs.File.{trees, enum_item_tree}
 use Rattle.proto_parts.specs.Parts.{enum_ranges, statements}
 use Rattle.proto_parts.proofs.ranges.enum_ranges.Given as goal

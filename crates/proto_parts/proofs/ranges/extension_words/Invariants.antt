@@ -1,5 +1,4 @@
-use Rattle.std.proofs.Common.{◌≡◌, ◌++◌, drop}
-use Rattle.std.specs.List.{flat_map}
+use Rattle.std.proofs.Common.{◌≡◌, ◌++◌, drop, flat_map}
 use Rattle.proto_tree.specs.File.{trees, member_tree}
 use Rattle.proto_parts.specs.Parts.{extension_words, statements}
 use Rattle.proto_parts.proofs.ranges.extension_words.Given as goal

@@ -1,5 +1,4 @@
-use Rattle.std.proofs.Common.{rules, ◌≡◌, ◌+◌, get_or, subst, arith}
-use Rattle.std.proofs.lemmas.List.{take_all}
+use Rattle.std.proofs.Common.{rules, ◌≡◌, ◌+◌, get_or, subst, arith, take_all}
 use Rattle.proto_records.specs.Journals.{HasNoFeed}
 use Rattle.proto_records.proofs.Lines.{line_at, line_to_end}
 use Rattle.proto_records.proofs.journal.first_line.Goals as goal

@@ -1,7 +1,6 @@
 use Rattle.std.proofs.Common.{rules, ◌≡◌, ◌≢◌, ◌≤◌, [], List, length, true, false, subst, sym, ap, ◌∙◌, arith}
 use Rattle.std.proofs.lemmas.Result.{err_from_is_err_and}
-use Rattle.proto_records.specs.Journals.{is_last_open, journal_limit}
-use Rattle.proto_records.specs.declared.record.Record.{Record as RecordOf}
+use Rattle.proto_records.specs.Common.{is_last_open, journal_limit, Record as RecordOf}
 use Rattle.proto_records.proofs.Lines.{less_is_left}
 use Rattle.proto_records.proofs.JournalLists.{IsReadTo, read_none_at, read_more, read_whole, none_follows, none_is_bad, too_long, is_nil, is_not_nil}
 use Rattle.proto_records.proofs.journal.read_records.Goals as goal

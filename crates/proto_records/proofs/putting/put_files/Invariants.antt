@@ -1,5 +1,4 @@
-use Rattle.std.proofs.Common.{◌≡◌, take}
-use Rattle.std.specs.Prelude.{option_map}
+use Rattle.std.proofs.Common.{◌≡◌, take, option_map}
 use Rattle.proto_files.specs.GivenFiles.{files_of}
 use Rattle.proto_records.specs.Restoring.{with_files}
 use Rattle.proto_records.proofs.putting.put_files.Given as goal

@@ -1,6 +1,5 @@
 use Rattle.std.proofs.Common.{rules, ◌≡◌, [], ◌∷◌, map, arith, ap, sym, ◌∙◌, add-one}
-use Rattle.std.proofs.lemmas.Grind.{common_steps}
-use Rattle.std.proofs.lemmas.List.{map-append}
+use Rattle.proto_faults.proofs.Common.{common_steps, map-append}
 use Rattle.serde_json.specs.View.{items_view}
 use Rattle.proto_entries.specs.Entries.{change_of, IsMeasured}
 use Rattle.proto_records.specs.RecordText.{change_data}

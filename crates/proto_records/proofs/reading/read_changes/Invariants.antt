@@ -1,5 +1,4 @@
-use Rattle.std.proofs.Common.{◌≡◌, List, map, take}
-use Rattle.std.specs.Prelude.{All}
+use Rattle.std.proofs.Common.{◌≡◌, List, map, take, All}
 use Rattle.serde_json.specs.View.{items_view, items_of}
 use Rattle.proto_entries.specs.Entries.{ChangeOf, change_of, IsMeasured}
 use Rattle.proto_records.specs.RecordText.{change_data}

@@ -1,5 +1,4 @@
-use Rattle.std.proofs.Common.{rules, ◌≡◌, [], ◌∷◌, ◌++◌, length, ap, sym, ◌∙◌}
-use Rattle.std.proofs.lemmas.Bool.{true≢false}
+use Rattle.std.proofs.Common.{rules, ◌≡◌, [], ◌∷◌, ◌++◌, length, ap, sym, ◌∙◌, true≢false}
 use Rattle.proto_records.specs.RecordText.{record_text}
 use Rattle.proto_records.proofs.RecordTexts.{line_parts, text_some}
 use Rattle.proto_records.proofs.reading.read_entry.Goals as goal

@@ -1,13 +1,10 @@
-use Rattle.std.proofs.Common.{◌≡◌, ◌∙◌, ap, sym, subst, IsUtf8}
-use Rattle.std.specs.Prelude.{IsSomeAnd}
+use Rattle.std.proofs.Common.{◌≡◌, ◌∙◌, ap, sym, subst, IsUtf8, IsSomeAnd}
 use Rattle.std.proofs.lemmas.Result.{IfOk-weaker}
 use Rattle.serde_json.specs.Read.{read}
 use Rattle.serde_json.specs.View.{view}
 use Rattle.serde_json.specs.Written.{compact_text}
 use Rattle.proto_entries.specs.Entries.{IsEntry}
-use Rattle.proto_records.specs.RecordText.{record_data}
-use Rattle.proto_records.specs.Journals.{IsRecord}
-use Rattle.proto_records.specs.declared.record.Record.{Record as RecordOf}
+use Rattle.proto_records.specs.Common.{record_data, IsRecord, Record as RecordOf}
 use Rattle.proto_records.proofs.RecordTexts.{utf8_record, reads_record}
 use Rattle.proto_records.proofs.reading.read_shape.Goals as goal
 

@@ -1,9 +1,7 @@
 use Rattle.std.proofs.Common.{rules, ◌≡◌, ◌<◌, ◌^◌, [], ◌∷◌, arith, ap, sym, ◌∙◌, add-one}
-use Rattle.std.proofs.lemmas.Grind.{common_steps}
-use Rattle.std.proofs.lemmas.List.{map-append}
+use Rattle.proto_faults.proofs.Common.{common_steps, map-append}
 use Rattle.serde_json.specs.View.{items_view}
-use Rattle.proto_text.specs.Edits.{Edit}
-use Rattle.proto_text.specs.Splicing.{edit_of, edits}
+use Rattle.proto_text.proofs.Common.{Edit, edit_of, edits}
 use Rattle.proto_records.specs.RecordText.{splice_data}
 use Rattle.proto_records.proofs.ReadSteps.{item_step, same_lengths}
 use Rattle.proto_records.proofs.reading.read_splice_list.Goals as goal

@@ -1,8 +1,6 @@
-use Rattle.std.proofs.Common.{◌≡◌, ◌<◌, ◌^◌, List, map, take}
-use Rattle.std.specs.Prelude.{All}
+use Rattle.std.proofs.Common.{◌≡◌, ◌<◌, ◌^◌, List, map, take, All}
 use Rattle.serde_json.specs.View.{items_view, items_of}
-use Rattle.proto_text.specs.Edits.{Edit}
-use Rattle.proto_text.specs.Splicing.{edits}
+use Rattle.proto_text.proofs.Common.{Edit, edits}
 use Rattle.proto_records.specs.RecordText.{splice_data}
 use Rattle.proto_records.proofs.reading.read_splice_list.Given as goal
 

@@ -1,6 +1,5 @@
 use Rattle.std.proofs.Common.{◌≡◌, ◌∙◌, sym, subst, List}
-use Rattle.proto_text.specs.Edits.{Edit, AreShort}
-use Rattle.proto_text.specs.Splicing.{edits}
+use Rattle.proto_text.proofs.Common.{Edit, AreShort, edits}
 use Rattle.proto_records.proofs.ReadSteps.{places_fit}
 use Rattle.proto_records.proofs.reading.read_splices.Goals as goal
 

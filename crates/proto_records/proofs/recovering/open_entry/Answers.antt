@@ -1,8 +1,6 @@
-use Rattle.std.proofs.Common.{◌≡◌, List, true, sym, ap, ◌∙◌}
-use Rattle.std.specs.Prelude.{Err}
+use Rattle.std.proofs.Common.{◌≡◌, List, true, sym, ap, ◌∙◌, Err}
 use Rattle.std.proofs.lemmas.Result.{err_from_is_err_and}
-use Rattle.proto_records.specs.declared.record.Record.{Record}
-use Rattle.proto_records.specs.Journals.{is_last_open}
+use Rattle.proto_records.specs.Common.{Record, is_last_open}
 use Rattle.proto_records.proofs.Outcomes.{no_open, open_there}
 use Rattle.proto_records.proofs.recovering.open_entry.Goals as goal
 

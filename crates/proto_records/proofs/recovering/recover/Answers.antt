@@ -1,11 +1,9 @@
-use Rattle.std.proofs.Common.{◌≡◌, ◌⊎◌, List, ℕ, sym, ap, ◌∙◌, subst}
-use Rattle.std.specs.Prelude.{Ok, Option, String, option_map}
-use Rattle.std.specs.Global.{Global, Vec}
+use Rattle.std.proofs.Common.{◌≡◌, ◌⊎◌, List, ℕ, sym, ap, ◌∙◌, subst, Ok, Option, String, option_map, Global}
+use Rattle.std.specs.Global.{Vec}
 use Rattle.proto_files.specs.GivenFiles.{FileOf, files_of}
 use Rattle.proto_entries.specs.Entries.{ChangeOf}
 use Rattle.proto_store.specs.Stores.{Held, HoldsJournal, with_journal}
-use Rattle.proto_records.specs.Known.{Over}
-use Rattle.proto_records.specs.Restoring.{AreOldFiles, ArePartlyIn, OpenOutcome, with_files}
+use Rattle.proto_records.specs.Common.{Over, AreOldFiles, ArePartlyIn, OpenOutcome, with_files}
 use Rattle.proto_records.proofs.Outcomes.{IsOpenAt, all_listed, cut_off, recovered}
 use Rattle.proto_records.proofs.recovering.recover.Goals as goal
 

@@ -1,14 +1,10 @@
-use Rattle.std.proofs.Common.{arith, List, ℕ, ◌+◌, ◌≤◌, ◌<◌, ◌-◌, ◌^◌, length, take, map, refl, sym, ap, ◌∙◌, subst}
-use Rattle.std.specs.Prelude.{Option, String, option_map}
-use Rattle.std.specs.Global.{Global, Vec}
-use Rattle.std.proofs.lemmas.List.{take_all}
-use Rattle.std.proofs.lemmas.Result.{err_from_is_err_and}
+use Rattle.std.proofs.Common.{arith, List, ℕ, ◌+◌, ◌≤◌, ◌<◌, ◌-◌, ◌^◌, length, take, map, refl, sym, ap, ◌∙◌, subst, Option, String, option_map, Global, take_all}
+use Rattle.proto_faults.proofs.Common.{Vec, err_from_is_err_and}
 use Rattle.proto_files.specs.GivenFiles.{FileOf, file_of, files_of}
 use Rattle.proto_entries.specs.declared.entry.Change.{Change}
 use Rattle.proto_entries.specs.Entries.{ChangeOf, change_of, inverted}
 use Rattle.proto_store.specs.Stores.{Held}
-use Rattle.proto_records.specs.Known.{Over}
-use Rattle.proto_records.specs.Restoring.{AddsOldFiles, IsAskedFor}
+use Rattle.proto_records.specs.Common.{Over, AddsOldFiles, IsAskedFor}
 use Rattle.proto_records.proofs.OldTexts.{among, back_at, change_at, counts_from, next_added, none_added, stale_in, with_none, with_some}
 use Rattle.proto_records.proofs.restoring.add_each.Goals as goal
 use Rattle.proto_records.proofs.restoring.add_each.Goals.{in-Some+in_ok-push, in_default}

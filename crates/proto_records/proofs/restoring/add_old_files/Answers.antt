@@ -1,15 +1,9 @@
-use Rattle.std.proofs.Common.{List, ℕ, map, sym, ap, ◌∙◌, subst}
-use Rattle.std.specs.Prelude.{IfErr, OnOk, Option, String}
-use Rattle.std.specs.Global.{Global}
-use Rattle.std.specs.List.{Contains, list_any}
-use Rattle.std.specs.Str.{bytes_eq}
-use Rattle.std.specs.String.{string_bytes}
+use Rattle.std.proofs.Common.{List, ℕ, map, sym, ap, ◌∙◌, subst, IfErr, OnOk, Option, String, Global, Contains, bytes_eq, string_bytes}
+use Rattle.std.specs.List.{list_any}
 use Rattle.proto_files.specs.GivenFiles.{files_of}
 use Rattle.proto_entries.specs.Entries.{ChangeOf, change_of, inverted}
 use Rattle.proto_store.specs.Stores.{Held}
-use Rattle.proto_records.specs.Known.{CountsStore, Over}
-use Rattle.proto_records.specs.Restoring.{AddsOldFiles, IsAskedFor, IsStaleOnly}
-use Rattle.proto_records.specs.Torn.{IsEitherWay}
+use Rattle.proto_records.specs.Common.{CountsStore, Over, AddsOldFiles, IsAskedFor, IsStaleOnly, IsEitherWay}
 use Rattle.proto_records.proofs.OldTexts.{asked_for}
 use Rattle.proto_records.proofs.restoring.add_old_files.Goals as goal
 

@@ -1,7 +1,5 @@
-use Rattle.std.proofs.Common.{◌≡◌, ℕ, List, take, map}
+use Rattle.std.proofs.Common.{◌≡◌, ℕ, List, take, map, bytes_eq, string_bytes}
 use Rattle.std.specs.List.{list_any}
-use Rattle.std.specs.Str.{bytes_eq}
-use Rattle.std.specs.String.{string_bytes}
 use Rattle.proto_records.proofs.restoring.asked_for.Given as goal
 
 abbrev pub invariant-loop-path : goal.invariant-loop-path

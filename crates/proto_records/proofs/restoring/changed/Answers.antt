@@ -1,8 +1,6 @@
-use Rattle.std.proofs.Common.{◌∙◌, ap, subst}
-use Rattle.std.specs.Prelude.{Err}
+use Rattle.std.proofs.Common.{◌∙◌, ap, subst, Err}
 use Rattle.proto_text.specs.Splicing.{IsApplied}
-use Rattle.proto_entries.specs.Entries.{change_of}
-use Rattle.proto_entries.proofs.Walks.{too_long}
+use Rattle.proto_entries.proofs.Common.{change_of, too_long}
 use Rattle.proto_records.proofs.restoring.changed.Goals as goal
 
 pub returns-in-Err-TooLarge : goal.returns-in-Err-TooLarge

@@ -1,8 +1,5 @@
-use Rattle.std.proofs.Common.{List, ℕ, map, sym, ap, ◌∙◌}
-use Rattle.std.specs.List.{list_any}
-use Rattle.std.specs.Str.{bytes_eq}
-use Rattle.std.proofs.lemmas.Result.{err_from_is_err_and}
-use Rattle.proto_faults.proofs.Lists.{any_map}
+use Rattle.std.proofs.Common.{List, ℕ, map, sym, ap, ◌∙◌, bytes_eq}
+use Rattle.proto_faults.proofs.Common.{list_any, err_from_is_err_and, any_map}
 use Rattle.proto_entries.specs.Entries.{change_of}
 use Rattle.proto_records.proofs.OldTexts.{counts_neither, is_listed, not_there}
 use Rattle.proto_records.proofs.restoring.old_file.Goals as goal

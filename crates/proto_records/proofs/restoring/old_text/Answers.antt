@@ -1,7 +1,6 @@
 use Rattle.std.proofs.Common.{ℕ, Option, sym, ◌∙◌, subst}
 use Rattle.std.specs.Global.{Vec}
-use Rattle.proto_entries.specs.Entries.{change_of}
-use Rattle.proto_entries.specs.Putting.{IsChangedText}
+use Rattle.proto_entries.proofs.Common.{change_of, IsChangedText}
 use Rattle.proto_records.proofs.OldTexts.{neither_text}
 use Rattle.proto_records.proofs.restoring.old_text.Goals as goal
 

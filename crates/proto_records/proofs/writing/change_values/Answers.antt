@@ -1,5 +1,4 @@
-use Rattle.std.proofs.Common.{subst, List, map, arith}
-use Rattle.std.proofs.lemmas.List.{take_all}
+use Rattle.std.proofs.Common.{subst, List, map, arith, take_all}
 use Rattle.proto_entries.specs.declared.entry.Change.{Change}
 use Rattle.proto_entries.specs.Entries.{change_of}
 use Rattle.proto_records.specs.Journals.{AreTextual}

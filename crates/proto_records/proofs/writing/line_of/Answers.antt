@@ -2,8 +2,7 @@ use lib.Utf8.{encode}
 use Rattle.std.proofs.Common.{◌≡◌, ◌++◌, [], ◌∷◌, ap, ◌∙◌}
 use Rattle.serde_json.specs.View.{view}
 use Rattle.serde_json.specs.Written.{has_float, compact_text}
-use Rattle.proto_records.specs.declared.record.Record.{Record}
-use Rattle.proto_records.specs.RecordText.{record_data, record_text}
+use Rattle.proto_records.specs.Common.{Record, record_data, record_text}
 use Rattle.proto_records.proofs.CompactText.{no_float}
 use Rattle.proto_records.proofs.RecordTexts.{record_simple}
 use Rattle.proto_records.proofs.writing.line_of.Goals as goal

@@ -1,5 +1,4 @@
-use Rattle.std.proofs.Common.{subst, List}
-use Rattle.std.specs.Prelude.{All}
+use Rattle.std.proofs.Common.{subst, List, All}
 use Rattle.proto_text.specs.Edits.{Edit}
 use Rattle.proto_records.specs.Journals.{IsTextual}
 use Rattle.proto_records.proofs.RecordTexts.{edits_textual}

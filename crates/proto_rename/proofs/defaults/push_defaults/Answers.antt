@@ -1,9 +1,5 @@
-use Rattle.std.proofs.Common.{ℕ, List, [], map, flat_map, codes, refl, arith}
-use Rattle.std.specs.Prelude.{if◌then◌else◌}
-use Rattle.proto_parts.specs.Options.{is_named}
-use Rattle.proto_parts.specs.Parts.{OptionOf}
-use Rattle.proto_parts.specs.Scenes.{text}
-use Rattle.proto_parts.specs.Views.{option_of}
+use Rattle.std.proofs.Common.{ℕ, List, [], map, flat_map, codes, refl, arith, if◌then◌else◌}
+use Rattle.proto_parts.proofs.Common.{is_named, OptionOf, text, option_of}
 use Rattle.proto_rename_laws.specs.Renamed.{constant_tokens}
 use Rattle.proto_rename.specs.Defaults.{spelled}
 use Rattle.proto_rename.proofs.DefaultTexts.{spelled_turn}

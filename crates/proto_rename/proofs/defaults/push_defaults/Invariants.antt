@@ -1,8 +1,5 @@
-use Rattle.std.proofs.Common.{◌≡◌, [], ◌++◌, map, drop, codes}
-use Rattle.std.specs.Prelude.{flat_map, if◌then◌else◌}
-use Rattle.proto_parts.specs.Options.{is_named}
-use Rattle.proto_parts.specs.Scenes.{text}
-use Rattle.proto_parts.specs.Views.{option_of}
+use Rattle.std.proofs.Common.{◌≡◌, [], ◌++◌, map, drop, codes, flat_map, if◌then◌else◌}
+use Rattle.proto_parts.proofs.Common.{is_named, text, option_of}
 use Rattle.proto_rename_laws.specs.Renamed.{constant_tokens}
 use Rattle.proto_rename.specs.Defaults.{spelled}
 use Rattle.proto_rename.proofs.defaults.push_defaults.Given as goal

@@ -1,6 +1,5 @@
 use Rattle.std.proofs.Common.{◌≡◌, ◌++◌, map, drop, flat_map}
-use Rattle.proto_parts.specs.Scenes.{text}
-use Rattle.proto_parts.specs.Views.{field_of}
+use Rattle.proto_parts.proofs.Common.{text, field_of}
 use Rattle.proto_rename.specs.Defaults.{asked_defaults}
 use Rattle.proto_rename.proofs.defaults.push_fields.Given as goal
 

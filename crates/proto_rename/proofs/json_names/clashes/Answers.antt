@@ -1,10 +1,8 @@
 use Rattle.std.proofs.Common.{◌↔◌, IsTrue, map, sym, subst, ap, ◌∙◌}
-use Rattle.std.specs.List.{list_any}
-use Rattle.std.proofs.lemmas.Result.{IfOk-weaker}
+use Rattle.proto_faults.proofs.Common.{list_any, IfOk-weaker}
 use Rattle.proto_tree.specs.File.{tree_of_file}
 use Rattle.proto_rename_laws.specs.Cases.{Clashes}
-use Rattle.proto_members.specs.Blocks.{block_of}
-use Rattle.proto_members.specs.Members.{clash_in}
+use Rattle.proto_members.proofs.Common.{block_of, clash_in}
 use Rattle.proto_members.proofs.AimedAt.{aim_inside}
 use Rattle.proto_rename.proofs.JsonClashes.{clash_from, clash_to}
 use Rattle.proto_rename.proofs.json_names.clashes.Goals as goal

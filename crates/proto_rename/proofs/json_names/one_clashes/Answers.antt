@@ -1,6 +1,5 @@
 use Rattle.std.proofs.Common.{sym, ◌∙◌, arith}
-use Rattle.proto_members.specs.Blocks.{block_of}
-use Rattle.proto_members.specs.Members.{clash_in}
+use Rattle.proto_members.proofs.Common.{block_of, clash_in}
 use Rattle.proto_faults.proofs.Turns.{none_passed, passed_over, stops_here}
 use Rattle.proto_rename.proofs.json_names.one_clashes.Goals as goal
 

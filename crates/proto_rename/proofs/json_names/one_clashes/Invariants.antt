@@ -1,7 +1,6 @@
 use Rattle.std.proofs.Common.{◌≡◌, map, drop}
 use Rattle.std.specs.List.{list_any}
-use Rattle.proto_members.specs.Blocks.{block_of}
-use Rattle.proto_members.specs.Members.{clash_in}
+use Rattle.proto_members.proofs.Common.{block_of, clash_in}
 use Rattle.proto_rename.proofs.json_names.one_clashes.Given as goal
 
 abbrev pub invariant-loop-block : goal.invariant-loop-block

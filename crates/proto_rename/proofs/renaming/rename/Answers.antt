@@ -1,8 +1,7 @@
 use Rattle.std.proofs.Common.{List, ℕ, IfOk, IfErr, map, sym, subst}
 use Rattle.std.proofs.lemmas.Result.{err_from_is_err_and}
 use Rattle.proto_entries.specs.Entries.{change_of}
-use Rattle.proto_rename.specs.Cases.{IsFreeBefore}
-use Rattle.proto_rename.specs.Renames.{IsRenameRefusal, IsRenamed}
+use Rattle.proto_rename.specs.Common.{IsFreeBefore, IsRenameRefusal, IsRenamed}
 use Rattle.proto_rename.proofs.renaming.rename.Goals as goal
 
 pub returns-in_err-aim-clause-err : goal.returns-in_err-aim-clause-err

@@ -1,15 +1,12 @@
-use Rattle.std.proofs.Common.{◌≡◌, ◌↔◌, ℕ, List, length, flat_map, Result, Ok, Err, IfOk, sym, ap, subst, ◌∙◌, false, arith}
-use Rattle.std.specs.List.{Contains}
+use Rattle.std.proofs.Common.{◌≡◌, ◌↔◌, ℕ, List, length, flat_map, Result, Ok, Err, IfOk, sym, ap, subst, ◌∙◌, false, arith, Contains}
 use Rattle.std.proofs.lemmas.List.{length-map}
 use Rattle.proto_tree.specs.File.{tree_of_file}
 use Rattle.proto_files.specs.FilesRead.{AreRead, read_at}
 use Rattle.proto_listing.specs.Listing.{read, used_by}
 use Rattle.proto_listing.specs.declared.listing.Use.{Use}
-use Rattle.proto_meaning.specs.Grown.{at}
-use Rattle.proto_meaning.specs.Names.{is_outer}
+use Rattle.proto_meaning.proofs.Common.{at, is_outer}
 use Rattle.proto_imports.specs.Links.{text_of, link_skeleton}
-use Rattle.proto_rename_laws.specs.Places.{standing}
-use Rattle.proto_rename_laws.specs.Targets.{name_map}
+use Rattle.proto_rename_laws.proofs.Common.{standing, name_map}
 use Rattle.proto_rename.specs.StandingTokens.{standing_tokens}
 use Rattle.proto_rename.proofs.OuterKinds.{none_stands}
 use Rattle.proto_rename.proofs.StandingUses.{counted_are_standing, meant_are_as_many, uses_are}

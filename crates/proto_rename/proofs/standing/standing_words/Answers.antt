@@ -1,5 +1,4 @@
-use Rattle.std.proofs.Common.{◌++◌, refl, ap, ◌∙◌, drop, arith}
-use Rattle.std.specs.Prelude.{option_to_list}
+use Rattle.std.proofs.Common.{◌++◌, refl, ap, ◌∙◌, drop, arith, option_to_list}
 use Rattle.proto_tree.specs.References.{dotted}
 use Rattle.proto_names.specs.Linking.{text_at}
 use Rattle.proto_rename.specs.StandingTokens.{counted, standing_tokens}

@@ -1,7 +1,5 @@
-use Rattle.std.proofs.Common.{◌∙◌, sym, ap, Some, None}
-use Rattle.std.specs.Option.{option_and_then}
-use Rattle.std.proofs.lemmas.Bool.Decides.{Decides-eqb}
-use Rattle.std.proofs.lemmas.Slice.Eq.{strip_prefix_is}
+use Rattle.std.proofs.Common.{◌∙◌, sym, ap, Some, None, option_and_then}
+use Rattle.proto_faults.proofs.Common.{Decides-eqb, strip_prefix_is}
 use Rattle.proto_rename.specs.StandingTokens.{behind, words_in}
 use Rattle.proto_rename.proofs.NameTexts.{behind_front, no_front}
 use Rattle.proto_rename.proofs.standing.words_behind.Goals as goal

@@ -1,13 +1,10 @@
-use Rattle.std.proofs.Common.{List, [], ◌∷◌, ◌++◌, map, refl, sym, ap, ◌∙◌, arith}
-use Rattle.std.proofs.lemmas.List.{append-nil, map-append}
+use Rattle.std.proofs.Common.{List, [], ◌∷◌, ◌++◌, map, refl, sym, ap, ◌∙◌, arith, append-nil}
+use Rattle.proto_faults.proofs.Common.{map-append, all_listed}
 use Rattle.proto_tree.specs.declared.tree.Member.{Member}
-use Rattle.proto_tree.specs.File.{member_tree, trees}
-use Rattle.proto_tree.proofs.Nodes.{member_tree-Enum, member_tree-Oneof}
-use Rattle.proto_parts.specs.Parts.{BlockOf}
-use Rattle.proto_parts.proofs.ItemBlocks.{wanted_turn}
+use Rattle.proto_tree.proofs.Common.{member_tree, trees, member_tree-Enum, member_tree-Oneof}
+use Rattle.proto_parts.proofs.Common.{BlockOf, wanted_turn}
 use Rattle.proto_scenes.specs.Enums.{enum_block, enums_in, is_enum}
 use Rattle.proto_scenes.proofs.EnumTrees.{enum_alone, oneof_enums}
-use Rattle.proto_faults.proofs.Turns.{all_listed}
 use Rattle.proto_scenes.proofs.enum_blocks.+enums.Goals as goal
 
 pub push_members-loop-member-preserved : goal.push_members-loop-member-preserved

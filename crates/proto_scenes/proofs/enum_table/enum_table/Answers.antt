@@ -2,8 +2,7 @@ use Rattle.std.proofs.Common.{◌≡◌, ℕ, ◌<◌, [], ◌∷◌, length, le
 use Rattle.proto_tree.specs.File.{tree_of_file}
 use Rattle.proto_files.proofs.FilesAreRead.{each_pushed}
 use Rattle.proto_meaning.specs.Grown.{at}
-use Rattle.proto_scenes.specs.Enums.{row_at}
-use Rattle.proto_scenes.specs.SceneOf.{enum_at}
+use Rattle.proto_scenes.specs.Common.{row_at, enum_at}
 use Rattle.proto_scenes.proofs.EnumRows.{is_enum_table}
 use Rattle.proto_scenes.proofs.ReadScenes.{rows_are}
 use Rattle.proto_scenes.proofs.enum_table.enum_table.Goals as goal

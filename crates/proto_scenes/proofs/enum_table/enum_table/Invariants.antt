@@ -1,8 +1,7 @@
 use Rattle.std.proofs.Common.{◌≡◌, ℕ, List, length}
 use Rattle.proto_meaning.specs.Grown.{at}
 use Rattle.proto_files.specs.FilesRead.{ReadOf, AreRead, Each}
-use Rattle.proto_scenes.specs.Enums.{row_at}
-use Rattle.proto_scenes.specs.SceneOf.{enum_at}
+use Rattle.proto_scenes.specs.Common.{row_at, enum_at}
 use Rattle.proto_scenes.proofs.enum_table.enum_table.Given as goal
 
 abbrev pub invariant-loop-file : goal.invariant-loop-file

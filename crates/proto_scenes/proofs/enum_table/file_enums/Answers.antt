@@ -1,5 +1,4 @@
-use Rattle.std.proofs.Common.{List, map, ap, subst, ◌∙◌, arith}
-use Rattle.std.proofs.lemmas.List.{take_all}
+use Rattle.std.proofs.Common.{List, map, ap, subst, ◌∙◌, arith, take_all}
 use Rattle.proto_tree.specs.File.{tree_of_file}
 use Rattle.proto_parts.specs.Parts.{BlockOf}
 use Rattle.proto_scenes.specs.Enums.{AreEnumsOf, enum_block}

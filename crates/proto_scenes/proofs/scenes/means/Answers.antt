@@ -1,5 +1,4 @@
-use Rattle.std.proofs.Common.{ap, map, ◌∙◌, arith}
-use Rattle.std.proofs.lemmas.List.{take_all}
+use Rattle.std.proofs.Common.{ap, map, ◌∙◌, arith, take_all}
 use Rattle.proto_scenes.proofs.MeantEnums.{means_rise}
 use Rattle.proto_scenes.proofs.scenes.means.Goals as goal
 

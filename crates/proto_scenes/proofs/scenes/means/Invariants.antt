@@ -1,7 +1,6 @@
 use Rattle.std.proofs.Common.{◌≡◌, map, take}
 use Rattle.proto_parts.specs.Views.{meant_of}
-use Rattle.proto_scenes.specs.Enums.{enum_in}
-use Rattle.proto_scenes.specs.Meanings.{meant_in_table}
+use Rattle.proto_scenes.specs.Common.{enum_in, meant_in_table}
 use Rattle.proto_scenes.proofs.scenes.means.Given as goal
 
 abbrev pub invariant-loop-reference : goal.invariant-loop-reference

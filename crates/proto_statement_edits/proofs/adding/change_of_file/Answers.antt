@@ -1,20 +1,13 @@
-use Rattle.std.proofs.Common.{◌≡◌, ◌<◌, List, length, Some, refl, sym, ◌∙◌, ap, arith, subst}
-use Rattle.std.specs.Str.{IsCharBoundary, IsUtf8}
-use Rattle.std.proofs.lemmas.Result.{IfOk-weaker}
-use Rattle.std.proofs.lemmas.Str.{IsCharBoundary-start}
+use Rattle.std.proofs.Common.{◌≡◌, ◌<◌, List, length, Some, refl, sym, ◌∙◌, ap, arith, subst, IsCharBoundary, IsUtf8}
+use Rattle.proto_faults.proofs.Common.{IfOk-weaker, IsCharBoundary-start}
 use Rattle.proto_text.specs.declared.kind.TokenKind.TheVariants.{Word}
 use Rattle.proto_text.specs.declared.lexer.Token.{Token}
-use Rattle.proto_text.specs.Edits.{Edit}
-use Rattle.proto_text.specs.Segments.{end_before}
-use Rattle.proto_text.proofs.Once.{one_token_list}
+use Rattle.proto_text.proofs.Common.{Edit, end_before, one_token_list}
 use Rattle.proto_tree.specs.File.{tree_of_file}
-use Rattle.proto_files.specs.FilesRead.{AreRead, ReadOf, read_at}
-use Rattle.proto_files.specs.GivenFiles.{file_at}
-use Rattle.proto_files.proofs.OneReading.{same_tree}
+use Rattle.proto_files.proofs.Common.{AreRead, ReadOf, read_at, file_at, same_tree}
 use Rattle.proto_statement_laws.specs.Deletions.{splice}
 use Rattle.proto_statement_changes.specs.ImportChanges.{splice_of_addition}
-use Rattle.proto_statement_edits.specs.ImportPlaces.{behind_all, ends_of, place_behind}
-use Rattle.proto_statement_edits.specs.Spliced.{IsChangeOfAddition, IsSpliced}
+use Rattle.proto_statement_edits.specs.Common.{behind_all, ends_of, place_behind, IsChangeOfAddition, IsSpliced}
 use Rattle.proto_statement_edits.proofs.AddedPlace.{addition_is, empty_span, place_by, place_inside, place_of_some}
 use Rattle.proto_statement_edits.proofs.MoreOrLess.{place_within}
 use Rattle.proto_statement_edits.proofs.adding.change_of_file.Goals as goal

@@ -1,15 +1,12 @@
 use Rattle.std.proofs.Common.{◌≡◌, ◌≤◌, List, min, ap, subst, ◌∙◌, arith}
 use Rattle.std.proofs.lemmas.Result.{IfOk-weaker}
 use Rattle.proto_text.specs.declared.kind.TokenKind.TheVariants.{Word}
-use Rattle.proto_text.specs.Edits.{Edit}
-use Rattle.proto_text.specs.Texts.{word_at}
-use Rattle.proto_files.specs.FilesRead.{AreRead, ReadOf, read_at}
-use Rattle.proto_files.specs.GivenFiles.{file_at}
+use Rattle.proto_text.proofs.Common.{Edit, word_at}
+use Rattle.proto_files.proofs.Common.{AreRead, ReadOf, read_at, file_at}
 use Rattle.proto_parts.specs.Numbers.{past}
 use Rattle.proto_statement_laws.specs.Deletions.{splice}
 use Rattle.proto_statement_changes.specs.DeletionChanges.{number_of_field, splice_of_deletion}
-use Rattle.proto_statement_edits.specs.Spliced.{IsChangeOfDeletion, IsSpliced}
-use Rattle.proto_statement_edits.specs.Fields.{last_of, text_by}
+use Rattle.proto_statement_edits.specs.Common.{IsChangeOfDeletion, IsSpliced, last_of, text_by}
 use Rattle.proto_statement_edits.proofs.FieldCases.{file_there}
 use Rattle.proto_statement_edits.proofs.FieldThere.{deleted_is, field_at, in_order, is_field_at, is_named, min_past, number_told}
 use Rattle.proto_statement_edits.proofs.TokenSpans.{spans_told}

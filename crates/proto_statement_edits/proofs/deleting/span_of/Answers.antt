@@ -1,10 +1,7 @@
-use Rattle.std.proofs.Common.{◌≡◌, ℕ, suc, ◌<◌, List, Option, Some, None, length, get_or, refl, sym, ap, ◌∙◌, arith}
-use Rattle.std.specs.Option.{unwrap_or}
+use Rattle.std.proofs.Common.{◌≡◌, ℕ, suc, ◌<◌, List, Option, Some, None, length, get_or, refl, sym, ap, ◌∙◌, arith, unwrap_or}
 use Rattle.proto_text.specs.declared.kind.TokenKind.TheVariants.{Word}
 use Rattle.proto_text.specs.declared.lexer.Token.{Token}
-use Rattle.proto_text.specs.Segments.{end_before}
-use Rattle.proto_text.specs.Texts.{offset_at}
-use Rattle.proto_text.proofs.Once.{one_token_list}
+use Rattle.proto_text.proofs.Common.{end_before, offset_at, one_token_list}
 use Rattle.proto_files.specs.GivenFiles.{file_at}
 use Rattle.proto_statement_edits.specs.Fields.{last_by, last_of}
 use Rattle.proto_statement_edits.proofs.TokenSpans.{end_is, offset_is}

@@ -1,9 +1,7 @@
 use Rattle.std.proofs.Common.{◌≡◌, ℕ, suc, ◌<◌, List, length, get_or, refl, sym, ap, ap₂, subst, ◌∙◌, arith}
 use Rattle.proto_text.specs.declared.kind.TokenKind.TheVariants.{Word}
 use Rattle.proto_text.specs.declared.lexer.Token.{Token}
-use Rattle.proto_text.specs.Segments.{bytes_between, end_before}
-use Rattle.proto_text.specs.SourceFacts.{IsSpan}
-use Rattle.proto_text.proofs.Once.{one_token_list}
+use Rattle.proto_text.proofs.Common.{bytes_between, end_before, IsSpan, one_token_list}
 use Rattle.proto_files.specs.GivenFiles.{file_at}
 use Rattle.proto_statement_edits.proofs.TokenSpans.{end_is, spans_between}
 use Rattle.proto_statement_edits.proofs.deleting.text_between.Goals as goal

@@ -2,12 +2,8 @@ use Rattle.std.proofs.Common.{◌≡◌, ℕ, suc, List, [], length, get_or, ref
 use Rattle.proto_faults.specs.Texts.{text_limit}
 use Rattle.proto_text.specs.declared.kind.TokenKind.TheVariants.{Word}
 use Rattle.proto_text.specs.declared.lexer.Token.{Token}
-use Rattle.proto_text.specs.Edits.{Edit}
-use Rattle.proto_text.specs.Segments.{end_before}
-use Rattle.proto_text.specs.Texts.{offset_at}
-use Rattle.proto_text.proofs.Once.{one_token_list}
-use Rattle.proto_files.specs.FilesRead.{read_at}
-use Rattle.proto_files.specs.GivenFiles.{file_at}
+use Rattle.proto_text.proofs.Common.{Edit, end_before, offset_at, one_token_list}
+use Rattle.proto_files.proofs.Common.{read_at, file_at}
 use Rattle.proto_tree.specs.declared.piece.Statement.TheVariants as statement
 use Rattle.proto_statement_laws.specs.Deletions.{begins, ends, splice}
 use Rattle.proto_statement_changes.specs.ImportChanges.{splice_of_drop}

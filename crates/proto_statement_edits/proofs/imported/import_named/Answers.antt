@@ -1,8 +1,6 @@
 use Rattle.std.proofs.Common.{ℕ, Bool, Some, None, ◌∙◌, ap, arith}
 use Rattle.proto_tree.specs.File.{tree_of_file}
-use Rattle.proto_files.specs.FilesRead.{read_at}
-use Rattle.proto_files.proofs.OneReading.{same_tree}
-use Rattle.proto_files.specs.StringTokens.{string_at}
+use Rattle.proto_files.proofs.Common.{read_at, same_tree, string_at}
 use Rattle.proto_text.specs.Values.{is_value}
 use Rattle.proto_statement_edits.specs.Imported.{import_in}
 use Rattle.proto_statement_edits.proofs.NamedImports.{at_item, behind_all_items, is_named}

@@ -1,8 +1,5 @@
-use Rattle.std.proofs.Common.{◌≡◌, ◌<◌, ◌==◌, List, [], filter, length, not, sym, ◌∙◌, ap, arith, subst}
-use Rattle.std.specs.Global.{Vec}
-use Rattle.std.specs.List.{All}
-use Rattle.std.proofs.lemmas.List.{get_or-map, length-set}
-use Rattle.std.proofs.lemmas.List.Elements.{All-set}
+use Rattle.std.proofs.Common.{◌≡◌, ◌<◌, ◌==◌, List, [], filter, length, not, sym, ◌∙◌, ap, arith, subst, All, length-set}
+use Rattle.proto_faults.proofs.Common.{Vec, get_or-map, All-set}
 use Rattle.proto_imports.specs.declared.import.FileImport.{FileImport}
 use Rattle.proto_statement_edits.proofs.SeenThen.{if_both, seen_less}
 use Rattle.proto_statement_names.proofs.SameImports.{all_filtered}

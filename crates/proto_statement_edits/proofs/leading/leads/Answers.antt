@@ -1,9 +1,6 @@
-use Rattle.std.proofs.Common.{◌≡◌, ℕ, ◌<◌, List, [], false, get_or, length, map, sym, ◌∙◌, ap, arith, subst}
-use Rattle.std.specs.Global.{Vec}
-use Rattle.std.specs.List.{Contains}
-use Rattle.std.proofs.lemmas.List.{get_or_default, length-map}
-use Rattle.proto_imports.specs.Importing.{all_imports}
-use Rattle.proto_imports.proofs.ImportGraph.{IsGraph, all_within, graph_of, targets_twice, within_map}
+use Rattle.std.proofs.Common.{◌≡◌, ℕ, ◌<◌, List, [], false, get_or, length, map, sym, ◌∙◌, ap, arith, subst, Contains}
+use Rattle.proto_faults.proofs.Common.{Vec, get_or_default, length-map}
+use Rattle.proto_imports.proofs.Common.{all_imports, IsGraph, all_within, graph_of, targets_twice, within_map}
 use Rattle.proto_meaning.specs.Cycles.{Leads}
 use Rattle.proto_statement_names.proofs.LeadingWalks.{walks_lead}
 use Rattle.proto_statement_edits.proofs.leading.leads.Goals as goal

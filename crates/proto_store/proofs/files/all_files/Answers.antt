@@ -1,9 +1,6 @@
-use Rattle.std.proofs.Common.{◌≡◌, List, ℕ, ◌++◌, [], ◌∷◌, sym, ◌∙◌, subst, rules, map}
-use Rattle.std.specs.Prelude.{Option, String}
-use Rattle.std.specs.Global.{Vec, Global}
-use Rattle.std.specs.String.{string_bytes}
+use Rattle.std.proofs.Common.{◌≡◌, List, ℕ, ◌++◌, [], ◌∷◌, sym, ◌∙◌, subst, rules, map, Option, String, Global, string_bytes}
+use Rattle.proto_faults.proofs.Common.{Vec, files_of}
 use Rattle.std.specs.Vec.Iter.{into_iter_items}
-use Rattle.proto_faults.specs.GivenFiles.{files_of}
 use Rattle.proto_store.specs.Stores.{Held, HoldsBytes, HoldsFiles, IsListed, ListsPaths}
 use Rattle.proto_store.proofs.Loading.{Loads, empty_if_short, in_order, loads_all, loads_more, loads_none, next_is_listed}
 use Rattle.proto_store.proofs.files.all_files.Goals as goal

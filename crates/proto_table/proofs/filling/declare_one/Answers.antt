@@ -1,8 +1,6 @@
 use Rattle.std.proofs.Common.{◌≡◌, ap, sym, ◌∙◌, subst, IfSome, string_bytes}
 use Rattle.proto_meaning.specs.Forest.{under, front}
-use Rattle.proto_table.specs.Tables.{names_of}
-use Rattle.proto_table.specs.Resolved.{IsDeclared}
-use Rattle.proto_table.specs.Filling.{IsRowOf, declaration_of, number_above}
+use Rattle.proto_table.specs.Common.{names_of, IsDeclared, IsRowOf, declaration_of, number_above}
 use Rattle.proto_table.proofs.filling.declare_one.Goals.{in-Outermost, in-Below, After-as_str}
 use Rattle.proto_table.proofs.filling.declare_one.Goals as goal
 

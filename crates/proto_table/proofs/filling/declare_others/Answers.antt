@@ -1,8 +1,6 @@
-use Rattle.std.proofs.Common.{◌≡◌, ◌<◌, [], ◌++◌, length, get_or, map, take, drop, sym, ◌∙◌, ap, subst, arith, slice_set}
-use Rattle.std.proofs.lemmas.List.{append-nil, length-map, map-set, set-set, take_all}
-use Rattle.std.proofs.lemmas.Result.{err_from_is_err_and}
-use Rattle.proto_table.specs.Spelled.{all_named, named_in, AreSpelled}
-use Rattle.proto_table.specs.Filling.{AreInFront, AreRowsOf, Holds, StopsIn, others_in, packages_in}
+use Rattle.std.proofs.Common.{◌≡◌, ◌<◌, [], ◌++◌, length, get_or, map, take, drop, sym, ◌∙◌, ap, subst, arith, slice_set, append-nil, set-set, take_all}
+use Rattle.proto_faults.proofs.Common.{length-map, map-set, err_from_is_err_and}
+use Rattle.proto_table.specs.Common.{all_named, named_in, AreSpelled, AreInFront, AreRowsOf, Holds, StopsIn, others_in, packages_in}
 use Rattle.proto_table.proofs.Passes.{item_at, others_next, rows_file, rows_first, rows_last, spelled_at, stops_least, within_map}
 use Rattle.proto_table.proofs.filling.declare_others.Goals as goal
 

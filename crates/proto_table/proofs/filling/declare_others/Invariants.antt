@@ -1,7 +1,5 @@
 use Rattle.std.proofs.Common.{◌++◌, map, take}
-use Rattle.proto_table.specs.Spelled.{all_named}
-use Rattle.proto_table.specs.Tables.{IsTable}
-use Rattle.proto_table.specs.Filling.{Holds, others_in, packages_in}
+use Rattle.proto_table.specs.Common.{all_named, IsTable, Holds, others_in, packages_in}
 use Rattle.proto_table.proofs.Passes.{AreRowsTo}
 use Rattle.proto_table.proofs.filling.declare_others.Given as goal
 

@@ -1,8 +1,6 @@
-use Rattle.std.proofs.Common.{[], ◌∷◌, ◌++◌, ◌+◌, length, get_or, map, take, drop, refl, sym, ◌∙◌, ap, subst, arith}
-use Rattle.std.proofs.lemmas.List.{length-map, map-append, take_all}
-use Rattle.std.proofs.lemmas.Result.{err_from_is_err_and}
-use Rattle.proto_table.specs.Spelled.{all_named, named_in, AreSpelled}
-use Rattle.proto_table.specs.Filling.{AreInFront, ArePackageRows, AreRowsOf, Holds, packages_in}
+use Rattle.std.proofs.Common.{[], ◌∷◌, ◌++◌, ◌+◌, length, get_or, map, take, drop, refl, sym, ◌∙◌, ap, subst, arith, take_all}
+use Rattle.proto_faults.proofs.Common.{length-map, map-append, err_from_is_err_and}
+use Rattle.proto_table.specs.Common.{all_named, named_in, AreSpelled, AreInFront, ArePackageRows, AreRowsOf, Holds, packages_in}
 use Rattle.proto_table.proofs.Filled.{no_rows}
 use Rattle.proto_table.proofs.Passes.{item_at, no_package_rows, package_rows_more, packages_next, packages_pass, spelled_at, within_map}
 use Rattle.proto_table.proofs.filling.declare_packages.Goals as goal

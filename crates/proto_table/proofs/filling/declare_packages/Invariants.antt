@@ -1,7 +1,5 @@
 use Rattle.std.proofs.Common.{map, take}
-use Rattle.proto_table.specs.Spelled.{all_named}
-use Rattle.proto_table.specs.Tables.{IsTable}
-use Rattle.proto_table.specs.Filling.{ArePackageRows, Holds, packages_in}
+use Rattle.proto_table.specs.Common.{all_named, IsTable, ArePackageRows, Holds, packages_in}
 use Rattle.proto_table.proofs.filling.declare_packages.Given as goal
 
 abbrev pub invariant-loop-file : goal.invariant-loop-file

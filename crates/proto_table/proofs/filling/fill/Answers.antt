@@ -1,11 +1,8 @@
 use Rattle.std.proofs.Common.{◌≡◌, ◌<◌, ◌≤◌, IfErr, length-append, string_bytes, List, [], ◌∷◌, ◌++◌, length, get_or, drop, take, sym, ◌∙◌, ap, subst, arith}
 use Rattle.proto_listing.specs.Listing.{needs}
-use Rattle.proto_meaning.specs.Joined.{IsPlain}
-use Rattle.proto_table.specs.Spelled.{Named, named_in}
+use Rattle.proto_meaning.proofs.Common.{IsPlain, under, front}
+use Rattle.proto_table.specs.Common.{Named, named_in, names_of, AreRowsOf, declaration_of, Holds, IsClashAt, number_above, StopsIn}
 use Rattle.std.proofs.lemmas.Result.{IfOk-from_err, err_from_is_err_and}
-use Rattle.proto_meaning.specs.Forest.{under, front}
-use Rattle.proto_table.specs.Tables.{names_of}
-use Rattle.proto_table.specs.Filling.{AreRowsOf, declaration_of, Holds, IsClashAt, number_above, StopsIn}
 use Rattle.proto_table.proofs.Filled.{rows_within, rows_next, held_next, stops_here, kept_itself, kept_both, segment_none}
 use Rattle.proto_table.proofs.filling.fill.Goals as goal
 

@@ -1,7 +1,5 @@
 use Rattle.std.proofs.Common.{◌≡◌, List, ◌++◌, length, drop, take}
-use Rattle.proto_table.specs.Spelled.{Named, named_in}
-use Rattle.proto_table.specs.Tables.{IsTable}
-use Rattle.proto_table.specs.Filling.{AreRowsOf, Holds, IsKept}
+use Rattle.proto_table.specs.Common.{Named, named_in, IsTable, AreRowsOf, Holds, IsKept}
 use Rattle.proto_table.proofs.filling.fill.Given as goal
 
 abbrev pub invariant-loop-k : goal.invariant-loop-k

@@ -1,6 +1,5 @@
 use Rattle.std.proofs.Common.{get_or, sym, ◌∙◌, ap}
-use Rattle.std.proofs.lemmas.Bool.{both_ways}
-use Rattle.std.proofs.lemmas.List.{get_or_default}
+use Rattle.proto_faults.proofs.Common.{both_ways, get_or_default}
 use Rattle.proto_meaning.specs.Linked.{is_package}
 use Rattle.proto_table.proofs.Naming.{in_front}
 use Rattle.proto_table.proofs.filling.package_count.Goals as goal

@@ -1,5 +1,4 @@
-use Rattle.std.proofs.Common.{◌≡◌, ℕ, List, get_or, map, ap, ◌∙◌, arith}
-use Rattle.std.proofs.lemmas.List.{take_all}
+use Rattle.std.proofs.Common.{◌≡◌, ℕ, List, get_or, map, ap, ◌∙◌, arith, take_all}
 use Rattle.proto_text.specs.Texts.{word_at}
 use Rattle.proto_table.specs.declared.spelled.Spelled.{Spelled}
 use Rattle.proto_meaning.proofs.Mapped.{map_more}

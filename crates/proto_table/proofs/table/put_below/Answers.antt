@@ -1,7 +1,5 @@
-use Rattle.std.proofs.Common.{Some, length, refl, string_bytes, sym, ◌∙◌, ap, if◌then◌else◌}
-use Rattle.std.specs.Str.{bytes_eq}
-use Rattle.std.proofs.lemmas.Map.Text.{hash_map_updates_text}
-use Rattle.std.proofs.lemmas.Option.{slice_get_read}
+use Rattle.std.proofs.Common.{Some, length, refl, string_bytes, sym, ◌∙◌, ap, if◌then◌else◌, bytes_eq}
+use Rattle.proto_faults.proofs.Common.{hash_map_updates_text, slice_get_read}
 use Rattle.proto_table.specs.Tables.{entries_of, found}
 use Rattle.proto_table.proofs.Tables.{at_refusal, get_set_same, get_set_other, map_set_same}
 use Rattle.proto_table.proofs.table.put_below.Goals as goal

@@ -1,6 +1,5 @@
 use Rattle.std.proofs.Common.{ℕ, ◌+◌, false, ◌||◌, drop, sym, ap, ◌∙◌, slice_index_or}
-use Rattle.std.specs.List.{list_any}
-use Rattle.std.proofs.lemmas.List.{drop_all}
+use Rattle.proto_faults.proofs.Common.{list_any, drop_all}
 use Rattle.proto_table.proofs.Tables.{any_from_here}
 use Rattle.proto_table.proofs.table.sees_any.Goals as goal
 

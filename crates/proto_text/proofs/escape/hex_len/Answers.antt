@@ -1,8 +1,6 @@
-use Rattle.std.proofs.Common.{◌≡◌, ◌∙◌, ℕ, Bool, true, false, ◌&&◌, ◌||◌, get_or, refl, sym, arith}
-use Rattle.std.specs.Prelude.{nat_le}
+use Rattle.std.proofs.Common.{◌≡◌, ◌∙◌, ℕ, Bool, true, false, ◌&&◌, ◌||◌, get_or, refl, sym, arith, nat_le}
 use Rattle.std.specs.Char.{is_ascii_hexdigit}
-use Rattle.proto_text.specs.Classes.{is_digit}
-use Rattle.proto_text.specs.Bytes.{is_hex}
+use Rattle.proto_text.specs.Common.{is_digit, is_hex}
 use Rattle.proto_text.proofs.Prefixes.{goes_on, stops, runs_out}
 use Rattle.proto_text.proofs.escape.hex_len.Goals as goal
 

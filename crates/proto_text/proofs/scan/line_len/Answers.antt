@@ -1,6 +1,4 @@
-use Rattle.std.proofs.Common.{ap, arith}
-use Rattle.std.specs.Prelude.{not}
-use Rattle.std.proofs.lemmas.Bool.{eq-eqb, ne_eqb}
+use Rattle.std.proofs.Common.{ap, arith, not, eq-eqb, ne_eqb}
 use Rattle.proto_text.specs.Pieces.{is_in_line}
 use Rattle.proto_text.proofs.Prefixes.{goes_on, stops, runs_out}
 use Rattle.proto_text.proofs.scan.line_len.Goals as goal

@@ -1,7 +1,6 @@
 use Rattle.std.proofs.Common.{◌≡◌, ◌≤◌, ◌++◌, drop, take}
 use Rattle.proto_faults.specs.Texts.{text_limit}
-use Rattle.proto_text.specs.Edits.{inverse_from, AreShort}
-use Rattle.proto_text.specs.Splicing.{edits}
+use Rattle.proto_text.specs.Common.{inverse_from, AreShort, edits}
 use Rattle.proto_text.proofs.splice.turned.Given as goal
 
 abbrev pub invariant-loop-splice : goal.invariant-loop-splice

@@ -1,5 +1,4 @@
-use Rattle.std.proofs.Common.{◌≡◌, ap}
-use Rattle.std.specs.String.{string_bytes}
+use Rattle.std.proofs.Common.{◌≡◌, ap, string_bytes}
 use Rattle.proto_text.specs.Values.{StandsFor}
 use Rattle.proto_text.proofs.Values.{value_again, value_utf8}
 use Rattle.proto_text.proofs.value.string_value.Goals as goal

@@ -1,7 +1,6 @@
 use Rattle.std.proofs.Common.{◌+◌, ◌*◌, ◌≤◌, length}
 use Rattle.proto_tree.specs.declared.context.Context.TheVariants as context
-use Rattle.proto_tree.specs.Answer.{IsRead}
-use Rattle.proto_tree.specs.File.{trees, member_tree}
+use Rattle.proto_tree.specs.Common.{IsRead, trees, member_tree}
 use Rattle.proto_tree.proofs.blocks.+messages.Given as goal
 
 abbrev pub decreases-members : goal.decreases-members

@@ -1,7 +1,6 @@
 use Rattle.std.proofs.Common.{length}
 use Rattle.proto_tree.specs.declared.context.Context.TheVariants as context
-use Rattle.proto_tree.specs.Answer.{IsRead}
-use Rattle.proto_tree.specs.File.{trees, service_item_tree}
+use Rattle.proto_tree.specs.Common.{IsRead, trees, service_item_tree}
 use Rattle.proto_tree.proofs.blocks.service_items.Given as goal
 
 abbrev pub invariant-loop-items : goal.invariant-loop-items

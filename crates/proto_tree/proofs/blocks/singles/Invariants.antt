@@ -1,6 +1,5 @@
 use Rattle.std.proofs.Common.{length}
-use Rattle.proto_tree.specs.Answer.{IsRead}
-use Rattle.proto_tree.specs.File.{trees}
+use Rattle.proto_tree.specs.Common.{IsRead, trees}
 use Rattle.proto_tree.proofs.blocks.singles.Given as goal
 
 abbrev pub invariant-loop-items : goal.invariant-loop-items

@@ -1,9 +1,7 @@
 use Rattle.std.proofs.Common.{List, [], ◌∷◌, ◌++◌, take, get_or, sym, ap, ◌∙◌}
 use Rattle.proto_text.specs.declared.kind.TokenKind.TheVariants as kind
 use Rattle.proto_text.specs.declared.lexer.Token.{Token}
-use Rattle.proto_tree.specs.declared.class.Lexeme.{Lexeme}
-use Rattle.proto_tree.specs.Words.{class_by}
-use Rattle.proto_tree.specs.Reads.{classed}
+use Rattle.proto_tree.specs.Common.{Lexeme, class_by, classed}
 use Rattle.proto_tree.proofs.ClassLemmas.{next_class}
 use Rattle.proto_tree.proofs.classing.lexemes.Goals as goal
 

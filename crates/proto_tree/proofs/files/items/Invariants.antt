@@ -1,8 +1,6 @@
 use Rattle.std.proofs.Common.{◌≡◌, length}
 use Rattle.proto_tree.specs.declared.context.Context.TheVariants as context
-use Rattle.proto_tree.specs.File.{trees, item_tree}
-use Rattle.proto_tree.specs.Tree.{last_of}
-use Rattle.proto_tree.specs.Answer.{IsRead}
+use Rattle.proto_tree.specs.Common.{trees, item_tree, last_of, IsRead}
 use Rattle.proto_tree.proofs.files.items.Given as goal
 
 abbrev pub invariant-loop-rest : goal.invariant-loop-rest

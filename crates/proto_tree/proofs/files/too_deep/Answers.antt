@@ -1,7 +1,6 @@
 use Rattle.std.proofs.Common.{◌≡◌, ◌≤◌, get_or, sym, ◌∙◌, ap, arith}
 use Rattle.proto_tree.specs.declared.class.Class.TheVariants as class
-use Rattle.proto_tree.specs.declared.class.Lexeme.{Lexeme}
-use Rattle.proto_tree.specs.Place.{open_after}
+use Rattle.proto_tree.specs.Common.{Lexeme, open_after}
 use Rattle.proto_tree.proofs.Depth.{deep_at, now_more, before_more, open_other}
 use Rattle.proto_tree.proofs.files.too_deep.Goals as goal
 use Rattle.proto_tree.proofs.files.too_deep.Goals.{in-Open+else-depth-eq-LIMIT, in-Close, in_default}

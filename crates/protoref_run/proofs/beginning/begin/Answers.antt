@@ -1,7 +1,5 @@
-use Rattle.std.proofs.Common.{sym, subst}
-use Rattle.std.specs.Prelude.{IfOk, Option}
-use Rattle.proto_records.specs.ReadJournals.{IsReady}
-use Rattle.proto_records.specs.Known.{Over}
+use Rattle.std.proofs.Common.{sym, subst, IfOk, Option}
+use Rattle.proto_records.proofs.Common.{IsReady, Over}
 use Rattle.proto_store.specs.Stores.{Held}
 use Rattle.protoref_run.specs.Changes.{Begins}
 use Rattle.protoref_run.proofs.Tellings.{not_ready}

@@ -1,8 +1,6 @@
-use Rattle.std.proofs.Common.{◌<◌, sym, subst, rules}
-use Rattle.std.specs.Prelude.{Option}
+use Rattle.std.proofs.Common.{◌<◌, sym, subst, rules, Option}
 use Rattle.proto_files.specs.Faults.{FaultAt, fault_at}
-use Rattle.proto_output.specs.Answers.{text_of}
-use Rattle.proto_output.specs.FaultLines.{IsLineOver}
+use Rattle.proto_output.proofs.Common.{text_of, IsLineOver}
 use Rattle.proto_store.specs.Stores.{Held, IsListed}
 use Rattle.protoref_run.proofs.Faulted.{least_is_held}
 use Rattle.protoref_run.proofs.Tellings.{has_fault}

@@ -1,13 +1,10 @@
-use Rattle.std.proofs.Common.{Result, Err, ap, sym, subst}
-use Rattle.std.specs.Prelude.{Option}
+use Rattle.std.proofs.Common.{Result, Err, ap, sym, subst, Option}
 use Rattle.std.proofs.lemmas.Result.{err_from_is_err_and}
 use Rattle.proto_journal.specs.Answers.{asked}
 use Rattle.proto_journal.specs.Commits.{CommitOutcome}
 use Rattle.proto_output.specs.declared.run_fault.RunFault.{RunFault}
 use Rattle.proto_store.specs.Stores.{Held, HoldsFiles}
-use Rattle.protoref_run.specs.Changes.{Begins, MayBegin}
-use Rattle.protoref_run.specs.Told.{TellsOf}
-use Rattle.protoref_run.specs.declared.beginning.Beginning.{Beginning}
+use Rattle.protoref_run.specs.Common.{Begins, MayBegin, TellsOf, Beginning}
 use Rattle.protoref_run.proofs.Tellings.{edit_answers, ends_unedited, may_hold, never_edits}
 use Rattle.protoref_run.proofs.changing.edit_answer.Goals as goal
 

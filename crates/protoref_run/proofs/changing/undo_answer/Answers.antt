@@ -1,12 +1,9 @@
-use Rattle.std.proofs.Common.{Result, Err, ap, sym, subst}
-use Rattle.std.specs.Prelude.{Option}
+use Rattle.std.proofs.Common.{Result, Err, ap, sym, subst, Option}
 use Rattle.std.proofs.lemmas.Result.{err_from_is_err_and}
 use Rattle.proto_journal.specs.Undoing.{UndoOutcome}
 use Rattle.proto_output.specs.declared.run_fault.RunFault.{RunFault}
 use Rattle.proto_store.specs.Stores.{Held, HoldsFiles}
-use Rattle.protoref_run.specs.Changes.{Begins, MayBegin}
-use Rattle.protoref_run.specs.Told.{TellsOf}
-use Rattle.protoref_run.specs.declared.beginning.Beginning.{Beginning}
+use Rattle.protoref_run.specs.Common.{Begins, MayBegin, TellsOf, Beginning}
 use Rattle.protoref_run.proofs.Tellings.{undo_answers, ends_undone, may_hold, never_undoes}
 use Rattle.protoref_run.proofs.changing.undo_answer.Goals as goal
 

@@ -1,6 +1,5 @@
-use Rattle.std.proofs.Common.{◌≡◌, Result, Err, ap, rules}
+use Rattle.std.proofs.Common.{◌≡◌, Result, Err, ap, rules, string_bytes}
 use Rattle.std.specs.Global.{Vec}
-use Rattle.std.specs.String.{string_bytes}
 use Rattle.proto_output.specs.LogLines.{log_lines}
 use Rattle.proto_records.specs.declared.fault.JournalFault.{JournalFault}
 use Rattle.proto_records.specs.declared.record.Record.{Record}

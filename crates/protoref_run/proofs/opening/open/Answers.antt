@@ -1,9 +1,6 @@
-use Rattle.std.proofs.Common.{List, ◌<◌, sym, subst, rules}
-use Rattle.std.specs.Prelude.{Option}
-use Rattle.proto_files.specs.Faults.{FaultAt, IsLeastFault, fault_at}
-use Rattle.proto_files.specs.GivenFiles.{FileOf, files_of}
-use Rattle.proto_output.specs.Answers.{text_of}
-use Rattle.proto_output.specs.FaultLines.{IsLineOver}
+use Rattle.std.proofs.Common.{List, ◌<◌, sym, subst, rules, Option}
+use Rattle.proto_files.proofs.Common.{FaultAt, IsLeastFault, fault_at, FileOf, files_of}
+use Rattle.proto_output.proofs.Common.{text_of, IsLineOver}
 use Rattle.proto_desc.specs.Whole.{WorkspaceFaults}
 use Rattle.proto_store.specs.Stores.{Held, IsListed}
 use Rattle.protoref_run.proofs.Faulted.{fault_is_held}

@@ -1,10 +1,8 @@
-use Rattle.std.proofs.Common.{Result, Err, ap, subst}
+use Rattle.std.proofs.Common.{Result, Err, ap, subst, Option}
 use Rattle.std.proofs.lemmas.Result.{err_from_is_err_and}
-use Rattle.std.specs.Prelude.{Option}
 use Rattle.proto_output.specs.declared.run_fault.RunFault.{RunFault}
 use Rattle.proto_store.specs.Stores.{Held}
-use Rattle.protoref_run.specs.Printed.{Opens}
-use Rattle.protoref_run.specs.declared.opening.Opening.{Opening}
+use Rattle.protoref_run.specs.Common.{Opens, Opening}
 use Rattle.protoref_run.proofs.Printing.{ends_unlinted, faulty_lints, linted_prints}
 use Rattle.protoref_run.proofs.running.lint_answer.Goals as goal
 

@@ -1,7 +1,5 @@
-use Rattle.std.proofs.Common.{List, ℕ, sym, subst}
-use Rattle.std.specs.Prelude.{Option}
-use Rattle.std.proofs.KnownBytes.{Keeps-refl}
-use Rattle.std.proofs.lemmas.Result.{err_from_is_err_and}
+use Rattle.std.proofs.Common.{List, ℕ, sym, subst, Option}
+use Rattle.proto_faults.proofs.Common.{Keeps-refl, err_from_is_err_and}
 use Rattle.proto_output.specs.Answers.{status_of, text_of}
 use Rattle.proto_output.specs.declared.status.Status.{Status}
 use Rattle.proto_store.specs.Stores.{Held}

@@ -1,7 +1,6 @@
 use Rattle.std.proofs.Common.{ap, ◌∙◌, sym, subst, ◌++◌}
 use Rattle.clap.specs.Walk.{texts}
-use Rattle.protoref_words.specs.Marked.{is_bad_at, marks}
-use Rattle.protoref_words.specs.Requests.{IsFaultOf}
+use Rattle.protoref_words.specs.Common.{is_bad_at, marks, IsFaultOf}
 use Rattle.protoref_words.proofs.Marking.{fault_here, handed_more, plain_more}
 use Rattle.protoref_words.proofs.command_line.marked_words.Goals as goal
 

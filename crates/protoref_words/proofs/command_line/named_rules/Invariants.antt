@@ -3,8 +3,7 @@ use Rattle.std.specs.List.{list_all}
 use Rattle.clap.specs.Walk.{texts}
 use Rattle.proto_rules.specs.Rules.{is_chosen}
 use Rattle.proto_rules.specs.declared.rule.Rule.{Rule}
-use Rattle.protoref_words.specs.CommandLines.{names_rule}
-use Rattle.protoref_words.specs.Requests.{name_rule}
+use Rattle.protoref_words.specs.Common.{names_rule, name_rule}
 use Rattle.protoref_words.proofs.command_line.named_rules.Given as goal
 
 abbrev pub invariant-loop-name : goal.invariant-loop-name

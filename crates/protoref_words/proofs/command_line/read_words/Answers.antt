@@ -5,9 +5,7 @@ use Rattle.clap.specs.Walk.{texts}
 use Rattle.clap.specs.Kinds.{IsAmong, Kinds}
 use Rattle.clap.specs.Words.{app_of, fault_of, is_simple, is_simple_and_free, kind_of, subcommand_of, subcommand_rows_of}
 use Rattle.clap.specs.declared.error.kind.ErrorKind.TheVariants.{OutOfMemory}
-use Rattle.protoref_words.specs.CommandLines.{asked}
-use Rattle.protoref_words.specs.Marked.{marked}
-use Rattle.protoref_words.specs.Program.{program}
+use Rattle.protoref_words.specs.Common.{asked, marked, program}
 use Rattle.protoref_words.proofs.Answering.{answer_read, answer_refused}
 use Rattle.protoref_words.proofs.Lines.{just_simple, line, simple}
 use Rattle.protoref_words.proofs.command_line.read_words.Goals as goal

@@ -1,7 +1,6 @@
 use Rattle.std.proofs.Common.{◌≢◌, ◌+◌, ◌∙◌, List, map, take, sym, subst, rules}
-use Rattle.proto_edit.specs.Answers.{asked}
+use Rattle.proto_edit.specs.Common.{asked, Run}
 use Rattle.proto_entries.specs.declared.refusal.Refusal.TheVariants as refusal
-use Rattle.proto_edit.specs.Workspaces.{Run}
 use Rattle.proto_edit.proofs.Chains.{Answer, run_accepted, run_refused, run_next}
 use Rattle.proto_edit.proofs.workspace.Workspace.apply_all.Goals.{in-Ok-with_edit, in-Err-with_edit}
 use Rattle.proto_edit.proofs.workspace.Workspace.apply_all.Goals as goal

@@ -1,6 +1,5 @@
 use Rattle.std.proofs.Common.{map, take}
-use Rattle.proto_edit.specs.Answers.{asked}
-use Rattle.proto_edit.specs.Workspaces.{Run}
+use Rattle.proto_edit.specs.Common.{asked, Run}
 use Rattle.proto_edit.proofs.workspace.Workspace.apply_all.Given as goal
 
 abbrev pub invariant-loop-edit : goal.invariant-loop-edit

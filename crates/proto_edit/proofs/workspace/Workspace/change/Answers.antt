@@ -1,7 +1,5 @@
-use Rattle.std.proofs.Common.{ap, ap₂, map, subst, sym, ◌∙◌}
-use Rattle.std.specs.Prelude.{IfOk}
-use Rattle.proto_edit.specs.Answers.{asked}
-use Rattle.proto_edit.specs.Workspaces.{Asked, rename, delete_field, add_import, drop_import, AreChanges, IsAdmissible}
+use Rattle.std.proofs.Common.{ap, ap₂, map, subst, sym, ◌∙◌, IfOk}
+use Rattle.proto_edit.specs.Common.{asked, Asked, rename, delete_field, add_import, drop_import, AreChanges, IsAdmissible}
 use Rattle.proto_entries.specs.Entries.{change_of}
 use Rattle.proto_edit.proofs.workspace.Workspace.change.Goals as goal
 

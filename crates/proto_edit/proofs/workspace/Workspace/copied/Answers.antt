@@ -1,7 +1,5 @@
-use Rattle.std.proofs.Common.{◌≤◌, ◌∙◌, List, length, subst, arith}
-use Rattle.std.proofs.lemmas.List.{take_all}
-use Rattle.proto_files.specs.Faults.{fault_at}
-use Rattle.proto_files.specs.GivenFiles.{FileOf, files_of}
+use Rattle.std.proofs.Common.{◌≤◌, ◌∙◌, List, length, subst, arith, take_all}
+use Rattle.proto_files.proofs.Common.{fault_at, FileOf, files_of}
 use Rattle.proto_desc.specs.Opening.{IsOpenError}
 use Rattle.proto_desc.specs.Whole.{IsSortedOf}
 use Rattle.proto_edit.proofs.GivenAgain.{opens_again, sorted_again}

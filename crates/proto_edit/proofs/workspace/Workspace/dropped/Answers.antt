@@ -1,7 +1,6 @@
 use Rattle.std.proofs.Common.{List, map, sym, subst}
 use Rattle.std.proofs.lemmas.Result.{IfOk-weaker, IfErr-weaker}
-use Rattle.proto_files.specs.Faults.{HasNoFault}
-use Rattle.proto_files.specs.GivenFiles.{FileOf}
+use Rattle.proto_files.proofs.Common.{HasNoFault, FileOf}
 use Rattle.proto_imports.specs.Links.{LinkFaults}
 use Rattle.proto_entries.specs.Entries.{change_of}
 use Rattle.proto_statement_edits.specs.Edits.{IsDropped, IsDropRefusal}

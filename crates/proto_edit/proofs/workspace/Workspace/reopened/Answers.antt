@@ -1,9 +1,7 @@
 use Rattle.std.proofs.Common.{List, map, sym, subst}
-use Rattle.proto_files.specs.Faults.{fault_at}
-use Rattle.proto_files.specs.GivenFiles.{FileOf, files_of}
+use Rattle.proto_files.proofs.Common.{fault_at, FileOf, files_of}
 use Rattle.proto_desc.specs.Opening.{IsOpenError}
-use Rattle.proto_entries.specs.Entries.{change_of}
-use Rattle.proto_entries.specs.Putting.{ArePut}
+use Rattle.proto_entries.proofs.Common.{change_of, ArePut}
 use Rattle.proto_edit.proofs.Reopening.{none_put, none_faulty, some_opened}
 use Rattle.proto_edit.proofs.workspace.Workspace.reopened.Goals as goal
 

@@ -1,10 +1,8 @@
 use Rattle.std.proofs.Common.{List, [], ◌∷◌, ◌++◌, map, reverse, length, sym, subst}
 use Rattle.proto_files.specs.GivenFiles.{FileOf}
-use Rattle.std.proofs.lemmas.Iterator.Adapters.{YieldsList-from_rev_slice}
-use Rattle.std.proofs.lemmas.Iterator.Consumers.{YieldsList-so_far, YieldsList-turn, YieldsList-end}
-use Rattle.proto_edit.specs.Answers.{IsUndoAllRefusal}
+use Rattle.proto_faults.proofs.Common.{YieldsList-from_rev_slice, YieldsList-so_far, YieldsList-turn, YieldsList-end}
+use Rattle.proto_edit.specs.Common.{IsUndoAllRefusal, Undone}
 use Rattle.proto_entries.specs.Entries.{ChangeOf}
-use Rattle.proto_edit.specs.Workspaces.{Undone}
 use Rattle.proto_edit.proofs.Chains.{undone_next, stuck_so, back_ok, back_err}
 use Rattle.proto_edit.proofs.workspace.Workspace.undo_all.Goals.{In-Err}
 use Rattle.proto_edit.proofs.workspace.Workspace.undo_all.Goals as goal

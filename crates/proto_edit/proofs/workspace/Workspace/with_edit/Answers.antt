@@ -1,5 +1,4 @@
-use Rattle.std.proofs.Common.{List, map, sym, ap, subst}
-use Rattle.std.specs.Prelude.{Some, None}
+use Rattle.std.proofs.Common.{List, map, sym, ap, subst, Some, None}
 use Rattle.proto_edit.specs.Answers.{asked, IsReopened}
 use Rattle.proto_entries.specs.Entries.{ChangeOf, change_of, AreRising}
 use Rattle.proto_edit.proofs.Chains.{step_made}

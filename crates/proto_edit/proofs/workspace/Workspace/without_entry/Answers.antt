@@ -1,6 +1,5 @@
 use Rattle.std.proofs.Common.{◌∙◌, map, sym, ap, subst}
-use Rattle.proto_entries.specs.Entries.{change_of, AreRising, inverted}
-use Rattle.proto_entries.proofs.Walks.{rising_back}
+use Rattle.proto_entries.proofs.Common.{change_of, AreRising, inverted, rising_back}
 use Rattle.proto_edit.proofs.workspace.Workspace.without_entry.Goals as goal
 
 pub reopened-requires : goal.reopened-requires

@@ -1,8 +1,7 @@
 use Rattle.std.proofs.Common.{◌<◌, List, length, ap, subst, arith}
 use Rattle.proto_text.specs.declared.lexer.Token.{Token}
 use Rattle.proto_text.specs.Tokens.{AreTokens}
-use Rattle.proto_tree.specs.File.{tree_of_file}
-use Rattle.proto_tree.specs.Reads.{Reads}
+use Rattle.proto_tree.proofs.Common.{tree_of_file, Reads}
 use Rattle.proto_files.specs.GivenFiles.{FileOf, file_at}
 use Rattle.proto_files.proofs.LeastOfFiles.{tree_at, length-read_files}
 use Rattle.proto_files.proofs.files.Files.tree.Goals as goal

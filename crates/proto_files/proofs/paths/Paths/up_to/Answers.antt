@@ -1,6 +1,5 @@
 use Rattle.std.proofs.Common.{sym, ap, ◌∙◌}
-use Rattle.proto_files.specs.Stages.{named_paths}
-use Rattle.proto_files.specs.FirstFault.{first_fault}
+use Rattle.proto_files.specs.Common.{named_paths, first_fault}
 use Rattle.proto_files.proofs.FirstFaultSteps.{same_files, clean_walk, clean_files, stopped_walk}
 use Rattle.proto_files.proofs.paths.Paths.up_to.Goals as goal
 

@@ -1,6 +1,5 @@
 use Rattle.std.proofs.Common.{List, sym, ap, ◌∙◌, arith}
-use Rattle.proto_text.specs.Texts.{word_at}
-use Rattle.proto_text.specs.Tokens.{Lexeme}
+use Rattle.proto_text.proofs.Common.{word_at, Lexeme}
 use Rattle.proto_files.specs.GivenFiles.{file_at}
 use Rattle.proto_files.proofs.WordsAt.{word_past}
 use Rattle.proto_files.proofs.words.Words.get.Goals as goal

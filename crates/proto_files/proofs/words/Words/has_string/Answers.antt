@@ -1,8 +1,6 @@
-use Rattle.std.proofs.Common.{List, sym, ap, ◌∙◌}
-use Rattle.std.specs.Prelude.{is_some}
+use Rattle.std.proofs.Common.{List, sym, ap, ◌∙◌, is_some}
 use Rattle.proto_text.specs.Tokens.{Lexeme}
-use Rattle.proto_files.specs.GivenFiles.{file_at}
-use Rattle.proto_files.specs.StringTokens.{string_text}
+use Rattle.proto_files.specs.Common.{file_at, string_text}
 use Rattle.proto_files.proofs.StringsAt.{has_string_there, no_string_past}
 use Rattle.proto_files.proofs.words.Words.has_string.Goals as goal
 

@@ -1,6 +1,5 @@
 use Rattle.std.proofs.Common.{map, ap}
-use Rattle.proto_text.specs.Tokens.{lexeme_at}
-use Rattle.proto_text.proofs.Once.{one_token_list}
+use Rattle.proto_text.proofs.Common.{lexeme_at, one_token_list}
 use Rattle.proto_files.specs.GivenFiles.{file_at}
 use Rattle.proto_files.proofs.words.Words.new.Goals as goal
 

@@ -1,8 +1,6 @@
-use Rattle.std.proofs.Common.{List, map, sym, ap, ◌∙◌}
-use Rattle.std.specs.Prelude.{is_some}
+use Rattle.std.proofs.Common.{List, map, sym, ap, ◌∙◌, is_some}
 use Rattle.proto_text.specs.Tokens.{Lexeme, lexeme_at}
-use Rattle.proto_files.specs.GivenFiles.{file_at}
-use Rattle.proto_files.specs.StringTokens.{string_at, string_text}
+use Rattle.proto_files.specs.Common.{file_at, string_at, string_text}
 use Rattle.proto_files.proofs.StringsAt.{no_value, string_token, value_there}
 use Rattle.proto_files.proofs.words.Words.string.Goals as goal
 

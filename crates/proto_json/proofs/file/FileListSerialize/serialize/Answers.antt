@@ -1,5 +1,4 @@
-use Rattle.proto_descriptors.proofs.Mapped.{map_both}
-use Rattle.proto_descriptors.specs.Views.{file_desc}
+use Rattle.proto_descriptors.proofs.Common.{map_both, file_desc}
 use Rattle.proto_json.proofs.Sending.{last, listed, object_sent}
 use Rattle.proto_json.specs.DescriptorText.{file_text}
 use Rattle.std.proofs.lemmas.Result.{on_ok_weaker}

@@ -1,5 +1,4 @@
-use Rattle.proto_descriptors.proofs.Mapped.{map_both}
-use Rattle.proto_descriptors.specs.Views.{method_desc}
+use Rattle.proto_descriptors.proofs.Common.{map_both, method_desc}
 use Rattle.proto_json.proofs.Sending.{last, listed, more, object_sent}
 use Rattle.proto_json.specs.DescriptorText.{method_text}
 use Rattle.std.proofs.lemmas.Result.{on_ok_weaker}

@@ -1,12 +1,9 @@
-use Rattle.std.proofs.Common.{◌≡◌, List, map, ◌∙◌, ap}
-use Rattle.std.specs.Prelude.{is_some}
-use Rattle.proto_text.specs.Texts.{word_at}
-use Rattle.proto_text.specs.Tokens.{Lexeme, lexeme_at}
+use Rattle.std.proofs.Common.{◌≡◌, List, map, ◌∙◌, ap, is_some}
+use Rattle.proto_text.proofs.Common.{word_at, Lexeme, lexeme_at}
 use Rattle.proto_tree.specs.File.{tree_of_file}
-use Rattle.proto_files.specs.GivenFiles.{file_at}
+use Rattle.proto_files.proofs.Common.{file_at, ReadOf}
 use Rattle.proto_meaning.specs.Tree.{package_of}
 use Rattle.proto_listing.specs.FromTree.{items_in}
-use Rattle.proto_files.specs.FilesRead.{ReadOf}
 use Rattle.proto_parts.specs.Parts.{syntax_texts_in}
 use Rattle.proto_lint.proofs.HeadLists.{head_same, some_first}
 use Rattle.proto_lint.specs.Heads.{first_offset}

@@ -1,7 +1,4 @@
-use Rattle.std.proofs.Common.{List, find, sym, ◌∙◌, ap}
-use Rattle.std.specs.Prelude.{slice_get}
-use Rattle.std.specs.Option.{option_and_then}
-use Rattle.std.specs.Str.{bytes_eq}
+use Rattle.std.proofs.Common.{List, find, sym, ◌∙◌, ap, slice_get, option_and_then, bytes_eq}
 use Rattle.proto_lint.proofs.HeadLists.{first_head, got_at}
 use Rattle.proto_lint.specs.Packages.{Head, directory}
 use Rattle.proto_lint.proofs.heads.Heads.first_in_directory.Goals as goal

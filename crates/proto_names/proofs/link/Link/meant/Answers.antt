@@ -1,5 +1,4 @@
-use Rattle.std.proofs.Common.{◌<◌, option_map, ◌∙◌, ap}
-use Rattle.std.specs.List.{AllPairs}
+use Rattle.std.proofs.Common.{◌<◌, option_map, ◌∙◌, ap, AllPairs}
 use Rattle.proto_names.specs.Linking.{row_at}
 use Rattle.proto_names.proofs.Linking.{inner_at, inner_has, inner_past}
 use Rattle.proto_names.proofs.link.Link.meant.Goals as goal

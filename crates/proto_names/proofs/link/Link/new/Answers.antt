@@ -1,18 +1,11 @@
-use Rattle.std.proofs.Common.{Bool, List, [], ℕ, ◌<◌, length, get_or, map, sym, ◌∙◌, ap, subst, ◌≡◌, arith}
-use Rattle.std.specs.Global.{Vec}
-use Rattle.std.specs.List.{All}
-use Rattle.std.proofs.lemmas.List.{length-map}
-use Rattle.std.proofs.lemmas.Result.{err_from_is_err_and}
+use Rattle.std.proofs.Common.{Bool, List, [], ℕ, ◌<◌, length, get_or, map, sym, ◌∙◌, ap, subst, ◌≡◌, arith, All}
+use Rattle.proto_faults.proofs.Common.{Vec, length-map, err_from_is_err_and}
 use Rattle.proto_files.specs.FilesRead.{Each}
 use Rattle.proto_imports.specs.declared.import.FileImport.{FileImport}
 use Rattle.proto_listing.specs.declared.listing.Listing.{Listing}
-use Rattle.proto_names.specs.FileReferences.{AreFileMeant}
-use Rattle.proto_names.specs.LinkOfFiles.{AreNamesOf}
-use Rattle.proto_names.specs.Linking.{LinkOf, all_meant, name_of_row, references_to}
-use Rattle.proto_imports.specs.Links.{AreListings, names_of_files}
+use Rattle.proto_names.specs.Common.{AreFileMeant, AreNamesOf, LinkOf, all_meant, name_of_row, references_to, Meant}
+use Rattle.proto_imports.proofs.Common.{AreListings, names_of_files, no_fault}
 use Rattle.proto_meaning.specs.Marks.{MarksSeen}
-use Rattle.proto_names.specs.declared.references.Meant.{Meant}
-use Rattle.proto_imports.proofs.LeastLinkFault.{no_fault}
 use Rattle.proto_names.proofs.LinkMeanings.{all_tokens_rise, is_link_read}
 use Rattle.proto_names.proofs.LinkParts.{files_between, is_link, marks_seen}
 use Rattle.proto_names.proofs.link.Link.new.Goals as goal

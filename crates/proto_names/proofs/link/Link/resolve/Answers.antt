@@ -1,5 +1,4 @@
-use Rattle.std.proofs.Common.{[], get_or, option_map, refl, sym, ◌∙◌, ap}
-use Rattle.std.specs.Option.{option_and_then}
+use Rattle.std.proofs.Common.{[], get_or, option_map, refl, sym, ◌∙◌, ap, option_and_then}
 use Rattle.std.proofs.lemmas.Option.{none-some}
 use Rattle.proto_files.specs.GivenFiles.{file_at}
 use Rattle.proto_meaning.specs.Joined.{joined}

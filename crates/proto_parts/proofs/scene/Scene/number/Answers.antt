@@ -1,7 +1,5 @@
-use Rattle.std.proofs.Common.{◌≤◌, pos, ap, ◌∙◌, arith}
-use Rattle.std.specs.Int.{w128}
-use Rattle.std.specs.Prelude.{min}
-use Rattle.std.proofs.lemmas.Int.{to_z_pos}
+use Rattle.std.proofs.Common.{◌≤◌, pos, ap, ◌∙◌, arith, min}
+use Rattle.proto_faults.proofs.Common.{w128, to_z_pos}
 use Rattle.proto_parts.specs.Numbers.{past, number_of}
 use Rattle.proto_parts.specs.Scenes.{Scene, number_at}
 use Rattle.proto_parts.proofs.Digits.{min_bound}

@@ -1,9 +1,6 @@
-use Rattle.std.proofs.Common.{◌≡◌, Some, sym, ap, ◌∙◌, rules}
-use Rattle.std.specs.Prelude.{option_map}
-use Rattle.std.specs.BTreeMap.{get_by_text}
-use Rattle.std.proofs.lemmas.List.Elements.{same_from_all_zip}
-use Rattle.proto_store.specs.Memory.{MemoryOf}
-use Rattle.proto_store.specs.Stores.{bytes_at}
+use Rattle.std.proofs.Common.{◌≡◌, Some, sym, ap, ◌∙◌, rules, option_map}
+use Rattle.proto_faults.proofs.Common.{get_by_text, same_from_all_zip}
+use Rattle.proto_store.specs.Common.{MemoryOf, bytes_at}
 use Rattle.proto_store.proofs.Entries.{bytes_of_lookup}
 use Rattle.proto_store.proofs.memory.MemoryStore.bytes.Goals as goal
 

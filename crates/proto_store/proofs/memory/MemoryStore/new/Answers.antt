@@ -1,7 +1,4 @@
-use Rattle.std.proofs.Common.{◌∙◌, sym, ap, cond}
-use Rattle.std.specs.Str.{bytes_eq}
-use Rattle.std.specs.String.{string_bytes}
-use Rattle.std.specs.Prelude.{Some}
+use Rattle.std.proofs.Common.{◌∙◌, sym, ap, cond, bytes_eq, string_bytes, Some}
 use Rattle.proto_store.proofs.Entries.{bytes_after_insert, latest}
 use Rattle.proto_store.proofs.memory.MemoryStore.new.Goals as goal
 

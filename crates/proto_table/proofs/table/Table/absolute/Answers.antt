@@ -1,7 +1,6 @@
 use Rattle.std.proofs.Common.{[], get_or, map, option_map, None, sym, ◌∙◌, ap, subst, arith, string_bytes}
 use Rattle.std.proofs.lemmas.List.{length-map}
-use Rattle.proto_table.specs.Resolved.{IsTypeAt, under_all}
-use Rattle.proto_table.specs.Tables.{names_of}
+use Rattle.proto_table.specs.Common.{IsTypeAt, under_all, names_of}
 use Rattle.proto_table.proofs.Resolved.{absolute_is, absolute_none}
 use Rattle.proto_table.proofs.table.Table.absolute.Goals as goal
 

@@ -1,9 +1,7 @@
-use Rattle.std.proofs.Common.{◌≡◌, ◌+◌, ◌<◌, [], ◌∷◌, ◌++◌, length, map, refl, sym, ◌∙◌, ap, arith, Some, slice_get, if◌then◌else◌, is_ok}
-use Rattle.std.specs.Str.{bytes_eq}
+use Rattle.std.proofs.Common.{◌≡◌, ◌+◌, ◌<◌, [], ◌∷◌, ◌++◌, length, map, refl, sym, ◌∙◌, ap, arith, Some, slice_get, if◌then◌else◌, is_ok, bytes_eq}
 use Rattle.std.proofs.lemmas.Result.{IfOk-from_err}
-use Rattle.proto_table.specs.declared.table.Row.{Row}
+use Rattle.proto_table.specs.Common.{Row, found, look, row_of, entries_of}
 use Rattle.proto_meaning.specs.Forest.{under}
-use Rattle.proto_table.specs.Tables.{found, look, row_of, entries_of}
 use Rattle.proto_table.proofs.Tables.{at_refusal, table_added}
 use Rattle.proto_table.proofs.table.Table.add.Goals as goal
 

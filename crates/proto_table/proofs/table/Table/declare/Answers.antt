@@ -1,11 +1,7 @@
 use Rattle.std.proofs.Common.{◌≡◌, ◌<◌, Bool, true, false, ◌&&◌, length, get_or, refl, sym, ◌∙◌, ap, subst, arith, string_bytes}
-use Rattle.std.proofs.lemmas.List.{length-map, get_or_default}
-use Rattle.std.proofs.lemmas.Result.{IfOk-from_err}
-use Rattle.proto_meaning.specs.Linked.{is_package}
-use Rattle.proto_table.specs.Filling.{IsRowOf}
-use Rattle.proto_meaning.specs.Forest.{under, front}
-use Rattle.proto_table.specs.Tables.{names_of}
-use Rattle.proto_meaning.proofs.Sound.{package_from}
+use Rattle.proto_faults.proofs.Common.{length-map, get_or_default, IfOk-from_err}
+use Rattle.proto_meaning.proofs.Common.{is_package, under, front, package_from}
+use Rattle.proto_table.specs.Common.{IsRowOf, names_of}
 use Rattle.proto_table.proofs.Indexed.{declared_new, file_table, declared_again}
 use Rattle.proto_table.proofs.Kept.{row_added, row_again}
 use Rattle.proto_table.proofs.Tables.{at_refusal}

@@ -1,6 +1,5 @@
 use Rattle.std.proofs.Common.{◌≢◌, ℕ, ◌<◌, List, [], length, get_or, map, Bor, sym, ◌∙◌, ap}
-use Rattle.proto_table.specs.Resolved.{under_all}
-use Rattle.proto_table.specs.Tables.{names_of}
+use Rattle.proto_table.specs.Common.{under_all, names_of}
 use Rattle.proto_table.proofs.Resolved.{drop_words, words_step, if_none}
 use Rattle.proto_table.proofs.table.Table.follow.Goals as goal
 

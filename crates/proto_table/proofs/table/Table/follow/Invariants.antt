@@ -1,6 +1,5 @@
 use Rattle.std.proofs.Common.{◌≡◌, ◌<◌, [], length, get_or, drop, map}
-use Rattle.proto_table.specs.Tables.{names_of}
-use Rattle.proto_table.specs.Resolved.{under_all}
+use Rattle.proto_table.specs.Common.{names_of, under_all}
 use Rattle.proto_table.proofs.table.Table.follow.Given as goal
 
 abbrev pub invariant-loop-word : goal.invariant-loop-word

@@ -1,8 +1,7 @@
 use Rattle.std.proofs.Common.{◌≡◌, ◌+◌, suc, sym, ◌∙◌, ap, arith, string_bytes}
 use Rattle.std.proofs.lemmas.List.{length-map}
-use Rattle.proto_meaning.specs.Forest.{under, front}
+use Rattle.proto_meaning.proofs.Common.{under, front, cut_found, cut_missing, last_named}
 use Rattle.proto_table.specs.Tables.{names_of, aboves_of, look}
-use Rattle.proto_meaning.proofs.Forest.{cut_found, cut_missing, last_named}
 use Rattle.proto_table.proofs.table.Table.named.Goals as goal
 
 pub cut-requires-text-text : goal.cut-requires-text-text

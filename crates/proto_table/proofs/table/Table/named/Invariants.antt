@@ -1,5 +1,4 @@
-use Rattle.std.proofs.Common.{◌≡◌, ◌≤◌, length}
-use Rattle.std.specs.Str.{IsUtf8}
+use Rattle.std.proofs.Common.{◌≡◌, ◌≤◌, length, IsUtf8}
 use Rattle.proto_meaning.specs.Forest.{under, front}
 use Rattle.proto_table.specs.Tables.{names_of}
 use Rattle.proto_table.proofs.table.Table.named.Given as goal

@@ -1,7 +1,6 @@
 use Rattle.std.proofs.Common.{◌≡◌, ◌-◌, ◌<◌, suc, length, sym, ◌∙◌, ap, subst, arith}
 use Rattle.std.proofs.Math.Seq.{take-length}
-use Rattle.proto_meaning.specs.Joined.{joined}
-use Rattle.proto_meaning.specs.Forest.{front}
+use Rattle.proto_meaning.proofs.Common.{joined, front}
 use Rattle.proto_table.specs.Tables.{names_of}
 use Rattle.proto_table.proofs.Search.{Fails, none_at_all, above_lower, one_out}
 use Rattle.proto_table.proofs.table.Table.search.Goals as goal

@@ -1,8 +1,6 @@
 use Rattle.std.proofs.Common.{◌≡◌, ℕ, ◌≤◌, List, length, take}
-use Rattle.proto_meaning.specs.Joined.{joined, ArePlain}
-use Rattle.proto_meaning.specs.Forest.{front}
-use Rattle.proto_table.specs.Tables.{names_of}
-use Rattle.proto_table.specs.Search.{NoneAbove}
+use Rattle.proto_meaning.proofs.Common.{joined, ArePlain, front}
+use Rattle.proto_table.specs.Common.{names_of, NoneAbove}
 use Rattle.proto_table.proofs.table.Table.search.Given as goal
 
 abbrev pub invariant-loop-row : goal.invariant-loop-row

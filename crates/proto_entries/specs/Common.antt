@@ -1,0 +1,4 @@
+-- What proofs of this crate name of its own definitions, passed on from one place. Declares nothing.
+pub use Rattle.proto_entries.specs.Entries.{AreRising, ChangeOf, IsChange, inverted, turned_round}
+pub use Rattle.proto_entries.specs.Laws.{EntriesLeadBack, PutsAreWalked, PutsKeepPaths, PutsOnce, WalksPut}
+pub use Rattle.proto_entries.specs.Putting.{ArePut, AreShortFiles, EachPuts, HasChange, IsNext, IsPut, PutsFile}
