@@ -6,8 +6,8 @@ use Rattle.proto_statement_edits.proofs.Additions.{free_16, refused_16}
 use Rattle.proto_statement_edits.proofs.Spliced.{changes_are, not_long}
 use Rattle.proto_statement_edits.proofs.adding.changed.Goals as goal
 
-pub returns-in-Some-clause-ok : goal.returns-in-Some-clause-ok
-returns-in-Some-clause-ok c =
+pub returns-in_ok-only-in-Some-clause-ok : goal.returns-in_ok-only-in-Some-clause-ok
+returns-in_ok-only-in-Some-clause-ok c =
     let files = c.args.files.now in
     let file = c.args.file in
     let path = c.args.paths.path.now in
@@ -20,8 +20,8 @@ returns-in-Some-clause-ok c =
       changes = (reads, are, (file, c.requires.file, changes_are (file_at files file) e e c.in-Some.change c.in_ok-only-in-Some.field-0.items refl spliced c.in_ok-only-in-Some.ensures));
     }
 
-pub returns-clause-err : goal.returns-clause-err
-returns-clause-err c =
+pub returns-in-None-clause-err : goal.returns-in-None-clause-err
+returns-in-None-clause-err c =
     let files = c.args.files.now in
     let file = c.args.file in
     let path = c.args.paths.path.now in

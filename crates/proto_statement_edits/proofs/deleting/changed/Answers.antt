@@ -6,8 +6,8 @@ use Rattle.proto_statement_edits.proofs.FieldCases.{free_16, refused_16}
 use Rattle.proto_statement_edits.proofs.Spliced.{changes_are, not_long}
 use Rattle.proto_statement_edits.proofs.deleting.changed.Goals as goal
 
-pub returns-in-Some-clause-ok : goal.returns-in-Some-clause-ok
-returns-in-Some-clause-ok c =
+pub returns-in_ok-only-in-Some-clause-ok : goal.returns-in_ok-only-in-Some-clause-ok
+returns-in_ok-only-in-Some-clause-ok c =
     let files = c.args.files.now in
     let reads = c.are_read.ensures.0 in
     let are = c.are_read.ensures.1 in
@@ -19,8 +19,8 @@ returns-in-Some-clause-ok c =
       changes = (reads, are, (x.0, x.1, changes_are (file_at files x.0.file) e e c.in-Some.change c.in_ok-only-in-Some.field-0.items refl x.2 c.in_ok-only-in-Some.ensures));
     }
 
-pub returns-clause-err : goal.returns-clause-err
-returns-clause-err c =
+pub returns-in-None-clause-err : goal.returns-in-None-clause-err
+returns-in-None-clause-err c =
     let files = c.args.files.now in
     let reads = c.are_read.ensures.0 in
     let are = c.are_read.ensures.1 in
