@@ -1,6 +1,7 @@
 -- What is said of the bytes of a file.
 use Rattle.std.specs.Prelude.{◌≡◌, ◌⊎◌, ◌<◌, ℕ, List, length, count_by}
 use Rattle.std.specs.Str.{IsUtf8}
+use Rattle.proto_faults.specs.Texts.{text_limit}
 use Rattle.proto_text.specs.declared.lexer.Token.{Token}
 use Rattle.proto_text.specs.declared.fault.TextFault.{TextFault}
 use Rattle.proto_text.specs.FaultTable.{text_number, text_name, text_offset}
@@ -53,4 +54,4 @@ pub record IsGrammarFault (bytes : List ℕ) (said : Fault) : Type 0 where
 abbrev pub IsReport : List ℕ → Report → Type 0
 IsReport bytes (report.Counts counts) = HasCounts bytes counts
 IsReport bytes (report.Fault fault) = IsTextFault bytes fault ⊎ IsGrammarFault bytes fault
-IsReport bytes report.NoText = (1048576 < length bytes) ⊎ (IsUtf8 bytes → ⊥)
+IsReport bytes report.NoText = (text_limit < length bytes) ⊎ (IsUtf8 bytes → ⊥)

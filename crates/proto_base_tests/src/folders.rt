@@ -36,7 +36,7 @@ fn expect_failures<R: Files + AllocGlobal>(rt: &impl Abort, store: &mut FolderSt
 
 #[test]
 fn replaces_files(rt: HostRuntime) {
-    for bits in [0o600, 0o644, 0o755, 0o444] {
+    for bits in [0o600, 0o644, 0o755, 0o660] {
         let mode = [(SCHEMA, Holds::Made(Made::Mode(bits)))];
         let kept = [(SCHEMA, Holds::Seen(Seen::Mode(0o777, bits)))];
         in_new_folder(&rt, &rt, "files", &[&mode, REPLACED, &kept, NOT_MADE]);
@@ -63,22 +63,35 @@ const NOT_MADE: &[Step] = &[
 
 #[test]
 fn clears_what_was_left(rt: HostRuntime) {
-    in_new_folder(&rt, &rt, "left", &[LEFT]);
+    in_new_folder(&rt, &rt, "left", &[LEFT, LEFT_LINK]);
     // The second time nothing is left to remove.
     in_new_folder(&rt, &rt, "leftovers", &[LEFTOVERS, CLEARED, CLEARED]);
     in_new_folder(&rt, &rt, "unclear", &[UNCLEAR]);
 }
 
+// What is in the way stays until it is cleared.
 const LEFT: &[Step] = &[
     (
         "p/.protoref-new",
         Holds::Made(Made::Text("of an earlier run")),
     ),
+    ("", Holds::Failed(Change::Replace(SCHEMA, "B"))),
+    (SCHEMA, Holds::Seen(Seen::Text("A"))),
+    (
+        "p/.protoref-new",
+        Holds::Seen(Seen::Text("of an earlier run")),
+    ),
+    ("", Holds::Changed(Change::Clear)),
     ("", Holds::Changed(Change::Replace(SCHEMA, "B"))),
     (SCHEMA, Holds::Seen(Seen::Text("B"))),
-    // A link that stands there goes, and what it leads to stays.
+];
+
+// A link that stands there goes, and what it leads to stays.
+const LEFT_LINK: &[Step] = &[
     ("p/other.txt", Holds::Made(Made::Text("other"))),
     ("p/.protoref-new", Holds::Made(Made::Link("p/other.txt"))),
+    ("", Holds::Failed(Change::Replace(SCHEMA, "C"))),
+    ("", Holds::Changed(Change::Clear)),
     ("", Holds::Changed(Change::Replace(SCHEMA, "C"))),
     (SCHEMA, Holds::Seen(Seen::Text("C"))),
     ("p/other.txt", Holds::Seen(Seen::Text("other"))),
@@ -92,7 +105,6 @@ const LEFTOVERS: &[Step] = &[
     (".git", Holds::Made(Made::Folder)),
     ("linked", Holds::Made(Made::Link(".git"))),
     ("s/.protoref-new", Holds::Made(Made::Link(SCHEMA))),
-    (".protoref-new", Holds::Made(Made::Text("cut off"))),
     ("p/.protoref-new", Holds::Made(Made::Text("cut off"))),
     ("p/q/.protoref-new", Holds::Made(Made::Text("cut off"))),
     (".git/.protoref-new", Holds::Made(Made::Text("cut off"))),

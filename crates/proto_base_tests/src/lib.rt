@@ -23,6 +23,8 @@ mod names;
 #[cfg(test)]
 mod records;
 #[cfg(test)]
+mod sharing;
+#[cfg(test)]
 mod steps;
 #[cfg(test)]
 mod text;

@@ -119,7 +119,7 @@ type Folders = &'static [(&'static str, &'static [u8])];
 const SCHEMAS: Folders = &[
     (
         "r",
-        b"b.proto\0p\0.git\0.x.proto\0.\xff\0notes.txt\0link.proto\0linked\0d.proto\0.proto\0proto\0",
+        b"b.proto\0p\0.git\0.x.proto\0.\xff\0notes.txt\0link.proto\0linked\0d.proto\0.proto\0proto\0gone\0gone.proto\0",
     ),
     ("r/p", b"\0v1\0a.proto\0"),
     ("r/p/v1", b"c.proto\0"),
@@ -153,9 +153,6 @@ const UNREADABLE: &[Folders] = &[
     &[],
     // A name that is no text.
     &[("r", b"a.proto\0b\xff\0")],
-    // A name that nothing has, and a folder that does not open.
-    &[("r", b"a.proto\0gone\0")],
-    &[("r", b"p\0"), ("r/p", b"q\0")],
 ];
 
 #[test]

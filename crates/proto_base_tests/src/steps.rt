@@ -38,6 +38,10 @@ pub(crate) enum Made {
     NoFolder,
     /// A file of this text.
     Text(&'static str),
+    /// No file, in place of the one that is there.
+    NoFile,
+    /// The file of another path below the root, which goes there.
+    Moved(&'static str),
     /// A symbolic link to another path below the root.
     Link(&'static str),
     /// An empty file, made as long as this.
@@ -73,6 +77,8 @@ pub(crate) enum Change {
 pub(crate) enum Ask {
     /// The file at a path has this text.
     File(&'static str, &'static str),
+    /// The file at a path is read as so many bytes.
+    FileLength(&'static str, usize),
     /// There is no file to be read or replaced at a path.
     NoFile(&'static str),
     /// The journal has this text.
@@ -151,6 +157,8 @@ fn make(rt: &HostRuntime, root: &str, path: &str, made: Made) -> io::Result<()> 
         }
         Made::NoFolder => fs::remove_dir_all(rt, path),
         Made::Text(text) => fs::write(rt, path, text),
+        Made::NoFile => fs::remove_file(rt, path),
+        Made::Moved(from) => fs::rename(rt, below(rt, root, from)?.as_str(), path),
         Made::Link(to) => symlink(rt, below(rt, root, to)?.as_str(), path),
         Made::Length(length) => fs::File::create(rt, path)?.set_len(length),
         Made::Mode(bits) => fs::set_permissions(rt, path, Permissions::from_mode(bits)),
@@ -184,6 +192,7 @@ fn changed(rt: &HostRuntime, root: &str, change: Change) -> Result<(), StoreFaul
 fn is_answered(rt: &HostRuntime, root: &str, ask: Ask) -> bool {
     match ask {
         Ask::File(path, text) => is_text(read(rt, root, path), text, text.len()),
+        Ask::FileLength(path, length) => is_text(read(rt, root, path), "", length),
         Ask::NoFile(path) => {
             read(rt, root, path).is_err() && changed(rt, root, Change::Replace(path, "B")).is_err()
         }

@@ -4,27 +4,42 @@ ghost use Rattle.std.specs.Prelude.{◌≡◌, ◌⊎◌, ◌+◌, ◌-◌, ◌^
 ghost use Rattle.std.specs.String.{string_bytes};
 ghost use Rattle.proto_store.specs.Stores.{Counts, HoldsBytes, HoldsJournal, ListsPaths, unknown, with_file, with_journal};
 
-use crate::replacing::{SECOND, clear_leftover, put_file, regular_file};
+use crate::looks::{Stamp, look, open_found, read_up_to, regular_file, stamp_of};
+use crate::replacing::{Place, SECOND, clear_leftover, put_file, refuse_read_only};
 use crate::store::{Store, StoreFault};
-use proto_faults::MAX_JOURNAL_LEN;
+use proto_faults::{MAX_JOURNAL_LEN, MAX_LEN};
 use std::alloc::Global;
-use std::io::Read;
+use std::collections::BTreeMap;
+use std::fs::{File, Metadata, TryLockError};
+use std::os::unix::fs::MetadataExt;
 use std::rt::Files;
 use std::{fs, io};
 
 // Names that begin with a dot are passed over, so the journal is never listed.
 const JOURNAL: &str = ".protoref-journal";
 
+// The mode of a journal where none was, but for what no schema has.
+const NEW_JOURNAL_MODE: u32 = 0o644;
+
 /// The `.proto` files below a folder, as they lie there, and the file
 /// `.protoref-journal` in it. Names that begin with a dot are passed over, and so
 /// is all that is neither a folder nor a regular file whose name ends in `.proto`.
 /// A root that is the empty word names no folder, so each call fails. No symbolic
 /// link below the root is followed. No contract can say what a folder holds.
+///
+/// Other programs may write the folder meanwhile. `lock` keeps other runs away that ask for it, and
+/// a replace fails where not the file stands that this store has last read or written there.
 #[derive(Drop)]
 pub struct FolderStore<'a, R: Files + AllocGlobal> {
     rt: &'a R,
     root: &'a str,
     failures: u64,
+    // The folder while it is locked.
+    locked: Option<File>,
+    // What was last read or written at a path, none of a journal that was not there.
+    seen: BTreeMap<String, Option<Stamp>>,
+    // The bits that the modes of all schemas have that were listed.
+    shared_mode: u32,
 }
 
 // What is left to walk, and what was found, as paths below the root.
@@ -33,6 +48,7 @@ struct Walk {
     folders: Vec<String>,
     files: Vec<String>,
     leftovers: Vec<String>,
+    shared_mode: u32,
 }
 
 impl<'a, R: Files + AllocGlobal> FolderStore<'a, R> {
@@ -45,6 +61,9 @@ impl<'a, R: Files + AllocGlobal> FolderStore<'a, R> {
             rt,
             root,
             failures: 0,
+            locked: None,
+            seen: BTreeMap::new(rt.alloc()),
+            shared_mode: 0o777,
         }
     }
 
@@ -52,7 +71,8 @@ impl<'a, R: Files + AllocGlobal> FolderStore<'a, R> {
     /// in each folder below it that `list` goes through. A symbolic link of that name goes itself,
     /// and a folder of that name stays. What the store holds stays, since `list` passes over that
     /// name. Fails where the root is no folder, or where a folder cannot be read or such a file not
-    /// be removed; those that are left then can be removed later.
+    /// be removed; all others are removed then. It is for who holds the lock: another run may be
+    /// writing such a file, and fails where it is gone.
     pub fn clear_leftovers(&mut self) -> Result<(), StoreFault>
         requires { self.old.failures < 2 ^ 64 - 1 }
         ensures same { ⟦<FolderStore<'a, R> as Store>⟧.holds self.new
@@ -77,16 +97,51 @@ impl<'a, R: Files + AllocGlobal> FolderStore<'a, R> {
         StoreFault::Failed
     }
 
-    // Removes what lies below the root and was left.
+    // Notes what was read or written at a path.
+    fn note(&mut self, path: &str, stamp: Option<Stamp>) -> io::Result<()>
+        ensures root { self.new.root.now ≡ self.old.root.now }
+        ensures failures { self.new.failures ≡ self.old.failures }
+    {
+        let path = String::from_str(self.rt.alloc(), path)?;
+        let _ = self.seen.insert(path, stamp)?;
+        Ok(())
+    }
+
+    // Notes what was written at a path.
+    fn written(&mut self, path: &str, stamp: Stamp) -> Result<(), StoreFault>
+        requires { self.old.failures < 2 ^ 64 - 1 }
+        ensures root { self.new.root.now ≡ self.old.root.now }
+        ensures count { Counts self.old.failures self.new.failures result }
+    {
+        match self.note(path, Some(stamp)) {
+            Ok(()) => Ok(()),
+            Err(_) => Err(self.fault()),
+        }
+    }
+
+    // What has to stand at a path: what was noted of it, or else what a look has found there.
+    fn wanted(&self, path: &str, found: Option<Stamp>) -> Option<Stamp> {
+        match self.seen.get(path) {
+            Some(stamp) => *stamp,
+            None => found,
+        }
+    }
+
+    // Removes what lies below the root and was left. What cannot be removed keeps none of the rest.
     fn remove_leftovers(&self) -> io::Result<()>
         ensures { self.now.root.now ≡ [] → IsErr result }
     {
         let walk = self.walked()?;
+        let mut is_clear = true;
         for path in walk.leftovers.iter() {
             let full_path = self.full_path(path.as_str())?;
-            clear_leftover(self.rt, full_path.as_str())?;
+            is_clear &= clear_leftover(self.rt, full_path.as_str()).is_ok();
         }
-        Ok(())
+        if is_clear {
+            Ok(())
+        } else {
+            Err(io::Error::from(io::ErrorKind::PermissionDenied))
+        }
     }
 
     // What lies below the root.
@@ -98,6 +153,7 @@ impl<'a, R: Files + AllocGlobal> FolderStore<'a, R> {
             folders: Vec::new(alloc),
             files: Vec::new(alloc),
             leftovers: Vec::new(alloc),
+            shared_mode: 0o777,
         };
         self.visit_folder(&mut walk, "")?;
         for _ in 0..u64::MAX {
@@ -137,11 +193,14 @@ impl<'a, R: Files + AllocGlobal> FolderStore<'a, R> {
     {
         let mut path = self.full_path(folder)?;
         path.push('/')?;
-        bytes_up_to(self.rt.alloc(), self.rt.open_dir(path.as_str()), usize::MAX)
+        let mut folder = self.rt.open_dir(path.as_str())?;
+        let mut names = Vec::new(self.rt.alloc());
+        read_up_to(&mut folder, usize::MAX, &mut names)?;
+        Ok(names)
     }
 
-    // Notes a name of the folder, if it is that of a
-    // folder, of a schema file or of what a write has left.
+    // Notes a name of the folder, if it is that of a folder, of a schema
+    // file or of what a write has left. A name that is gone is passed over.
     fn visit(&self, walk: &mut Walk, folder: &str, name: &[u8]) -> io::Result<()> {
         if name == SECOND.as_bytes() {
             walk.leftovers
@@ -155,11 +214,14 @@ impl<'a, R: Files + AllocGlobal> FolderStore<'a, R> {
         };
         let path = joined(self.rt.alloc(), folder, name)?;
         let full_path = self.full_path(path.as_str())?;
-        let metadata = fs::symlink_metadata(self.rt, full_path.as_str())?;
-        if metadata.is_dir() {
+        let Some(found) = look(self.rt, full_path.as_str())? else {
+            return Ok(());
+        };
+        if found.is_dir() {
             walk.folders.push(path)?;
-        } else if metadata.is_file() && name.ends_with(".proto") {
+        } else if found.is_file() && name.ends_with(".proto") {
             walk.files.push(path)?;
+            walk.shared_mode &= found.mode();
         }
         Ok(())
     }
@@ -196,24 +258,56 @@ impl<'a, R: Files + AllocGlobal> FolderStore<'a, R> {
         Ok(full_path)
     }
 
-    fn file_bytes(&self, path: &str) -> io::Result<Vec<u8>>
+    // The bytes of a file, up to the first that is too many.
+    fn file_bytes(&self, path: &str) -> io::Result<(Vec<u8>, Stamp)>
         ensures { self.now.root.now ≡ [] → IsErr result }
     {
         let full_path = self.walked_path(path)?;
         match regular_file(self.rt, full_path.as_str())? {
-            Some(_) => fs::read(self.rt, full_path.as_str()),
+            Some(found) => self.found_bytes(full_path.as_str(), &found, MAX_LEN + 1),
             None => Err(io::Error::from(io::ErrorKind::NotFound)),
         }
     }
 
+    // The bytes of a file that a look has found, and how it was when it was opened.
+    fn found_bytes(
+        &self,
+        path: &str,
+        found: &Metadata,
+        limit: usize,
+    ) -> io::Result<(Vec<u8>, Stamp)> {
+        let (mut file, stamp) = open_found(self.rt, path, found)?;
+        let mut bytes = Vec::new(self.rt.alloc());
+        read_up_to(&mut file, limit, &mut bytes)?;
+        Ok((bytes, stamp))
+    }
+
     // A file that is not there is none of the list, and is not made.
-    fn put_bytes(&self, path: &str, bytes: &[u8]) -> io::Result<()>
+    fn put_bytes(&self, path: &str, bytes: &[u8]) -> io::Result<Stamp>
         ensures { self.now.root.now ≡ [] → IsErr result }
     {
         let full_path = self.walked_path(path)?;
-        match regular_file(self.rt, full_path.as_str())? {
-            Some(file) => put_file(self.rt, full_path.as_str(), Some(file.permissions()), bytes),
-            None => Err(io::Error::from(io::ErrorKind::NotFound)),
+        let Some(found) = regular_file(self.rt, full_path.as_str())? else {
+            return Err(io::Error::from(io::ErrorKind::NotFound));
+        };
+        refuse_read_only(self.rt, full_path.as_str(), &found)?;
+        let place = self.place(path, Some(&found), 0o7777);
+        put_file(self.rt, full_path.as_str(), place, bytes)
+    }
+
+    // Where a file is put: what has to stand there, and what of it is kept, of the mode these bits.
+    fn place(&self, path: &str, found: Option<&Metadata>, bits: u32) -> Place {
+        match found {
+            Some(found) => Place {
+                stands: self.wanted(path, Some(stamp_of(found))),
+                owner: Some((found.uid(), found.gid())),
+                mode: found.mode() & bits,
+            },
+            None => Place {
+                stands: self.wanted(path, None),
+                owner: None,
+                mode: NEW_JOURNAL_MODE & bits,
+            },
         }
     }
 
@@ -225,28 +319,65 @@ impl<'a, R: Files + AllocGlobal> FolderStore<'a, R> {
     }
 
     // The bytes of the journal, up to the first that is too many.
-    fn journal_bytes(&self) -> io::Result<Vec<u8>>
+    fn journal_bytes(&self) -> io::Result<(Vec<u8>, Option<Stamp>)>
         ensures { self.now.root.now ≡ [] → IsErr result }
     {
         let path = self.journal_path()?;
-        match regular_file(self.rt, path.as_str())? {
-            Some(_) => {
-                let opened = fs::File::open(self.rt, path.as_str());
-                bytes_up_to(self.rt.alloc(), opened, MAX_JOURNAL_LEN + 1)
+        let Some(found) = regular_file(self.rt, path.as_str())? else {
+            return Ok((Vec::new(self.rt.alloc()), None));
+        };
+        let (bytes, stamp) = self.found_bytes(path.as_str(), &found, MAX_JOURNAL_LEN + 1)?;
+        Ok((bytes, Some(stamp)))
+    }
+
+    fn put_journal(&self, bytes: &[u8]) -> io::Result<Stamp>
+        ensures { self.now.root.now ≡ [] → IsErr result }
+    {
+        let path = self.journal_path()?;
+        let found = regular_file(self.rt, path.as_str())?;
+        let place = self.place(JOURNAL, found.as_ref(), self.shared_mode);
+        put_file(self.rt, path.as_str(), place, bytes)
+    }
+}
+
+impl<'a, R: Files<File = File> + AllocGlobal> FolderStore<'a, R> {
+    /// Takes the folder for this store alone, until the store is dropped or the process ends,
+    /// however it ends. Nothing is written for it. A store that has the folder keeps it. Fails, at
+    /// once, where another store has it, in this process or in another, and where the root is no
+    /// folder or cannot be opened. A file system that has no such locks gives none; the store goes
+    /// on without.
+    pub fn lock(&mut self) -> Result<(), StoreFault>
+        requires { self.old.failures < 2 ^ 64 - 1 }
+        ensures same { ⟦<FolderStore<'a, R> as Store>⟧.holds self.new
+            ≡ ⟦<FolderStore<'a, R> as Store>⟧.holds self.old }
+        ensures nowhere { self.old.root.now ≡ [] → IsErr result }
+        ensures root { self.new.root.now ≡ self.old.root.now }
+        ensures count { Counts self.old.failures self.new.failures result }
+    {
+        match self.folder_locked() {
+            Ok(Some(folder)) => {
+                self.locked = Some(folder);
+                Ok(())
             }
-            None => Ok(Vec::new(self.rt.alloc())),
+            Ok(None) => Ok(()),
+            Err(_) => Err(self.fault()),
         }
     }
 
-    fn put_journal(&self, bytes: &[u8]) -> io::Result<()>
+    // The folder with its lock, or none where there is nothing to be had.
+    fn folder_locked(&self) -> io::Result<Option<File>>
         ensures { self.now.root.now ≡ [] → IsErr result }
     {
-        let path = self.journal_path()?;
-        let permissions = match regular_file(self.rt, path.as_str())? {
-            Some(file) => Some(file.permissions()),
-            None => None,
-        };
-        put_file(self.rt, path.as_str(), permissions, bytes)
+        let root = self.root_path()?;
+        if self.locked.is_some() {
+            return Ok(None);
+        }
+        let folder = File::open(self.rt, root.as_str())?;
+        match folder.try_lock() {
+            Ok(()) => Ok(Some(folder)),
+            Err(TryLockError::WouldBlock) => Err(io::Error::from(io::ErrorKind::WouldBlock)),
+            Err(TryLockError::Error(_)) => Ok(None),
+        }
     }
 }
 
@@ -258,31 +389,6 @@ fn joined(alloc: Global, folder: &str, path: &str) -> io::Result<String> {
     }
     joined.push_str(path)?;
     Ok(joined)
-}
-
-// What a file or folder has, up to this many bytes.
-fn bytes_up_to<S: Read + Drop>(
-    alloc: Global,
-    opened: io::Result<S>,
-    limit: usize,
-) -> io::Result<Vec<u8>> {
-    let mut source = opened?;
-    let mut bytes = Vec::new(alloc);
-    read_up_to(&mut source, limit, &mut bytes)?;
-    Ok(bytes)
-}
-
-fn read_up_to<S: Read>(source: &mut S, limit: usize, bytes: &mut Vec<u8>) -> io::Result<()> {
-    let mut buffer = [0u8; 65536];
-    for _ in 0..u64::MAX {
-        let room = limit.saturating_sub(bytes.len()).min(buffer.len());
-        let count = source.read(&mut buffer[..room])?;
-        if count == 0 {
-            break;
-        }
-        bytes.extend_from_slice(&buffer[..count])?;
-    }
-    Ok(())
 }
 
 impl<R: Files + AllocGlobal> Store for FolderStore<'_, R> {
@@ -298,7 +404,10 @@ impl<R: Files + AllocGlobal> Store for FolderStore<'_, R> {
         ensures count { Counts self.old.failures self.new.failures result }
     {
         match self.walked() {
-            Ok(walk) => Ok(walk.files),
+            Ok(walk) => {
+                self.shared_mode &= walk.shared_mode;
+                Ok(walk.files)
+            }
             Err(_) => Err(self.fault()),
         }
     }
@@ -311,12 +420,18 @@ impl<R: Files + AllocGlobal> Store for FolderStore<'_, R> {
         ensures count { Counts self.old.failures self.new.failures result }
     {
         match self.file_bytes(path) {
-            Ok(bytes) => Ok(bytes),
+            Ok((bytes, stamp)) => match self.note(path, Some(stamp)) {
+                Ok(()) => Ok(bytes),
+                Err(_) => Err(self.fault()),
+            },
             Err(_) => Err(self.fault()),
         }
     }
 
-    /// Writes a second file, brings it to the disk, gives it the mode of the first and its name.
+    /// Writes a second file, gives it the owner, the group and the mode of the first, brings it to
+    /// the disk, and gives it the name of the first. Fails, with the first as it was, where a second
+    /// file is there already, where the first may not be written, and where it is not as this store
+    /// has last read or written it.
     fn replace(&mut self, path: &str, bytes: &[u8]) -> Result<(), StoreFault>
         requires { self.old.failures < 2 ^ 64 - 1 }
         ensures ok { OnOk result (unknown ≡ option_map (with_file path.now bytes.now) unknown) }
@@ -327,7 +442,7 @@ impl<R: Files + AllocGlobal> Store for FolderStore<'_, R> {
         ensures count { Counts self.old.failures self.new.failures result }
     {
         match self.put_bytes(path, bytes) {
-            Ok(()) => Ok(()),
+            Ok(stamp) => self.written(path, stamp),
             Err(_) => Err(self.fault()),
         }
     }
@@ -342,12 +457,17 @@ impl<R: Files + AllocGlobal> Store for FolderStore<'_, R> {
         ensures count { Counts self.old.failures self.new.failures result }
     {
         match self.journal_bytes() {
-            Ok(bytes) => Ok(bytes),
+            Ok((bytes, stamp)) => match self.note(JOURNAL, stamp) {
+                Ok(()) => Ok(bytes),
+                Err(_) => Err(self.fault()),
+            },
             Err(_) => Err(self.fault()),
         }
     }
 
-    /// As `replace`. A journal that was not there is of mode 0644 but for the umask.
+    /// As `replace`. Nobody may do with the journal what he may not do with each schema that was
+    /// listed, or what he might not do before; one that was not there has besides at most the mode
+    /// 0644 but for the umask.
     fn replace_journal(&mut self, bytes: &[u8]) -> Result<(), StoreFault>
         requires { self.old.failures < 2 ^ 64 - 1 }
         ensures ok { OnOk result (unknown ≡ option_map (with_journal bytes.now) unknown) }
@@ -358,7 +478,7 @@ impl<R: Files + AllocGlobal> Store for FolderStore<'_, R> {
         ensures count { Counts self.old.failures self.new.failures result }
     {
         match self.put_journal(bytes) {
-            Ok(()) => Ok(()),
+            Ok(stamp) => self.written(JOURNAL, stamp),
             Err(_) => Err(self.fault()),
         }
     }

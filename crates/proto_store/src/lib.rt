@@ -3,6 +3,7 @@
 
 mod files;
 mod folder;
+mod looks;
 mod memory;
 mod replacing;
 mod store;

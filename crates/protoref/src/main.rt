@@ -1,8 +1,16 @@
 //! `protoref`: a compiler, a linter and an editor of Protocol Buffers schemas.
 #![tactic(auto)]
 
-use protoref_run::{Command, Edit, FolderStore, RunFault, Status, fault_line, run, write_text};
-use protoref_words::{Request, WordsFault, read_words};
+mod errand;
+
+ghost use Rattle.std.specs.Prelude.{◌≡◌, ◌≤◌, IfOk};
+
+use errand::{Errand, Way, errand_for, way_for};
+use protoref_run::{
+    Command, FolderStore, RunFault, Status, Store, StoreFault, fault_line, run, write_text,
+};
+use protoref_words::{WordsFault, read_words};
+use std::fs::File;
 use std::process::ExitCode;
 use std::rt::{Env, Files};
 use std::{env, io};
@@ -20,58 +28,29 @@ fn main(rt: HostRuntime) -> ExitCode {
 }
 
 // The exit status, or the line for standard error.
-fn answer<R: Files + Env + Print + AllocGlobal>(rt: &R) -> Result<u8, &'static str> {
+fn answer<R: Files<File = File> + Env + Print + AllocGlobal>(rt: &R) -> Result<u8, &'static str> {
     let request = match words(rt) {
         Ok(words) => read_words(rt.alloc(), words.as_slice()),
         Err(fault) => Err(fault),
     };
     match request {
-        Ok(request) => carry_out(rt, request),
+        Ok(request) => carry_out(rt, errand_for(request)),
         Err(WordsFault::BadCommandLine) => Err(BAD_COMMAND_LINE),
         Err(WordsFault::NoMemory) => Err(fault_line(&RunFault::NoMemory)),
     }
 }
 
-fn carry_out<R: Files + Print + AllocGlobal>(rt: &R, request: Request) -> Result<u8, &'static str> {
-    match request {
-        Request::Help(text) => match write_text(&mut io::writer(rt), text.as_str().as_bytes()) {
+fn carry_out<R: Files<File = File> + Print + AllocGlobal>(
+    rt: &R,
+    errand: Errand,
+) -> Result<u8, &'static str> {
+    match errand {
+        Errand::Print(text) => match write_text(&mut io::writer(rt), text.as_str().as_bytes()) {
             Ok(()) => Ok(0),
             Err(_) => Err(fault_line(&RunFault::Output)),
         },
-        Request::Compile { root } => run_over(rt, Command::Compile, root.as_str()),
-        Request::Lint { root, rules } => run_over(rt, Command::Lint(rules), root.as_str()),
-        Request::Rename { root, name, to } => edit_over(
-            rt,
-            Edit::Rename { name, to },
-            root.as_str(),
-        ),
-        Request::DeleteField { root, name } => edit_over(
-            rt,
-            Edit::DeleteField { name },
-            root.as_str(),
-        ),
-        Request::AddImport { root, file, path } => edit_over(
-            rt,
-            Edit::AddImport { file, path },
-            root.as_str(),
-        ),
-        Request::DropImport { root, file, path } => edit_over(
-            rt,
-            Edit::DropImport { file, path },
-            root.as_str(),
-        ),
-        Request::Undo { root } => run_over(rt, Command::Undo, root.as_str()),
-        Request::Log { root } => run_over(rt, Command::Log, root.as_str()),
-        Request::Recover { root } => recover_over(rt, root.as_str()),
+        Errand::Run(command, root) => run_over(rt, command, root.as_str()),
     }
-}
-
-fn edit_over<R: Files + Print + AllocGlobal>(
-    rt: &R,
-    edit: Edit,
-    root: &str,
-) -> Result<u8, &'static str> {
-    run_over(rt, Command::Edit(edit), root)
 }
 
 // The words of the command line, where they are texts.
@@ -84,26 +63,41 @@ fn words<R: Env + AllocGlobal>(rt: &R) -> Result<Vec<String>, WordsFault> {
 }
 
 // Runs a command over the folder at a path.
-fn run_over<R: Files + Print + AllocGlobal>(
+fn run_over<R: Files<File = File> + Print + AllocGlobal>(
     rt: &R,
     command: Command,
     root: &str,
 ) -> Result<u8, &'static str> {
     let mut store = FolderStore::new(rt, root);
-    code_of(run(rt.alloc(), command, &mut store, &mut io::writer(rt)))
+    match begin(&mut store, way_for(&command)) {
+        Ok(()) => code_of(run(rt.alloc(), command, &mut store, &mut io::writer(rt))),
+        Err(_) => Err(fault_line(&RunFault::Store)),
+    }
 }
 
-// Recovers the folder at a path, which first loses what writes that were cut off have left there.
-fn recover_over<R: Files + Print + AllocGlobal>(rt: &R, root: &str) -> Result<u8, &'static str> {
-    let mut store = FolderStore::new(rt, root);
-    match store.clear_leftovers() {
-        Ok(()) => code_of(run(
-            rt.alloc(),
-            Command::Recover,
-            &mut store,
-            &mut io::writer(rt),
-        )),
-        Err(_) => Err(fault_line(&RunFault::Store)),
+// What comes before a command: one that writes takes the folder for itself, and removes what runs
+// that were cut off have left there. A recovery goes on where some of that cannot be removed.
+fn begin<'a, R: Files<File = File> + AllocGlobal>(
+    store: &mut FolderStore<'a, R>,
+    way: Way,
+) -> Result<(), StoreFault>
+    requires { ⟦<FolderStore<'a, R> as Store>⟧.failure_count store.old ≡ 0 }
+    ensures { IfOk result (λ _.
+        ⟦<FolderStore<'a, R> as Store>⟧.failure_count store.new ≤ 1) }
+{
+    match way {
+        Way::Reads => Ok(()),
+        Way::Changes => {
+            store.lock()?;
+            store.clear_leftovers()
+        }
+        Way::Recovers => {
+            store.lock()?;
+            match store.clear_leftovers() {
+                Ok(()) => Ok(()),
+                Err(_) => Ok(()),
+            }
+        }
     }
 }
 

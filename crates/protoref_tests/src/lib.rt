@@ -3,6 +3,8 @@
 #![tactic(auto)]
 
 #[cfg(test)]
+mod call_counts;
+#[cfg(test)]
 mod calls;
 #[cfg(test)]
 mod command_lines;

@@ -1,0 +1,86 @@
+//! What stands at a path, and how it is told from what stood there before.
+
+use std::fs::{File, Metadata, OpenFile};
+use std::io::Read;
+use std::os::unix::fs::MetadataExt;
+use std::rt::Files;
+use std::{fs, io};
+
+// A file as it was at one time. Who writes a file changes its size or its
+// times, and who puts another in its place changes its number.
+#[derive(Clone, Copy, PartialEq, Eq)]
+pub(crate) struct Stamp {
+    device: u64,
+    number: u64,
+    size: u64,
+    written: (i64, i64),
+    changed: (i64, i64),
+}
+
+// The stamp of a file of which this is told.
+pub(crate) fn stamp_of(metadata: &Metadata) -> Stamp {
+    Stamp {
+        device: metadata.dev(),
+        number: metadata.ino(),
+        size: metadata.size(),
+        written: (metadata.mtime(), metadata.mtime_nsec()),
+        changed: (metadata.ctime(), metadata.ctime_nsec()),
+    }
+}
+
+// What is told of a path, where something is there. A symbolic link is not followed.
+pub(crate) fn look<R: Files>(rt: &R, path: &str) -> io::Result<Option<Metadata>> {
+    match fs::symlink_metadata(rt, path) {
+        Ok(metadata) => Ok(Some(metadata)),
+        Err(error) if error.kind() == io::ErrorKind::NotFound => Ok(None),
+        Err(error) => Err(error),
+    }
+}
+
+// The regular file at a path, or none where nothing is there.
+// Anything else there, a symbolic link among it, fails.
+pub(crate) fn regular_file<R: Files>(rt: &R, path: &str) -> io::Result<Option<Metadata>> {
+    match look(rt, path)? {
+        Some(metadata) if metadata.is_file() => Ok(Some(metadata)),
+        Some(_) => Err(io::Error::from(io::ErrorKind::InvalidInput)),
+        None => Ok(None),
+    }
+}
+
+// Whether both are of the same file.
+pub(crate) fn is_same_file(one: &Metadata, other: &Metadata) -> bool {
+    one.dev() == other.dev() && one.ino() == other.ino()
+}
+
+// Opens the regular file that a look has found at a path. What came in its place since fails.
+pub(crate) fn open_found<R: Files>(
+    rt: &R,
+    path: &str,
+    found: &Metadata,
+) -> io::Result<(R::File, Stamp)> {
+    let file = File::open(rt, path)?;
+    let opened = file.metadata()?;
+    if !opened.is_file() || !is_same_file(&opened, found) {
+        return Err(io::Error::from(io::ErrorKind::InvalidInput));
+    }
+    Ok((file, stamp_of(&opened)))
+}
+
+// Reads what is left of a source, up to this many bytes. A read that is interrupted goes on.
+pub(crate) fn read_up_to<S: Read>(
+    source: &mut S,
+    limit: usize,
+    bytes: &mut Vec<u8>,
+) -> io::Result<()> {
+    let mut buffer = [0u8; 65536];
+    for _ in 0..u64::MAX {
+        let room = limit.saturating_sub(bytes.len()).min(buffer.len());
+        match source.read(&mut buffer[..room]) {
+            Ok(0) => break,
+            Ok(count) => bytes.extend_from_slice(&buffer[..count])?,
+            Err(error) if error.kind() == io::ErrorKind::Interrupted => {}
+            Err(error) => return Err(error),
+        }
+    }
+    Ok(())
+}
