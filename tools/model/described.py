@@ -8,6 +8,8 @@ MAX_VALUE = 2147483647
 
 def text(value):
     """Compact JSON, keys in the order of their bytes."""
+    if value is None:
+        return "null"
     if isinstance(value, bool):
         return "true" if value else "false"
     if isinstance(value, int):

@@ -1,4 +1,4 @@
-"""The answers to edits in a model of schemas: what a command prints, the bytes that change, and the line of the journal."""
+"""The answers to edits in a model of schemas: what a command prints, the bytes that change, and the lines of the journal and the log."""
 
 from described import text
 from renames import rename_of
@@ -24,6 +24,8 @@ NAMES = {
 }
 # By the command's word, with the words behind ROOT.
 EDITS = {"rename": rename_of, "delete-field": deletion_of, "add-import": addition_of, "drop-import": drop_of}
+# The keys of those words in the journal.
+KEYS = {"rename": ("name", "to"), "delete-field": ("name",), "add-import": ("file", "path"), "drop-import": ("file", "path")}
 
 
 def answer(workspace, command, *words):
@@ -64,8 +66,8 @@ def texts_after(texts, changes):
     return after
 
 
-def journal_line(changes):
-    """The changes of an accepted edit as the program's journal has them, as bytes read as Latin-1."""
+def journal_line(changes, words, version):
+    """An accepted edit as the program's journal has it in a version, as bytes read as Latin-1. Where its words are not known they are none."""
     files = [
         {
             "path": path,
@@ -75,4 +77,13 @@ def journal_line(changes):
         }
         for path, before, after, splices in changes
     ]
-    return text({"files": files, "state": "done", "version": 1}) + "\n"
+    line = {"files": files, "state": "done", "version": version}
+    if version == 2:
+        line["edit"] = {"kind": words[0], **dict(zip(KEYS[words[0]], words[1:], strict=True))} if words else None
+    return text(line) + "\n"
+
+
+def log_line(index, changes, words):
+    """What the log prints of an accepted edit, as bytes read as Latin-1."""
+    paths = ",".join(path for path, _, _, _ in changes)
+    return " ".join([str(index), "done", paths, *(words or ())]) + "\n"

@@ -5,3 +5,4 @@ mod calls;
 mod faults;
 mod journals;
 mod lines;
+mod migrations;

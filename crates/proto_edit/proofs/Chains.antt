@@ -3,7 +3,7 @@ use Rattle.std.proofs.Common.{◌≡◌, ◌≢◌, ℕ, ◌+◌, ◌<◌, List,
 use Rattle.std.proofs.lemmas.List.{map_more, map_push, drop_more}
 use Rattle.proto_files.specs.GivenFiles.{FileOf}
 use Rattle.proto_edit.specs.Common.{AreCompiled, asked, IsReopened, IsUndoRefusal, IsUndoAllRefusal, LeadsBack, Asked, IsAdmissible, AreChanges, IsMappedStep, IsRefusal, IsUndo, Run, Undone, StatementLaws}
-use Rattle.proto_edit.specs.declared.edit.Edit.{Edit}
+use Rattle.proto_entries.specs.declared.edit.Edit.{Edit}
 use Rattle.proto_entries.specs.declared.refusal.Refusal.{Refusal}
 use Rattle.proto_entries.specs.declared.refusal.Refusal.TheVariants as refusal
 use Rattle.proto_entries.specs.Entries.{ChangeOf}

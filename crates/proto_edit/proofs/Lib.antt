@@ -3,6 +3,7 @@ pub mod Common
 pub mod GivenAgain
 mod MappedSteps
 mod NamedFields
+mod NotableEdits
 pub mod OneAnswer
 mod Refusals
 mod Reopening

@@ -1,22 +1,13 @@
 -- What the calls of a workspace answer.
 use Rattle.std.specs.Prelude.{◌≡◌, List, Option, Some, None, Result, Ok, Err}
-use Rattle.std.specs.String.{string_bytes}
 use Rattle.proto_files.specs.GivenFiles.{FileOf}
-use Rattle.proto_edit.specs.declared.edit.Edit.{Edit}
-use Rattle.proto_edit.specs.declared.edit.Edit.TheVariants as edit
 use Rattle.proto_entries.specs.declared.refusal.Refusal.{Refusal}
 use Rattle.proto_entries.specs.declared.refusal.Refusal.TheVariants as refusal
 use Rattle.proto_edit.specs.Compiled.{AreCompiled}
+pub use Rattle.proto_entries.specs.EditsAsked.{asked}
 use Rattle.proto_entries.specs.Entries.{ChangeOf}
 use Rattle.proto_entries.specs.Putting.{IsPut}
-use Rattle.proto_edit.specs.Workspaces.{Asked, rename, delete_field, add_import, drop_import, IsUndo, Run, accepted, Undone}
-
--- what an edit asks for, with its names and paths as bytes
-abbrev pub asked : Edit → Asked
-asked (edit.Rename name to) = rename (string_bytes name) (string_bytes to)
-asked (edit.DeleteField name) = delete_field (string_bytes name)
-asked (edit.AddImport file path) = add_import (string_bytes file) (string_bytes path)
-asked (edit.DropImport file path) = drop_import (string_bytes file) (string_bytes path)
+use Rattle.proto_edit.specs.Workspaces.{Asked, IsUndo, Run, accepted, Undone}
 
 -- an entry is stale where no files before it are there, or they don't compile
 abbrev pub IsUndoRefusal : List FileOf → List ChangeOf → Refusal → Type 0

@@ -8,6 +8,7 @@ use Rattle.proto_desc.specs.Whole.{WorkspaceFaults}
 use Rattle.proto_desc.specs.Checked.{AreDescribed}
 use Rattle.proto_descriptors.specs.Descriptors.{FileDesc}
 use Rattle.proto_entries.specs.declared.refusal.Refusal.{Refusal}
+use Rattle.proto_entries.specs.EditsAsked.{IsNotable}
 use Rattle.proto_entries.specs.Entries.{ChangeOf, IsEntry}
 use Rattle.proto_entries.specs.Putting.{IsPut}
 use Rattle.proto_edit.specs.Compiled.{AreCompiled}
@@ -40,6 +41,13 @@ StepsOnce = (w a b : List FileOf) (e : Asked) (cs ds : List ChangeOf)
     → IsStep w e cs a
     → IsStep w e ds b
     → (cs ≡ ds) × (a ≡ b)
+
+-- An accepted edit of files that compile can be written down.
+abbrev pub AcceptedAreNotable : Type 0
+AcceptedAreNotable = (w : List FileOf) (e : Asked) (entry : List ChangeOf) (after : List FileOf)
+    → AreCompiled w
+    → IsMappedStep w e entry after
+    → IsNotable e
 
 -- The descriptors under the edit's map are one list.
 abbrev pub MappedOnce : Type 0

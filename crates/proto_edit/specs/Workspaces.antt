@@ -2,12 +2,13 @@
 -- edits. What is particular to an edit is said by cases on the edit, over the files and what is
 -- read of them; all else speaks of changes, and of no edit.
 use Rattle.std.specs.Prelude.{◌≡◌, ◌≢◌, ℕ, ◌<◌, List, [], ◌∷◌, Result, Ok, Err, string_bytes}
-use Rattle.proto_faults.specs.Texts.{Path, Text}
+use Rattle.proto_faults.specs.Texts.{Path}
 use Rattle.proto_files.specs.FilesRead.{ReadOf, AreRead}
 use Rattle.proto_files.specs.GivenFiles.{FileOf}
 use Rattle.proto_descriptors.specs.Descriptors.{FileDesc}
 use Rattle.proto_desc.specs.Checked.{AreDescribed}
 use Rattle.proto_entries.specs.declared.refusal.Refusal.{Refusal}
+pub use Rattle.proto_entries.specs.EditsAsked.{Asked, rename, delete_field, add_import, drop_import}
 use Rattle.proto_entries.specs.Entries.{ChangeOf, inverted}
 use Rattle.proto_entries.specs.Putting.{IsPut}
 use Rattle.proto_entries.specs.RefusalTable.{number_of}
@@ -26,13 +27,6 @@ use Rattle.proto_statement_edits.specs.Edits.{IsFieldNamed, RefusesAddition, Ref
 use Rattle.proto_statement_names.specs.Cases.{DropCase, IsNeededAt, IsOvertakenAt, IsPlaceOf as IsFileAt}
 use Rattle.proto_tree.specs.declared.tree.Import.{Import}
 use Rattle.proto_edit.specs.Compiled.{AreCompiled}
-
--- the edits that may be asked: of names, or of a file's imports
-pub data Asked : Type 0 where
-  rename : (name to : Text) → Asked
-  delete_field : (name : Text) → Asked
-  add_import : (file path : Path) → Asked
-  drop_import : (file path : Path) → Asked
 
 -- ---- the cases that refuse an edit
 

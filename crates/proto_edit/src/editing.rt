@@ -6,10 +6,9 @@ ghost use Rattle.proto_entries.specs.declared.refusal.Refusal.TheVariants as Ref
 ghost use Rattle.proto_entries.specs.Entries.{change_of, AreRising};
 ghost use Rattle.proto_edit.specs.Workspaces.{rename as rename_asked, delete_field as delete_asked, add_import as add_asked, drop_import as drop_asked, IsAdmissible, AreChanges, IsRefusal, IsMappedStep, IsUndo, Run, Undone};
 
-use crate::edit::Edit;
 use crate::laws::statements_are_known;
 use crate::workspace::Workspace;
-use proto_entries::{Change, Entry, Refusal, all_turned_round, put_all};
+use proto_entries::{Change, Edit, Entry, Refusal, all_turned_round, put_all};
 use proto_faults::{NoMemory, SchemaFault};
 use proto_files::are_read;
 use proto_rename::rename;

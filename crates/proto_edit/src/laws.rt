@@ -1,7 +1,7 @@
 //! What holds of the definitions, for whoever builds on them. None of these does anything.
 
 ghost use Rattle.proto_entries.specs.Laws.{PutsOnce};
-ghost use Rattle.proto_edit.specs.Laws.{CompiledAreRead, DescribedOnce, EditsAreMade, MappedOnce, RefusedOnce, RunsAreUndone, StepsAreUndone, StepsCompile, StepsOnce, UndoneOnce, WorkspacesAreClean};
+ghost use Rattle.proto_edit.specs.Laws.{AcceptedAreNotable, CompiledAreRead, DescribedOnce, EditsAreMade, MappedOnce, RefusedOnce, RunsAreUndone, StepsAreUndone, StepsCompile, StepsOnce, UndoneOnce, WorkspacesAreClean};
 ghost use Rattle.proto_edit.specs.MappedSteps.{AdmissibleAdditionsStep, AdmissibleDeletionsStep, AdmissibleDropsStep, AdmissibleRenamesStep, RenamesAreSteps};
 ghost use Rattle.proto_edit.specs.StatementLaws.{StatementLaws};
 
@@ -44,6 +44,12 @@ pub fn drops_are_steps()
 {
     statements_are_known();
 }
+
+/// An accepted edit of files that compile can be written down: its names
+/// are of words, and its paths are those of files.
+pub fn accepted_are_notable()
+    ensures { AcceptedAreNotable }
+{}
 
 /// An admissible edit of a workspace can be made, and leaves files that compile to
 /// the old descriptors under its map.

@@ -1,3 +1,4 @@
+mod DottedTest
 pub mod Puts
 pub mod ShortPuts
 pub mod Walks

@@ -1,3 +1,4 @@
+pub mod EditsAsked
 pub mod Entries
 pub mod Putting
 pub mod RefusalTable

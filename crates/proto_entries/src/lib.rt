@@ -3,12 +3,14 @@
 #![tactic(auto)]
 
 mod change;
+mod edit;
 mod entry;
 pub mod laws;
 mod putting;
 mod refusal;
 
 pub use change::{all_turned_round, in_order, one_splice};
+pub use edit::Edit;
 pub use entry::{Change, Entry};
 pub use putting::put_all;
 pub use refusal::Refusal;

@@ -11,8 +11,9 @@ use Rattle.proto_edit.specs.Laws.{RefusedOnce, StepsOnce}
 use Rattle.proto_edit.proofs.OneAnswer.{least_once}
 use Rattle.proto_records.specs.declared.fault.JournalFault.{JournalFault}
 use Rattle.proto_records.specs.declared.fault.JournalFault.TheVariants as fault
-use Rattle.proto_records.specs.declared.record.Record.{Record}
-use Rattle.proto_records.proofs.Common.{IsJournal, IsRecord, is_last_open, done, journal_text, journal_limit, IsReadInOneWay, HasOpenEntry, IsReady, IsUnreadable, IsSettled, Keeps}
+use Rattle.proto_records.specs.declared.record.Version.{Version}
+use Rattle.proto_records.specs.declared.record.Version.TheVariants.{Second}
+use Rattle.proto_records.proofs.Common.{journal_limit, IsRecord, is_last_open, done, journal_text, IsReadInOneWay, HasOpenEntry, IsReady, IsUnreadable, IsSettled, Keeps, RecordOf, IsJournalIn}
 use Rattle.proto_store.specs.Stores.{Held}
 use Rattle.proto_journal.specs.Common.{CommitOutcome, IsCommitted, IsFull, Stays, CommitsAreOne, IsSameAnswer, IsSameRefusal, UndosAreOne, EndsIn, IsStale, IsUndone, UndoOutcome}
 use Rattle.proto_journal.proofs.Recorded.{last_of}
@@ -84,25 +85,27 @@ told_alike refused_once from e r s has same (needed path offset x) (needed file 
 same_held : (n m : Held) → n.files ≡ m.files → n.journal ≡ m.journal → n ≡ m
 same_held n m p q = λ i. record { files = p i; journal = q i }
 
-same_kept : (to other : List FileOf) (rs ss : List Record) (n m : Held) → to ≡ other → rs ≡ ss → Keeps to rs n → Keeps other ss m → n ≡ m
-same_kept to other rs ss n m t r x y = same_held n m (x.has ∙ t ∙ sym y.has) (x.journal.text ∙ ap journal_text r ∙ sym y.journal.text)
+same_kept : (v w : Version) (to other : List FileOf) (rs ss : List RecordOf) (n m : Held) → v ≡ w → to ≡ other → rs ≡ ss → Keeps v to rs n → Keeps w other ss m → n ≡ m
+same_kept v w to other rs ss n m u t r x y =
+    let texts : journal_text v rs ≡ journal_text w ss = ap (λ (z : Version). journal_text z rs) u ∙ ap (journal_text w) r in
+    same_held n m (x.has ∙ t ∙ sym y.has) (x.journal.text ∙ texts ∙ sym y.journal.text)
 
 stays_once : (from to other : List FileOf) (old : Held) (new now : Option Held) → Stays from to (Some old) new → Stays from other (Some old) now → (to ≡ other) × (new ≡ now)
 stays_once from to other old new now x y = (x.workspace ∙ sym y.workspace, x.store ∙ sym y.store)
 
 -- ---- lists with one more
 
-never_none : {P : Type 0} (rs : List Record) (a : Record) → rs ++ a ∷ [] ≡ [] → P
+never_none : {P : Type 0} (rs : List RecordOf) (a : RecordOf) → rs ++ a ∷ [] ≡ [] → P
 never_none [] a e = cc
 never_none (r ∷ rs) a e = cc
 
-head_of : (x y : Record) (xs ys : List Record) → x ∷ xs ≡ y ∷ ys → x ≡ y
+head_of : (x y : RecordOf) (xs ys : List RecordOf) → x ∷ xs ≡ y ∷ ys → x ≡ y
 head_of x y xs ys e = cc
 
-tail_of : (x y : Record) (xs ys : List Record) → x ∷ xs ≡ y ∷ ys → xs ≡ ys
+tail_of : (x y : RecordOf) (xs ys : List RecordOf) → x ∷ xs ≡ y ∷ ys → xs ≡ ys
 tail_of x y xs ys e = cc
 
-same_ends : (rs ss : List Record) (a b : Record) → rs ++ a ∷ [] ≡ ss ++ b ∷ [] → (rs ≡ ss) × (a ≡ b)
+same_ends : (rs ss : List RecordOf) (a b : RecordOf) → rs ++ a ∷ [] ≡ ss ++ b ∷ [] → (rs ≡ ss) × (a ≡ b)
 same_ends [] [] a b e = (refl, head_of a b [] [] e)
 same_ends [] (s ∷ ss) a b e = never_none ss b (sym (tail_of a s [] (ss ++ b ∷ []) e))
 same_ends (r ∷ rs) [] a b e = never_none rs a (tail_of r b (rs ++ a ∷ []) [] e)
@@ -116,8 +119,9 @@ both b t f = let e : true ≡ false = sym t ∙ f in cc
 
 -- there is a last entry
 record HasLast (old : Held) (x : List ChangeOf) : Type 0 where
-  before : List Record
-  ends : EndsIn before x old
+  version : Version
+  before : List RecordOf
+  ends : EndsIn version before x old
 
 record IsRefusedStale (from to : List FileOf) (old : Held) (new : Option Held) (r : Refusal) : Type 0 where
   stay : Stays from to (Some old) new
@@ -132,22 +136,22 @@ module _ (one_way : IsReadInOneWay) (steps_once : StepsOnce) (refused_once : Ref
   -- ---- what a journal says is one thing
 
   not_unreadable : {P : Type 0} (old : Held) → IsUnreadable old → IsReady old → P
-  not_unreadable old u r = absurd (u r.0 r.1.journal)
+  not_unreadable old u r = absurd (u r.1 (r.0, r.2.journal))
 
   neither : {P : Type 0} (old : Held) → IsUnreadable old → HasOpenEntry old → P
   neither old u o = absurd (u o.0 o.1)
 
   not_open : {P : Type 0} (old : Held) → HasOpenEntry old → IsReady old → P
-  not_open old o r = both (is_last_open o.0) o.2 (ap is_last_open (one_way old.journal o.0 r.0 o.1 r.1.journal) ∙ r.1.closed)
+  not_open old o r = both (is_last_open o.0) o.2 (ap is_last_open (one_way old.journal o.1.0 r.0 o.0 r.1 o.1.1 r.2.journal).0 ∙ r.2.closed)
 
   -- ---- commits
 
   ready_committed : (e : Asked) (x : List ChangeOf) (from to : List FileOf) (old : Held) (new : Option Held) → IsCommitted e x from to (Some old) new → IsReady old
   ready_committed e x from to old None c = absurd c.store
-  ready_committed e x from to old (Some n) c = (c.store.0, c.store.1)
+  ready_committed e x from to old (Some n) c = (c.store.0, c.store.1, c.store.2)
 
   ready_full : (e : Asked) (from : List FileOf) (old : Held) → IsFull e from (Some old) → IsReady old
-  ready_full e from old f = (f.3.0, f.3.1)
+  ready_full e from old f = (f.3.0, f.3.1, f.3.2)
 
   committed_once : (e : Asked) (x y : List ChangeOf) (from to other : List FileOf) (old : Held) (new now : Option Held) → AreCompiled from → IsCommitted e x from to (Some old) new → IsCommitted e y from other (Some old) now
       → (x ≡ y) × (to ≡ other) × (new ≡ now)
@@ -155,23 +159,23 @@ module _ (one_way : IsReadInOneWay) (steps_once : StepsOnce) (refused_once : Ref
   committed_once e x y from to other old (Some n) None has c d = absurd d.store
   committed_once e x y from to other old (Some n) (Some m) has c d =
       let step = steps_once from to other e x y has c.step.step d.step.step in
-      let rs : List Record = c.store.0 in
-      let ss : List Record = d.store.0 in
-      let same : rs ≡ ss = one_way old.journal rs ss c.store.1.journal d.store.1.journal in
-      let texts : rs ++ done x ∷ [] ≡ ss ++ done y ∷ [] = λ i. same i ++ done (step.0 i) ∷ [] in
-      (step.0, step.1, ap (λ (h : Held). Some h) (same_kept to other (rs ++ done x ∷ []) (ss ++ done y ∷ []) n m step.1 texts c.store.2 d.store.2))
+      let rs : List RecordOf = c.store.1 in
+      let ss : List RecordOf = d.store.1 in
+      let same : rs ≡ ss = (one_way old.journal c.store.0 d.store.0 rs ss c.store.2.journal d.store.2.journal).0 in
+      let texts : rs ++ done (Some e) x ∷ [] ≡ ss ++ done (Some e) y ∷ [] = λ i. same i ++ done (Some e) (step.0 i) ∷ [] in
+      (step.0, step.1, ap (λ (h : Held). Some h) (same_kept Second Second to other (rs ++ done (Some e) x ∷ []) (ss ++ done (Some e) y ∷ []) n m refl step.1 texts c.store.3 d.store.3))
 
   committed_not_full : {P : Type 0} (e : Asked) (x : List ChangeOf) (from to : List FileOf) (old : Held) (new : Option Held) → AreCompiled from → IsCommitted e x from to (Some old) new → IsFull e from (Some old) → P
   committed_not_full e x from to old None has c f = absurd c.store
   committed_not_full e x from to old (Some n) has c f =
       let step = steps_once from to f.1 e x f.0 has c.step.step f.2.step in
-      let rs : List Record = c.store.0 in
-      let ss : List Record = f.3.0 in
-      let same : rs ≡ ss = one_way old.journal rs ss c.store.1.journal f.3.1.journal in
-      let texts : rs ++ done x ∷ [] ≡ ss ++ done f.0 ∷ [] = λ i. same i ++ done (step.0 i) ∷ [] in
-      let size : length n.journal ≡ length (journal_text (ss ++ done f.0 ∷ [])) = ap length (c.store.2.journal.text ∙ ap journal_text texts) in
-      let short : length n.journal ≤ journal_limit = c.store.2.journal.short in
-      let long : journal_limit < length (journal_text (ss ++ done f.0 ∷ [])) = f.3.2 in
+      let rs : List RecordOf = c.store.1 in
+      let ss : List RecordOf = f.3.1 in
+      let same : rs ≡ ss = (one_way old.journal c.store.0 f.3.0 rs ss c.store.2.journal f.3.2.journal).0 in
+      let texts : rs ++ done (Some e) x ∷ [] ≡ ss ++ done (Some e) f.0 ∷ [] = λ i. same i ++ done (Some e) (step.0 i) ∷ [] in
+      let size : length n.journal ≡ length (journal_text Second (ss ++ done (Some e) f.0 ∷ [])) = ap length (c.store.3.journal.text ∙ ap (journal_text Second) texts) in
+      let short : length n.journal ≤ journal_limit = c.store.3.journal.short in
+      let long : journal_limit < length (journal_text Second (ss ++ done (Some e) f.0 ∷ [])) = f.3.3 in
       absurd (omega arith)
 
   not_refused : {P : Type 0} (e : Asked) (x : List ChangeOf) (from made to : List FileOf) (old : Held) (new : Option Held) (r : Refusal) → IsMappedStep from e x made → IsRefused e from to old new r → P
@@ -249,42 +253,47 @@ module _ (one_way : IsReadInOneWay) (steps_once : StepsOnce) (refused_once : Ref
 
   -- ---- undos
 
-  ends_once : (old : Held) (rs ss : List Record) (x y : List ChangeOf) → EndsIn rs x old → EndsIn ss y old → (rs ≡ ss) × (x ≡ y)
-  ends_once old rs ss x y a b =
-      let e = same_ends rs ss (done x) (done y) (one_way old.journal (rs ++ done x ∷ []) (ss ++ done y ∷ []) a b) in
-      (e.0, ap (λ (r : Record). r.entry) e.1)
+  ends_once : (old : Held) (v w : Version) (rs ss : List RecordOf) (x y : List ChangeOf) → EndsIn v rs x old → EndsIn w ss y old → (v ≡ w) × (rs ≡ ss) × (x ≡ y)
+  ends_once old v w rs ss x y a b =
+      let once = one_way old.journal v w (rs ++ done a.0 x ∷ []) (ss ++ done b.0 y ∷ []) a.1 b.1 in
+      let e = same_ends rs ss (done a.0 x) (done b.0 y) once.0 in
+      (once.1 (λ none. never_none rs (done a.0 x) none), e.0, ap (λ (r : RecordOf). r.entry) e.1)
 
-  ends_closed : {P : Type 0} (old : Held) (rs : List Record) (x : List ChangeOf) → EndsIn rs x old → HasOpenEntry old → P
-  ends_closed old rs x a o = both (is_last_open o.0) o.2 (ap is_last_open (one_way old.journal o.0 (rs ++ done x ∷ []) o.1 a) ∙ last_of rs (done x))
+  ends_closed : {P : Type 0} (old : Held) (v : Version) (rs : List RecordOf) (x : List ChangeOf) → EndsIn v rs x old → HasOpenEntry old → P
+  ends_closed old v rs x a o = both (is_last_open o.0) o.2 (ap is_last_open (one_way old.journal o.1.0 v o.0 (rs ++ done a.0 x ∷ []) o.1.1 a.1).0 ∙ last_of rs (done a.0 x))
 
   -- an empty journal has no records
-  none_there : (old : Held) → old.journal ≡ [] → IsJournal old.journal []
-  none_there old e = record { text = e; order = tt; entries = All-nil IsRecord; short = (let size : length old.journal ≡ 0 = ap length e in omega arith) }
+  none_there : (old : Held) → old.journal ≡ [] → IsJournalIn Second old.journal []
+  none_there old e = record { text = e; order = tt; entries = All-nil (IsRecord Second); short = (let size : length old.journal ≡ 0 = ap length e in omega arith) }
 
-  ends_some : {P : Type 0} (old : Held) (rs : List Record) (x : List ChangeOf) → EndsIn rs x old → old.journal ≡ [] → P
-  ends_some old rs x a e = never_none rs (done x) (one_way old.journal (rs ++ done x ∷ []) [] a (none_there old e))
+  ends_some : {P : Type 0} (old : Held) (v : Version) (rs : List RecordOf) (x : List ChangeOf) → EndsIn v rs x old → old.journal ≡ [] → P
+  ends_some old v rs x a e = never_none rs (done a.0 x) (one_way old.journal v Second (rs ++ done a.0 x ∷ []) [] a.1 (none_there old e)).0
 
   empty_closed : {P : Type 0} (old : Held) → old.journal ≡ [] → HasOpenEntry old → P
-  empty_closed old e o = both (is_last_open o.0) o.2 (ap is_last_open (one_way old.journal o.0 [] o.1 (none_there old e)))
+  empty_closed old e o = both (is_last_open o.0) o.2 (ap is_last_open (one_way old.journal o.1.0 Second o.0 [] o.1.1 (none_there old e)).0)
 
   last_undone : (x : List ChangeOf) (from to : List FileOf) (old : Held) (new : Option Held) → IsUndone x from to (Some old) new → HasLast old x
   last_undone x from to old None u = absurd u.store
-  last_undone x from to old (Some n) u = record { before = u.store.0; ends = u.store.1 }
+  last_undone x from to old (Some n) u = record { version = u.store.0; before = u.store.1; ends = u.store.2 }
+
+  -- a journal that ends in an entry is read
+  ends_read : {P : Type 0} (old : Held) (v : Version) (rs : List RecordOf) (x : List ChangeOf) → EndsIn v rs x old → IsUnreadable old → P
+  ends_read old v rs x a u = absurd (u (rs ++ done a.0 x ∷ []) (v, a.1))
 
   undone_once : (x y : List ChangeOf) (from to other : List FileOf) (old : Held) (new now : Option Held) → IsUndone x from to (Some old) new → IsUndone y from other (Some old) now
       → (x ≡ y) × (to ≡ other) × (new ≡ now)
   undone_once x y from to other old None now u v = absurd u.store
   undone_once x y from to other old (Some n) None u v = absurd v.store
   undone_once x y from to other old (Some n) (Some m) u v =
-      let e = ends_once old u.store.0 v.store.0 x y u.store.1 v.store.1 in
-      let same : to ≡ other = undo_once from to other y (subst (λ (z : List ChangeOf). IsUndo from z to) e.1 u.files) v.files in
-      (e.1, same, ap (λ (h : Held). Some h) (same_kept to other u.store.0 v.store.0 n m same e.0 u.store.2 v.store.2))
+      let e = ends_once old u.store.0 v.store.0 u.store.1 v.store.1 x y u.store.2 v.store.2 in
+      let same : to ≡ other = undo_once from to other y (subst (λ (z : List ChangeOf). IsUndo from z to) e.2 u.files) v.files in
+      (e.2, same, ap (λ (h : Held). Some h) (same_kept u.store.0 v.store.0 to other u.store.1 v.store.1 n m e.0 same e.1 u.store.3 v.store.3))
 
   undone_not_stale : {P : Type 0} (x : List ChangeOf) (from to : List FileOf) (old : Held) (new : Option Held) → IsUndone x from to (Some old) new → IsStale from (Some old) → P
   undone_not_stale x from to old new u s =
       let l : HasLast old x = last_undone x from to old new u in
-      let e = ends_once old l.before s.2.0 x s.0 l.ends s.2.1 in
-      absurd (s.1 to (subst (λ (z : List ChangeOf). IsUndo from z to) e.1 u.files))
+      let e = ends_once old l.version s.2.0 l.before s.2.1 x s.0 l.ends s.2.2 in
+      absurd (s.1 to (subst (λ (z : List ChangeOf). IsUndo from z to) e.2 u.files))
 
   module _ (from to other : List FileOf) (old : Held) (new now : Option Held) where
     abbrev Alike : Result (List ChangeOf) JournalFault → Result (List ChangeOf) JournalFault → Type 0
@@ -295,49 +304,49 @@ module _ (one_way : IsReadInOneWay) (steps_once : StepsOnce) (refused_once : Ref
 
     undo_done : (x : List ChangeOf) (b : Result (List ChangeOf) JournalFault) → IsSettled b → IsUndone x from to (Some old) new → UndoOutcome from other (Some old) now b → Alike (Ok x) b
     undo_done x (Ok y) s p q = let c = undone_once x y from to other old new now p q in (ap (λ (z : List ChangeOf). Ok z) c.0, c.1, c.2)
-    undo_done x (Err fault.BadJournal) s p q = (let l : HasLast old x = last_undone x from to old new p in absurd (q.1 (l.before ++ done x ∷ []) l.ends))
-    undo_done x (Err fault.NothingToUndo) s p q = (let l : HasLast old x = last_undone x from to old new p in ends_some old l.before x l.ends q.1)
-    undo_done x (Err fault.OpenEntry) s p q = (let l : HasLast old x = last_undone x from to old new p in ends_closed old l.before x l.ends q.1)
+    undo_done x (Err fault.BadJournal) s p q = (let l : HasLast old x = last_undone x from to old new p in ends_read old l.version l.before x l.ends q.1)
+    undo_done x (Err fault.NothingToUndo) s p q = (let l : HasLast old x = last_undone x from to old new p in ends_some old l.version l.before x l.ends q.1)
+    undo_done x (Err fault.OpenEntry) s p q = (let l : HasLast old x = last_undone x from to old new p in ends_closed old l.version l.before x l.ends q.1)
     undo_done x (Err fault.Store) s p q = absurd s
     undo_done x (Err fault.JournalFull) s p q = absurd q
     undo_done x (Err fault.NoMemory) s p q = absurd s
     undo_done x (Err (fault.Refused r)) s p q = undone_not_stale x from to old new p (is_stale from other old now r q).stale
 
     undo_unreadable : (b : Result (List ChangeOf) JournalFault) → IsSettled b → Stays from to (Some old) new → IsUnreadable old → UndoOutcome from other (Some old) now b → Alike (Err fault.BadJournal) b
-    undo_unreadable (Ok y) s p u q = (let l : HasLast old y = last_undone y from other old now q in absurd (u (l.before ++ done y ∷ []) l.ends))
+    undo_unreadable (Ok y) s p u q = (let l : HasLast old y = last_undone y from other old now q in ends_read old l.version l.before y l.ends u)
     undo_unreadable (Err fault.BadJournal) s p u q = alike (Err fault.BadJournal) p q.0
-    undo_unreadable (Err fault.NothingToUndo) s p u q = absurd (u [] (none_there old q.1))
+    undo_unreadable (Err fault.NothingToUndo) s p u q = absurd (u [] (Second, none_there old q.1))
     undo_unreadable (Err fault.OpenEntry) s p u q = neither old u q.1
     undo_unreadable (Err fault.Store) s p u q = absurd s
     undo_unreadable (Err fault.JournalFull) s p u q = absurd q
     undo_unreadable (Err fault.NoMemory) s p u q = absurd s
-    undo_unreadable (Err (fault.Refused r)) s p u q = (let t : IsStale from (Some old) = (is_stale from other old now r q).stale in absurd (u (t.2.0 ++ done t.0 ∷ []) t.2.1))
+    undo_unreadable (Err (fault.Refused r)) s p u q = (let t : IsStale from (Some old) = (is_stale from other old now r q).stale in ends_read old t.2.0 t.2.1 t.0 t.2.2 u)
 
     undo_open : (b : Result (List ChangeOf) JournalFault) → IsSettled b → Stays from to (Some old) new → HasOpenEntry old → UndoOutcome from other (Some old) now b → Alike (Err fault.OpenEntry) b
-    undo_open (Ok y) s p o q = (let l : HasLast old y = last_undone y from other old now q in ends_closed old l.before y l.ends o)
+    undo_open (Ok y) s p o q = (let l : HasLast old y = last_undone y from other old now q in ends_closed old l.version l.before y l.ends o)
     undo_open (Err fault.BadJournal) s p o q = neither old q.1 o
     undo_open (Err fault.NothingToUndo) s p o q = empty_closed old q.1 o
     undo_open (Err fault.OpenEntry) s p o q = alike (Err fault.OpenEntry) p q.0
     undo_open (Err fault.Store) s p o q = absurd s
     undo_open (Err fault.JournalFull) s p o q = absurd q
     undo_open (Err fault.NoMemory) s p o q = absurd s
-    undo_open (Err (fault.Refused r)) s p o q = (let t : IsStale from (Some old) = (is_stale from other old now r q).stale in ends_closed old t.2.0 t.0 t.2.1 o)
+    undo_open (Err (fault.Refused r)) s p o q = (let t : IsStale from (Some old) = (is_stale from other old now r q).stale in ends_closed old t.2.0 t.2.1 t.0 t.2.2 o)
 
     undo_nothing : (b : Result (List ChangeOf) JournalFault) → IsSettled b → Stays from to (Some old) new → old.journal ≡ [] → UndoOutcome from other (Some old) now b → Alike (Err fault.NothingToUndo) b
-    undo_nothing (Ok y) s p n q = (let l : HasLast old y = last_undone y from other old now q in ends_some old l.before y l.ends n)
-    undo_nothing (Err fault.BadJournal) s p n q = absurd (q.1 [] (none_there old n))
+    undo_nothing (Ok y) s p n q = (let l : HasLast old y = last_undone y from other old now q in ends_some old l.version l.before y l.ends n)
+    undo_nothing (Err fault.BadJournal) s p n q = absurd (q.1 [] (Second, none_there old n))
     undo_nothing (Err fault.NothingToUndo) s p n q = alike (Err fault.NothingToUndo) p q.0
     undo_nothing (Err fault.OpenEntry) s p n q = empty_closed old n q.1
     undo_nothing (Err fault.Store) s p n q = absurd s
     undo_nothing (Err fault.JournalFull) s p n q = absurd q
     undo_nothing (Err fault.NoMemory) s p n q = absurd s
-    undo_nothing (Err (fault.Refused r)) s p n q = (let t : IsStale from (Some old) = (is_stale from other old now r q).stale in ends_some old t.2.0 t.0 t.2.1 n)
+    undo_nothing (Err (fault.Refused r)) s p n q = (let t : IsStale from (Some old) = (is_stale from other old now r q).stale in ends_some old t.2.0 t.2.1 t.0 t.2.2 n)
 
     undo_stale : (a : Refusal) (b : Result (List ChangeOf) JournalFault) → IsSettled b → IsRefusedStale from to old new a → UndoOutcome from other (Some old) now b → Alike (Err (fault.Refused a)) b
     undo_stale a (Ok y) s p q = undone_not_stale y from other old now q p.stale
-    undo_stale a (Err fault.BadJournal) s p q = (let t : IsStale from (Some old) = p.stale in absurd (q.1 (t.2.0 ++ done t.0 ∷ []) t.2.1))
-    undo_stale a (Err fault.NothingToUndo) s p q = (let t : IsStale from (Some old) = p.stale in ends_some old t.2.0 t.0 t.2.1 q.1)
-    undo_stale a (Err fault.OpenEntry) s p q = (let t : IsStale from (Some old) = p.stale in ends_closed old t.2.0 t.0 t.2.1 q.1)
+    undo_stale a (Err fault.BadJournal) s p q = (let t : IsStale from (Some old) = p.stale in ends_read old t.2.0 t.2.1 t.0 t.2.2 q.1)
+    undo_stale a (Err fault.NothingToUndo) s p q = (let t : IsStale from (Some old) = p.stale in ends_some old t.2.0 t.2.1 t.0 t.2.2 q.1)
+    undo_stale a (Err fault.OpenEntry) s p q = (let t : IsStale from (Some old) = p.stale in ends_closed old t.2.0 t.2.1 t.0 t.2.2 q.1)
     undo_stale a (Err fault.Store) s p q = absurd s
     undo_stale a (Err fault.JournalFull) s p q = absurd q
     undo_stale a (Err fault.NoMemory) s p q = absurd s

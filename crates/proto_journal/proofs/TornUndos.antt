@@ -3,4 +3,4 @@ use Rattle.proto_journal.specs.Laws.{TornUndoIsTorn}
 use Rattle.proto_records.proofs.TornStores.{leads_forth, torn_at}
 
 pub torn_undo_is_torn : TornUndoIsTorn
-torn_undo_is_torn records entry before after held is undo torn = torn_at records entry before after held (leads_forth entry before after is undo.put) undo.put torn
+torn_undo_is_torn v records entry before after held is undo torn = torn_at v records entry before after held (leads_forth entry before after is undo.put) undo.put torn

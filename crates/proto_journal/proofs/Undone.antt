@@ -1,22 +1,27 @@
 -- What an undo answers, from what it read, made and wrote.
 use Rattle.std.proofs.Common.{◌≡◌, ◌⊎◌, inl, inr, ℕ, List, [], ◌∷◌, ◌++◌, Option, Some, None, Ok, Err, refl, sym, ◌∙◌, subst, option_map}
 use Rattle.proto_files.specs.GivenFiles.{FileOf, paths_of}
-use Rattle.proto_entries.specs.Entries.{ChangeOf}
+use Rattle.proto_entries.proofs.Common.{ChangeOf, Asked}
 use Rattle.proto_entries.specs.declared.refusal.Refusal.{Refusal}
 use Rattle.proto_entries.specs.declared.refusal.Refusal.TheVariants as refusal
 use Rattle.proto_edit.specs.Answers.{IsUndoRefusal}
 use Rattle.proto_edit.specs.Workspaces.{IsUndo}
 use Rattle.proto_records.specs.declared.fault.JournalFault.{JournalFault}
 use Rattle.proto_records.specs.declared.fault.JournalFault.TheVariants as fault
-use Rattle.proto_records.specs.declared.record.Record.{Record}
-use Rattle.proto_records.proofs.Common.{fault_of, IsJournal, done, opened, CountsFault, Over, OverBoth, IsBetween, IsTornBetween, Keeps}
+use Rattle.proto_records.specs.declared.record.Version.{Version}
+use Rattle.proto_records.proofs.Common.{fault_of, done, opened, CountsFault, Over, OverBoth, IsBetween, IsTornBetween, Keeps, RecordOf, IsJournalIn}
 use Rattle.proto_store.specs.Stores.{Held, HoldsJournal}
 use Rattle.proto_journal.specs.Common.{EndsIn, IsUndone, IsUndoCut, UndoOutcome, LastOutcome, Passes, Reopens, Shortens, held}
 use Rattle.proto_journal.proofs.Committed.{stays}
 use Rattle.proto_journal.proofs.Recorded.{last_open_there, over_journal, unreadable}
 
-pub ends_there : (old : Option Held) (journal : List ℕ) (entry : List ChangeOf) → HoldsJournal old journal → LastOutcome journal (Ok entry) → Over old (λ then. (records : List Record) × EndsIn records entry then)
-ends_there old journal entry there l = over_journal old journal (λ (t : List ℕ). (records : List Record) × IsJournal t (records ++ done entry ∷ [])) there l
+abbrev pub EndsSo : List ChangeOf → Held → Type 0
+EndsSo entry held = (version : Version) × (records : List RecordOf) × EndsIn version records entry held
+
+pub ends_there : (old : Option Held) (journal : List ℕ) (version : Version) (last : RecordOf) → HoldsJournal old journal → LastOutcome journal (Ok (version, last)) → Over old (EndsSo last.entry)
+ends_there None journal version last there l = tt
+ends_there (Some then) journal version last there l =
+    (version, l.0, last.edit, subst (λ (t : List ℕ). IsJournalIn version t (l.0 ++ done last.edit last.entry ∷ [])) there l.1)
 
 -- ---- refused
 
@@ -29,11 +34,11 @@ no_entry from old new journal fault.JournalFull same there l = absurd l
 no_entry from old new journal fault.NoMemory same there l = stays from old new same
 no_entry from old new journal (fault.Refused r) same there l = absurd l
 
-pub stale : (from : List FileOf) (old new : Option Held) (journal : List ℕ) (entry : List ChangeOf) (r : Refusal) → new ≡ old → HoldsJournal old journal → LastOutcome journal (Ok entry)
-    → IsUndoRefusal from entry r → UndoOutcome from from old new (Err (fault_of r))
-stale from old new journal entry refusal.Stale same there l u = (stays from old new same, (entry, u, ends_there old journal entry there l))
-stale from old new journal entry refusal.NoMemory same there l u = stays from old new same
-stale from old new journal entry r same there l u = absurd u
+pub stale : (from : List FileOf) (old new : Option Held) (journal : List ℕ) (version : Version) (last : RecordOf) (r : Refusal) → new ≡ old → HoldsJournal old journal → LastOutcome journal (Ok (version, last))
+    → IsUndoRefusal from last.entry r → UndoOutcome from from old new (Err (fault_of r))
+stale from old new journal version last refusal.Stale same there l u = (stays from old new same, (last.entry, u, ends_there old journal version last there l))
+stale from old new journal version last refusal.NoMemory same there l u = stays from old new same
+stale from old new journal version last r same there l u = absurd u
 
 pub counts_no_entry : (before after : ℕ) (journal : List ℕ) (f : JournalFault) → after ≡ before → LastOutcome journal (Err f) → CountsFault before after f
 counts_no_entry before after journal fault.BadJournal same l = same
@@ -50,8 +55,21 @@ counts_stale before after r same = same
 
 -- ---- written
 
-module _ (journal first last : List ℕ) (entry : List ChangeOf) (first_is : Reopens journal entry first) (last_is : Shortens journal last) where
+module _ (journal first last : List ℕ) (version : Version) (edit : Option Asked) (entry : List ChangeOf) (first_is : Reopens version journal edit entry first) (last_is : Shortens journal last) where
+  abbrev IsLast : Type 0
+  IsLast = (records : List RecordOf) × IsJournalIn version journal (records ++ done edit entry ∷ [])
+
+  ends : (then : Held) (l : IsLast) → journal ≡ then.journal → EndsIn version l.0 entry then
+  ends then l there = (edit, subst (λ (t : List ℕ). IsJournalIn version t (l.0 ++ done edit entry ∷ [])) there l.1)
+
   module _ (from made : List FileOf) (same_paths : paths_of made ≡ paths_of from) where
+    abbrev IsMade : Held → Held → Type 0
+    IsMade then now = (v : Version) × (records : List RecordOf) × EndsIn v records entry then × Keeps v made records now
+
+    abbrev IsBegun : Held → Held → Type 0
+    IsBegun then now = (v : Version) × (records : List RecordOf) × EndsIn v records entry then
+        × (IsTornBetween v records entry made from now ⊎ Keeps v made records now)
+
     -- files between are between either way round
     turned : (files : List FileOf) → IsBetween from made files → IsBetween made from files
     turned files b = record {
@@ -62,44 +80,34 @@ module _ (journal first last : List ℕ) (entry : List ChangeOf) (first_is : Reo
       ]);
     }
 
-    torn : (old new : Option Held) → LastOutcome journal (Ok entry) → HoldsJournal old journal → OverBoth old new (λ then now. (now.journal ≡ first) × IsBetween from made now.files)
-        → OverBoth old new (λ then now. (records : List Record) × EndsIn records entry then × (IsTornBetween records entry made from now ⊎ Keeps made records now))
+    torn : (old new : Option Held) → IsLast → HoldsJournal old journal → OverBoth old new (λ then now. (now.journal ≡ first) × IsBetween from made now.files) → OverBoth old new IsBegun
     torn None None l there b = tt
     torn None (Some now) l there b = absurd b
     torn (Some then) None l there b = absurd b
     torn (Some then) (Some now) l there b =
-        let ends : EndsIn l.0 entry then = subst (λ (t : List ℕ). IsJournal t (l.0 ++ done entry ∷ [])) there l.1 in
-        let text : IsJournal now.journal (l.0 ++ opened entry ∷ []) = subst (λ (t : List ℕ). IsJournal t (l.0 ++ opened entry ∷ [])) (sym b.0) (first_is l.0 l.1) in
-        (l.0, ends, inl (record { journal = text; files = turned now.files b.1 }))
+        let text : IsJournalIn version now.journal (l.0 ++ opened edit entry ∷ []) = subst (λ (t : List ℕ). IsJournalIn version t (l.0 ++ opened edit entry ∷ [])) (sym b.0) (first_is l.0 l.1) in
+        (version, l.0, ends then l there, inl (record { edit = edit; journal = text; files = turned now.files b.1 }))
 
-    through : (old : Option Held) → LastOutcome journal (Ok entry) → HoldsJournal old journal
-        → OverBoth old (option_map (λ h. held made last) old) (λ then now. (records : List Record) × EndsIn records entry then × Keeps made records now)
+    through : (old : Option Held) → IsLast → HoldsJournal old journal → OverBoth old (option_map (λ h. held made last) old) IsMade
     through None l there = tt
-    through (Some then) l there = (l.0, subst (λ (t : List ℕ). IsJournal t (l.0 ++ done entry ∷ [])) there l.1, record { has = refl; journal = last_is l.0 (done entry) l.1 })
+    through (Some then) l there = (version, l.0, ends then l there, record { has = refl; journal = last_is version l.0 (done edit entry) l.1 })
 
-    landed : (old : Option Held) → LastOutcome journal (Ok entry) → HoldsJournal old journal
-        → OverBoth old (option_map (λ h. held made last) old) (λ then now. (records : List Record) × EndsIn records entry then × (IsTornBetween records entry made from now ⊎ Keeps made records now))
+    landed : (old : Option Held) → IsLast → HoldsJournal old journal → OverBoth old (option_map (λ h. held made last) old) IsBegun
     landed None l there = tt
-    landed (Some then) l there = let t = through (Some then) l there in (t.0, t.1, inr t.2)
+    landed (Some then) l there = let t = through (Some then) l there in (t.0, t.1, t.2, inr t.3)
 
     module _ (undo : IsUndo from entry made) where
-      pub undo_cut : (old new : Option Held) → LastOutcome journal (Ok entry) → HoldsJournal old journal → Passes from made first last old new → IsUndoCut from old new
+      pub undo_cut : (old new : Option Held) → IsLast → HoldsJournal old journal → Passes from made first last old new → IsUndoCut from old new
       undo_cut old new l there p = elim p [
         | inl same ↦ inl same
         | inr rest ↦ elim rest [
           | inl b ↦ inr (entry, made, undo, torn old new l there b)
-          | inr done_is ↦ inr (
-            entry,
-            made,
-            undo,
-            subst (λ (z : Option Held). OverBoth old z (λ then now. (records : List Record) × EndsIn records entry then
-                × (IsTornBetween records entry made from now ⊎ Keeps made records now))) (sym done_is) (landed old l there),
-          )
+          | inr done_is ↦ inr (entry, made, undo, subst (λ (z : Option Held). OverBoth old z IsBegun) (sym done_is) (landed old l there))
         ]
       ]
 
-      pub undone : (old new : Option Held) → LastOutcome journal (Ok entry) → HoldsJournal old journal → new ≡ option_map (λ h. held made last) old → IsUndone entry from made old new
+      pub undone : (old new : Option Held) → IsLast → HoldsJournal old journal → new ≡ option_map (λ h. held made last) old → IsUndone entry from made old new
       undone old new l there n = record {
         files = undo;
-        store = subst (λ (z : Option Held). OverBoth old z (λ then now. (records : List Record) × EndsIn records entry then × Keeps made records now)) (sym n) (through old l there);
+        store = subst (λ (z : Option Held). OverBoth old z IsMade) (sym n) (through old l there);
       }

@@ -9,10 +9,13 @@ use Rattle.proto_edit.specs.Compiled.{AreCompiled}
 use Rattle.proto_edit.specs.Workspaces.{Asked, IsUndo}
 use Rattle.proto_records.specs.declared.fault.JournalFault.{JournalFault}
 use Rattle.proto_records.specs.declared.fault.JournalFault.TheVariants as fault
-use Rattle.proto_records.specs.declared.record.Record.{Record}
-use Rattle.proto_store.specs.Stores.{AreInPathOrder, Held, HoldsFiles}
+use Rattle.proto_records.specs.declared.record.Version.{Version}
+use Rattle.proto_records.specs.declared.record.Version.TheVariants.{First, Second}
+use Rattle.proto_records.specs.Records.{RecordOf}
+use Rattle.proto_records.specs.Journals.{journal_text}
+use Rattle.proto_store.specs.Stores.{AreInPathOrder, Held, HoldsFiles, with_journal}
 use Rattle.proto_records.specs.Known.{IsSettled}
-use Rattle.proto_records.specs.ReadJournals.{IsReady}
+use Rattle.proto_records.specs.ReadJournals.{IsReady, IsReadyWith}
 use Rattle.proto_records.specs.Recovery.{RecoverOutcome}
 use Rattle.proto_records.specs.Torn.{IsTorn, IsTornBetween}
 use Rattle.proto_journal.specs.Commits.{CommitOutcome, IsCommitted}
@@ -55,12 +58,20 @@ UndosAreOne =
 -- undone, each file of the entry is as before or as after it.
 abbrev pub TornUndoIsTorn : Type 0
 TornUndoIsTorn =
-    (records : List Record) (entry : List ChangeOf) (before after : List FileOf) (held : Held)
+    (version : Version) (records : List RecordOf) (entry : List ChangeOf)
+    (before after : List FileOf) (held : Held)
     → IsEntry entry → IsUndo after entry before
-    → IsTornBetween records entry before after held → IsTorn records entry held
+    → IsTornBetween version records entry before after held → IsTorn version records entry held
+
+-- the store has the files that it had, and its journal, which was of the first version, has the same
+-- records in the second
+abbrev pub IsBackInSecond : Held → Option Held → Type 0
+IsBackInSecond old new = (records : List RecordOf) × IsReadyWith First records old
+    × (new ≡ Some (with_journal (journal_text Second records) old))
 
 -- A commit that was cut off over a store that was ready, and then recovered: the store is as before
--- the commit, or as after it.
+-- the commit, byte for byte, but for a journal of the first version, which may be in the second; or
+-- as after it.
 abbrev pub CutCommitsComeBack : Type 0
 CutCommitsComeBack =
     (e : Asked) (from to : List FileOf) (old cut : Held) (new : Option Held)
@@ -68,9 +79,9 @@ CutCommitsComeBack =
     → AreInPathOrder old.files → HoldsFiles (Some old) from → IsReady old
     → CommitOutcome e from to (Some old) (Some cut) (Err fault.Store)
     → IsSettled a → RecoverOutcome (Some cut) new a
-    → (new ≡ Some old)
+    → (new ≡ Some old) ⊎ (IsBackInSecond old new
     ⊎ ((entry : List ChangeOf) × (made : List FileOf)
-    × IsCommitted e entry from made (Some old) new)
+    × IsCommitted e entry from made (Some old) new))
 
 -- And so for an undo: the store is as before the undo, or as after it.
 abbrev pub CutUndosComeBack : Type 0

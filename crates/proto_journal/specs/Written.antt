@@ -1,5 +1,5 @@
 -- Where a store stands while files and journal are written, and what is made before.
-use Rattle.std.specs.Prelude.{◌≡◌, ◌⊎◌, ◌<◌, List, [], ◌∷◌, ◌++◌, length, true, false, Option, option_map, Result, Ok, Err}
+use Rattle.std.specs.Prelude.{◌≡◌, ◌⊎◌, ◌<◌, List, [], ◌∷◌, ◌++◌, length, true, false, Option, Some, option_map, Result, Ok, Err}
 use Rattle.proto_faults.specs.Texts.{Text}
 use Rattle.proto_files.specs.GivenFiles.{FileOf}
 use Rattle.proto_entries.specs.Entries.{ChangeOf}
@@ -7,11 +7,14 @@ use Rattle.proto_entries.specs.declared.refusal.Refusal.TheVariants as refusal
 use Rattle.proto_edit.specs.Workspaces.{Asked, IsMappedStep, IsRefusal}
 use Rattle.proto_records.specs.declared.fault.JournalFault.{JournalFault}
 use Rattle.proto_records.specs.declared.fault.JournalFault.TheVariants as fault
-use Rattle.proto_records.specs.declared.record.Record.{Record}
+use Rattle.proto_records.specs.declared.record.Version.{Version}
+use Rattle.proto_records.specs.declared.record.Version.TheVariants.{Second}
+use Rattle.proto_records.specs.Records.{RecordOf, done, opened}
 use Rattle.proto_records.specs.RecordText.{record_text}
-use Rattle.proto_records.specs.Journals.{IsJournal, is_last_open, done, journal_limit, opened}
+use Rattle.proto_records.specs.Journals.{IsJournal, IsJournalIn, is_last_open, journal_limit, journal_text}
 use Rattle.proto_store.specs.Stores.{Held, with_file}
 use Rattle.proto_records.specs.Known.{OverBoth}
+use Rattle.proto_records.specs.ReadJournals.{IsReadyWith}
 use Rattle.proto_records.specs.Torn.{IsBetween}
 
 -- ---- written
@@ -47,39 +50,46 @@ Passes before after first last old new = (new ≡ old)
 
 -- ---- made before
 
--- the text is this journal with one more record
-abbrev pub AddsTo : Text → Record → Text → Type 0
-AddsTo journal r text = (records : List Record)
-    → IsJournal journal records → is_last_open records ≡ false
-    → IsJournal text (records ++ r ∷ [])
+-- the text is that of a journal that is ready, in the second version
+abbrev pub IsReadyText : Text → Held → Type 0
+IsReadyText text held = (version : Version) × (records : List RecordOf)
+    × IsReadyWith version records held × (text ≡ journal_text Second records)
+
+-- the text is that of the same records, of a journal, and of one more record, in the second version
+abbrev pub AddsTo : Text → RecordOf → Text → Type 0
+AddsTo journal r text = (version : Version) (bytes : Text) (records : List RecordOf)
+    → IsJournalIn version bytes records → is_last_open records ≡ false
+    → journal ≡ journal_text Second records
+    → IsJournalIn Second text (records ++ r ∷ [])
 
 -- the text is this journal without its last record
 abbrev pub Shortens : Text → Text → Type 0
-Shortens journal text = (records : List Record) (r : Record)
-    → IsJournal journal (records ++ r ∷ []) → IsJournal text records
+Shortens journal text = (version : Version) (records : List RecordOf) (r : RecordOf)
+    → IsJournalIn version journal (records ++ r ∷ []) → IsJournalIn version text records
 
 -- the text is this journal with its last entry, which was done, open
-abbrev pub Reopens : Text → List ChangeOf → Text → Type 0
-Reopens journal entry text = (records : List Record)
-    → IsJournal journal (records ++ done entry ∷ []) → IsJournal text (records ++ opened entry ∷ [])
+abbrev pub Reopens : Version → Text → Option Asked → List ChangeOf → Text → Type 0
+Reopens version journal edit entry text = (records : List RecordOf)
+    → IsJournalIn version journal (records ++ done edit entry ∷ [])
+    → IsJournalIn version text (records ++ opened edit entry ∷ [])
 
 -- Why this journal is not written with an entry: it would pass the limit, or memory is wanting.
-abbrev pub IsUnwritten : Text → List ChangeOf → JournalFault → Type 0
-IsUnwritten journal entry fault.JournalFull =
-    journal_limit < length (journal ++ record_text (done entry))
-IsUnwritten journal entry fault.NoMemory = Unit {0}
-IsUnwritten journal entry fault.BadJournal = ⊥
-IsUnwritten journal entry fault.NothingToUndo = ⊥
-IsUnwritten journal entry fault.OpenEntry = ⊥
-IsUnwritten journal entry fault.Store = ⊥
-IsUnwritten journal entry (fault.Refused r) = ⊥
+abbrev pub IsUnwritten : Text → Asked → List ChangeOf → JournalFault → Type 0
+IsUnwritten journal e entry fault.JournalFull =
+    journal_limit < length (journal ++ record_text Second (done (Some e) entry))
+IsUnwritten journal e entry fault.NoMemory = Unit {0}
+IsUnwritten journal e entry fault.BadJournal = ⊥
+IsUnwritten journal e entry fault.NothingToUndo = ⊥
+IsUnwritten journal e entry fault.OpenEntry = ⊥
+IsUnwritten journal e entry fault.Store = ⊥
+IsUnwritten journal e entry (fault.Refused r) = ⊥
 
 -- Why a commit over this journal is not prepared: the edit is refused, or the journal with its
 -- entry would pass the limit.
 abbrev pub IsUnprepared : List FileOf → Asked → Text → JournalFault → Type 0
 IsUnprepared from e journal fault.JournalFull =
     (entry : List ChangeOf) × (made : List FileOf) × IsMappedStep from e entry made
-    × IsUnwritten journal entry fault.JournalFull
+    × IsUnwritten journal e entry fault.JournalFull
 IsUnprepared from e journal fault.NoMemory = Unit {0}
 IsUnprepared from e journal fault.BadJournal = ⊥
 IsUnprepared from e journal fault.NothingToUndo = ⊥
@@ -88,14 +98,14 @@ IsUnprepared from e journal fault.Store = ⊥
 IsUnprepared from e journal (fault.Refused refusal.NoMemory) = ⊥
 IsUnprepared from e journal (fault.Refused r) = IsRefusal from e r
 
--- the last entry of a journal, which is done; or why there is none to undo
-abbrev pub LastOutcome : Text → Result (List ChangeOf) JournalFault → Type 0
-LastOutcome journal (Ok entry) =
-    (records : List Record) × IsJournal journal (records ++ done entry ∷ [])
+-- the last record of a journal, which is done, and its version; or why there is none to undo
+abbrev pub LastOutcome : Text → Result (Version × RecordOf) JournalFault → Type 0
+LastOutcome journal (Ok (version, last)) = (records : List RecordOf)
+    × IsJournalIn version journal (records ++ done last.edit last.entry ∷ [])
 LastOutcome journal (Err fault.BadJournal) =
-    (records : List Record) → IsJournal journal records → ⊥
+    (records : List RecordOf) → IsJournal journal records → ⊥
 LastOutcome journal (Err fault.OpenEntry) =
-    (records : List Record) × IsJournal journal records × (is_last_open records ≡ true)
+    (records : List RecordOf) × IsJournal journal records × (is_last_open records ≡ true)
 LastOutcome journal (Err fault.NothingToUndo) = journal ≡ []
 LastOutcome journal (Err fault.NoMemory) = Unit {0}
 LastOutcome journal (Err fault.Store) = ⊥

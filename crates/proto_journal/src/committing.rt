@@ -1,20 +1,22 @@
 //! Making an edit, in the store and in the workspace.
 
-ghost use Rattle.std.specs.Prelude.{◌-◌, ◌^◌, ◌<◌, IfErr, IfOk};
+ghost use Rattle.std.specs.Prelude.{◌-◌, ◌^◌, ◌<◌, IfErr, IfOk, Some};
 ghost use Rattle.proto_edit.specs.Answers.{asked};
 ghost use Rattle.proto_edit.specs.Workspaces.{IsMappedStep};
 ghost use Rattle.proto_journal.specs.Commits.{CommitOutcome};
 ghost use Rattle.proto_records.specs.Known.{CountsStore};
 ghost use Rattle.proto_journal.specs.Written.{AddsTo, IsUnprepared, IsUnwritten};
-ghost use Rattle.proto_records.specs.Journals.{done, opened};
+ghost use Rattle.proto_entries.specs.EditsAsked.{IsNotable};
+ghost use Rattle.proto_records.specs.Records.{done, opened};
 ghost use Rattle.proto_store.specs.Stores.{HoldsFiles};
 
-use crate::reading::ready_journal;
+use crate::reading::ready_text;
 use crate::writing::write_through;
+use proto_edit::laws::accepted_are_notable;
 use proto_edit::{Edit, Entry, Workspace};
 use proto_faults::MAX_JOURNAL_LEN;
 use proto_records::laws::{journals_grow_and_shrink, records_have_one_text};
-use proto_records::{JournalFault, State, with_record};
+use proto_records::{JournalFault, State, Version, with_record};
 use proto_store::{Store, StoreFault};
 use std::alloc::Global;
 use std::mem;
@@ -29,7 +31,8 @@ struct Prepared {
     last: Vec<u8>,
 }
 
-// The workspace after an edit, and the journal with its entry.
+// The workspace after an edit, and the journal with its entry; its text is given in the second
+// version.
 fn prepare(
     alloc: Global,
     journal: &[u8],
@@ -37,12 +40,17 @@ fn prepare(
     edit: &Edit,
 ) -> Result<Prepared, JournalFault>
     ensures step { IfOk result (λ p. IsMappedStep workspace.now (asked edit.now) p.entry p.next) }
-    ensures first { IfOk result (λ p. AddsTo journal.now (opened p.entry) p.first.items) }
-    ensures last { IfOk result (λ p. AddsTo journal.now (done p.entry) p.last.items) }
+    ensures first { IfOk result (λ p. AddsTo journal.now
+        (opened (Some (asked edit.now)) p.entry) p.first.items) }
+    ensures last { IfOk result (λ p. AddsTo journal.now
+        (done (Some (asked edit.now)) p.entry) p.last.items) }
     ensures err { IfErr result (IsUnprepared workspace.now (asked edit.now) journal.now) }
 {
     let (next, entry) = workspace.with_edit(alloc, edit)?;
-    match with_entry(alloc, journal, &entry) {
+    // What is accepted can be written down.
+    workspace.files().len();
+    accepted_are_notable();
+    match with_entry(alloc, journal, &entry, edit) {
         Ok((first, last)) => Ok(Prepared {
             next,
             entry,
@@ -56,18 +64,23 @@ fn prepare(
     }
 }
 
-// The journal with an entry, open and done.
+// The journal with an entry and its edit, open and done, in the second version.
 fn with_entry(
     alloc: Global,
     journal: &[u8],
     entry: &Entry,
+    edit: &Edit,
 ) -> Result<(Vec<u8>, Vec<u8>), JournalFault>
-    ensures first { IfOk result (λ made. AddsTo journal.now (opened entry.now) made.0.items) }
-    ensures last { IfOk result (λ made. AddsTo journal.now (done entry.now) made.1.items) }
-    ensures err { IfErr result (IsUnwritten journal.now entry.now) }
+    requires { IsNotable (asked edit.now) }
+    ensures first { IfOk result (λ made. AddsTo journal.now
+        (opened (Some (asked edit.now)) entry.now) made.0.items) }
+    ensures last { IfOk result (λ made. AddsTo journal.now
+        (done (Some (asked edit.now)) entry.now) made.1.items) }
+    ensures err { IfErr result (IsUnwritten journal.now (asked edit.now) entry.now) }
 {
-    let first = with_record(alloc, journal, State::Open, entry)?;
-    let last = with_record(alloc, journal, State::Done, entry)?;
+    let told = Some(edit);
+    let first = with_record(alloc, Version::Second, journal, State::Open, entry, told)?;
+    let last = with_record(alloc, Version::Second, journal, State::Done, entry, told)?;
     if last.len() > MAX_JOURNAL_LEN {
         return Err(JournalFault::JournalFull);
     }
@@ -79,14 +92,15 @@ fn with_entry(
 
 /// Makes an edit: writes it into the journal as open, replaces the changed
 /// files in the order of their paths, marks it as done, and puts the
-/// workspace in place. All that is written is made before the first write.
+/// workspace in place. The whole journal is written in the second version, the
+/// entry with its edit. All that is written is made before the first write.
 ///
 /// Refused are, in this order: a journal that is none (`BadJournal`), one whose last entry is open
-/// (`OpenEntry`), an edit that is not admissible (`Refused`), and an edit with which the journal
-/// would pass 16,777,216 bytes (`JournalFull`). `NoMemory` may come in place of any answer. After
-/// these, store and workspace are as before. `Store` comes exactly where a call of the store
-/// failed; then the workspace is as before, and the store is as before, torn between the files
-/// before and after the edit, or as after it.
+/// (`OpenEntry`), an edit that is not admissible (`Refused`), and an edit with which the journal,
+/// in the second version, would pass 16,777,216 bytes (`JournalFull`). `NoMemory` may come in place
+/// of any answer. After these, store and workspace are as before. `Store` comes exactly where a
+/// call of the store failed; then the workspace is as before, and the store is as before, torn
+/// between the files before and after the edit, or as after it.
 pub fn commit<S: Store>(
     alloc: Global,
     store: &mut S,
@@ -99,7 +113,7 @@ pub fn commit<S: Store>(
         (S.holds store.old) (S.holds store.new) result }
     ensures count { CountsStore (S.failure_count store.old) (S.failure_count store.new) result }
 {
-    let journal = ready_journal(alloc, store)?;
+    let journal = ready_text(alloc, store)?;
     let made = prepare(alloc, journal.as_slice(), workspace, &edit)?;
     let first = made.first.as_slice();
     let last = made.last.as_slice();

@@ -13,7 +13,7 @@ pub use committing::commit;
 pub use loading::{LoadFault, load};
 pub use proto_edit::{Change, Edit, Entry, NoMemory, Refusal, Workspace, to_json};
 pub use proto_records::{
-    JournalFault, Record, State, entry_text, read_entry, read_records, recover,
+    JournalFault, Record, State, entry_text, migrate, read_entry, read_records, recover,
 };
 pub use proto_store::{FolderStore, MemoryStore, ReadingFault, Store, StoreFault, all_files};
 pub use reading::ready;

@@ -1,13 +1,22 @@
 //! What a journal says before it is written.
 
 ghost use Rattle.std.specs.Prelude.{◌≡◌, ◌-◌, ◌^◌, ◌<◌, IfOk};
-ghost use Rattle.proto_records.specs.Known.{CountsStore};
+ghost use Rattle.proto_records.specs.Known.{CountsStore, Over};
+ghost use Rattle.proto_records.specs.ReadJournals.{IsReadyWith};
 ghost use Rattle.proto_journal.specs.Loads.{ReadyOutcome};
-ghost use Rattle.proto_store.specs.Stores.{HoldsJournal};
+ghost use Rattle.proto_journal.specs.Written.{IsReadyText};
 
-use proto_records::{JournalFault, last_is_open, read_records};
+use proto_records::{JournalFault, Record, Version, last_is_open, read_journal, second_text};
 use proto_store::{Store, StoreFault};
 use std::alloc::Global;
+
+// A journal of which no entry is open.
+#[derive(Drop)]
+struct ReadyJournal {
+    bytes: Vec<u8>,
+    version: Version,
+    records: Vec<Record>,
+}
 
 /// Whether edits and undo may begin. `BadJournal` comes where the journal is none, `OpenEntry`
 /// where its last entry is open; `Store` at the first call of the store that fails, and `NoMemory`
@@ -22,21 +31,42 @@ pub fn ready<S: Store>(alloc: Global, store: &mut S) -> Result<(), JournalFault>
     Ok(())
 }
 
-// The bytes of a journal of which no entry is open.
-pub(crate) fn ready_journal<S: Store>(alloc: Global, store: &mut S) -> Result<Vec<u8>, JournalFault>
+// The journal of which no entry is open.
+fn ready_journal<S: Store>(alloc: Global, store: &mut S) -> Result<ReadyJournal, JournalFault>
     requires { S.failure_count store.old < 2 ^ 64 - 1 }
-    ensures bytes { IfOk result (λ bytes. HoldsJournal (S.holds store.old) bytes.items) }
+    ensures ready { IfOk result (λ j. Over (S.holds store.old) (λ held.
+        IsReadyWith j.version j.records.items held × (j.bytes.items ≡ held.journal))) }
     ensures outcome { ReadyOutcome (S.holds store.old) result }
     ensures same { S.holds store.new ≡ S.holds store.old }
     ensures count { CountsStore (S.failure_count store.old) (S.failure_count store.new) result }
 {
-    let journal = match store.read_journal() {
-        Ok(journal) => journal,
+    let bytes = match store.read_journal() {
+        Ok(bytes) => bytes,
         Err(StoreFault::Failed) => return Err(JournalFault::Store),
     };
-    let records = read_records(alloc, journal.as_slice())?;
+    let read = read_journal(alloc, bytes.as_slice())?;
+    let (version, records) = read;
     if last_is_open(records.as_slice()) {
         return Err(JournalFault::OpenEntry);
     }
-    Ok(journal)
+    Ok(ReadyJournal {
+        bytes,
+        version,
+        records,
+    })
+}
+
+// The text in the second version of a journal of which no entry is open.
+pub(crate) fn ready_text<S: Store>(alloc: Global, store: &mut S) -> Result<Vec<u8>, JournalFault>
+    requires { S.failure_count store.old < 2 ^ 64 - 1 }
+    ensures text { IfOk result (λ text. Over (S.holds store.old) (IsReadyText text.items)) }
+    ensures outcome { ReadyOutcome (S.holds store.old) result }
+    ensures same { S.holds store.new ≡ S.holds store.old }
+    ensures count { CountsStore (S.failure_count store.old) (S.failure_count store.new) result }
+{
+    let journal = ready_journal(alloc, store)?;
+    match journal.version {
+        Version::Second => Ok(journal.bytes),
+        Version::First => Ok(second_text(alloc, journal.records.as_slice())?),
+    }
 }

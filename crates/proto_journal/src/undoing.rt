@@ -1,6 +1,7 @@
 //! Undoing the last entry, in the store and in the workspace.
 
 ghost use Rattle.std.specs.Prelude.{◌-◌, ◌^◌, ◌<◌, IfOk};
+ghost use Rattle.proto_records.specs.Journals.{IsTold};
 ghost use Rattle.proto_records.specs.Known.{CountsStore};
 ghost use Rattle.proto_journal.specs.Undoing.{UndoOutcome};
 ghost use Rattle.proto_journal.specs.Written.{LastOutcome, Reopens, Shortens};
@@ -10,21 +11,24 @@ use crate::writing::write_through;
 use proto_edit::{Entry, Workspace};
 use proto_faults::NoMemory;
 use proto_records::laws::{journals_grow_and_shrink, records_have_one_text};
-use proto_records::{JournalFault, State, last_is_open, read_records, with_record, without_last};
+use proto_records::{
+    JournalFault, Record, State, Version, last_is_open, read_journal, with_record, without_last,
+};
 use proto_store::{Store, StoreFault};
 use std::alloc::Global;
 use std::mem;
 
-// The last entry of a journal, which is done.
-fn last_entry(alloc: Global, journal: &[u8]) -> Result<Entry, JournalFault>
+// The last record of a journal, which is done, and its version.
+fn last_record(alloc: Global, journal: &[u8]) -> Result<(Version, Record), JournalFault>
     ensures { LastOutcome journal.now result }
 {
-    let mut records = read_records(alloc, journal)?;
+    let read = read_journal(alloc, journal)?;
+    let (version, mut records) = read;
     if last_is_open(records.as_slice()) {
         return Err(JournalFault::OpenEntry);
     }
     match records.pop() {
-        Some(last) => Ok(last.entry),
+        Some(last) => Ok((version, last)),
         None => Err(JournalFault::NothingToUndo),
     }
 }
@@ -37,20 +41,34 @@ fn shortened(journal: &[u8]) -> &[u8]
     without_last(journal)
 }
 
-// The journal with its last entry, which was done, open.
-fn reopened(alloc: Global, journal: &[u8], entry: &Entry) -> Result<Vec<u8>, NoMemory>
-    ensures { IfOk result (λ text. Reopens journal.now entry.now text.items) }
+// The journal with its last entry, which was done, open; its version and its edit stay.
+fn reopened(
+    alloc: Global,
+    version: Version,
+    journal: &[u8],
+    last: &Record,
+) -> Result<Vec<u8>, NoMemory>
+    requires { IsTold version last.now.edit }
+    ensures { IfOk result
+        (λ text. Reopens version journal.now last.now.edit last.now.entry text.items) }
 {
     let before = shortened(journal);
     // It is a journal: the text of an entry is as long while it is open.
     records_have_one_text();
     journals_grow_and_shrink();
-    with_record(alloc, before, State::Open, entry)
+    with_record(
+        alloc,
+        version,
+        before,
+        State::Open,
+        last.entry(),
+        last.edit(),
+    )
 }
 
 /// Undoes the last entry: marks it in the journal as open, puts its files back to before it, in the
-/// order of their paths, takes it off the journal, and puts the workspace in place. All that is
-/// written is made before the first write.
+/// order of their paths, takes it off the journal, and puts the workspace in place. The journal
+/// keeps its version. All that is written is made before the first write.
 ///
 /// Refused are, in this order: a journal that is none (`BadJournal`), one whose last entry is open
 /// (`OpenEntry`), an empty one (`NothingToUndo`), and an entry that is stale (`Refused`).
@@ -73,9 +91,10 @@ pub fn undo_last<S: Store>(
         Err(StoreFault::Failed) => return Err(JournalFault::Store),
     };
     let text = journal.as_slice();
-    let entry = last_entry(alloc, text)?;
-    let first = reopened(alloc, text, &entry)?;
-    let next = workspace.without_entry(alloc, &entry)?;
+    let found = last_record(alloc, text)?;
+    let (version, undone) = found;
+    let first = reopened(alloc, version, text, &undone)?;
+    let next = workspace.without_entry(alloc, undone.entry())?;
     let last = shortened(text);
     match write_through(
         store,
@@ -86,7 +105,7 @@ pub fn undo_last<S: Store>(
     ) {
         Ok(()) => {
             mem::replace(workspace, next).release();
-            Ok(entry)
+            Ok(undone.into_entry())
         }
         Err(StoreFault::Failed) => {
             next.release();

@@ -12,4 +12,5 @@ pub mod MovedHeads
 pub mod PackageFirst
 pub mod PlainEntries
 pub mod ReadTrees
+pub mod ReadWords
 pub mod Roles

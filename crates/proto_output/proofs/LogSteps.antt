@@ -4,19 +4,19 @@ use Rattle.proto_faults.proofs.Common.{flat_map-append, map-append, take_more}
 use Rattle.proto_entries.specs.Entries.{ChangeOf, change_of}
 use Rattle.proto_entries.specs.declared.entry.Change.{Change}
 use Rattle.proto_output.specs.LogLines.{joined_paths, lines_from, record_line}
-use Rattle.proto_records.specs.declared.record.Record.{Record}
+use Rattle.proto_records.specs.Records.{RecordOf}
 
 -- one more record
-pub lines_more : (n : ℕ) (rs : List Record) (r : Record) → lines_from n (rs ++ r ∷ []) ≡ lines_from n rs ++ record_line (n + length rs) r
+pub lines_more : (n : ℕ) (rs : List RecordOf) (r : RecordOf) → lines_from n (rs ++ r ∷ []) ≡ lines_from n rs ++ record_line (n + length rs) r
 lines_more n [] r = append-nil (record_line n r) ∙ ap (λ k. record_line k r) (let e : n ≡ n + 0 = omega arith in e)
 lines_more n (s ∷ rs) r =
     ap (λ l. record_line n s ++ l) (lines_more (n + 1) rs r ∙ ap (λ k. lines_from (n + 1) rs ++ record_line k r) (let e : (n + 1) + length rs ≡ n + length (s ∷ rs) = omega arith in e))
     ∙ sym (append_assoc (record_line n s) (lines_from (n + 1) rs) (record_line (n + length (s ∷ rs)) r))
 
 -- one more of the records that are gone through
-pub records_more : (rs : List Record) (i : ℕ) (r : Record) → i < length rs → r ≡ get_or rs i r → lines_from 1 (take (i + 1) rs) ≡ lines_from 1 (take i rs) ++ record_line (i + 1) r
+pub records_more : (rs : List RecordOf) (i : ℕ) (r : RecordOf) → i < length rs → r ≡ get_or rs i r → lines_from 1 (take (i + 1) rs) ≡ lines_from 1 (take i rs) ++ record_line (i + 1) r
 records_more rs i r within is =
-    ap (lines_from 1) (take_more rs i r within ∙ ap (λ (x : Record). take i rs ++ x ∷ []) (sym is))
+    ap (lines_from 1) (take_more rs i r within ∙ ap (λ (x : RecordOf). take i rs ++ x ∷ []) (sym is))
     ∙ lines_more 1 (take i rs) r
     ∙ ap (λ k. lines_from 1 (take i rs) ++ record_line k r) (let e : 1 + length (take i rs) ≡ i + 1 = omega (arith, length-take-le i rs (omega (arith, within))) in e)
 

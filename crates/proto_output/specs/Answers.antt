@@ -2,9 +2,9 @@
 use Rattle.std.specs.Prelude.{◌≡◌, ℕ, List, Option, Result, Ok, Err}
 use Rattle.std.specs.String.{string_bytes}
 use Rattle.proto_output.specs.EditLines.{changed_lines}
-use Rattle.proto_output.specs.RecoveryLines.{recovery_line}
+use Rattle.proto_output.specs.RecoveryLines.{migration_line, recovery_line}
 use Rattle.proto_output.specs.declared.answer.Answer.{Answer}
-use Rattle.proto_output.specs.declared.answer.Answer.TheVariants.{Text, Changed, Recovery}
+use Rattle.proto_output.specs.declared.answer.Answer.TheVariants.{Text, Changed, Recovery, Migration}
 use Rattle.proto_output.specs.declared.run_fault.RunFault.{RunFault}
 use Rattle.proto_output.specs.declared.run_fault.RunFault.TheVariants.{Store, NoMemory, Output}
 use Rattle.proto_output.specs.declared.status.Status.{Status}
@@ -16,12 +16,14 @@ abbrev pub text_of : Answer → List ℕ
 text_of (Text text status) = string_bytes text
 text_of (Changed entry) = changed_lines entry
 text_of (Recovery recovered) = recovery_line recovered
+text_of (Migration migrated) = migration_line migrated
 
--- how the command of an answer ends; changes and recoveries end well
+-- how the command of an answer ends; changes, recoveries and migrations end well
 abbrev pub status_of : Answer → Status
 status_of (Text text status) = status
 status_of (Changed entry) = Done
 status_of (Recovery recovered) = Done
+status_of (Migration migrated) = Done
 
 -- What a command answers before it writes: the text and the status that it prints; or that a store
 -- call failed, which may have cut it; or want of memory, which leaves the store.

@@ -1,4 +1,5 @@
--- What is printed of a recovery: the choice of this program.
+-- What is printed of a recovery, and of the move to the second version of a journal: the choice of
+-- this program.
 use Rattle.std.specs.Prelude.{◌++◌, Bool, true, false, codes, decimal}
 use Rattle.proto_faults.specs.Texts.{Text}
 use Rattle.proto_entries.specs.RefusalTable.{name_of, number_of}
@@ -8,6 +9,11 @@ use Rattle.proto_entries.specs.declared.refusal.Refusal.{Refusal}
 abbrev pub recovery_line : Bool → Text
 recovery_line true = codes "recovered\n"
 recovery_line false = codes "nothing to recover\n"
+
+-- whether a journal went over to the second version: `migrated`, or `nothing to migrate`
+abbrev pub migration_line : Bool → Text
+migration_line true = codes "migrated\n"
+migration_line false = codes "nothing to migrate\n"
 
 -- `refused: NUMBER NAME`, of a refusal that tells of no reference
 abbrev pub plain_refused_line : Refusal → Text

@@ -6,7 +6,7 @@ ghost use Rattle.proto_output.specs.Answers.{status_of, text_of};
 ghost use Rattle.proto_output.specs.Writing.{AppendsBeginning};
 
 use crate::edit_lines::write_changed;
-use crate::recovery_lines::write_recovery;
+use crate::recovery_lines::{write_migration, write_recovery};
 use crate::status::Status;
 use crate::writing::{OutputFault, write_text};
 use proto_entries::Entry;
@@ -23,6 +23,9 @@ pub enum Answer {
     /// A line that says whether a store was recovered, and that
     /// all is well. Nothing is left to be made for it either.
     Recovery(bool),
+    /// A line that says whether a journal went over to the second version,
+    /// and that all is well. Nothing is left to be made for it either.
+    Migration(bool),
 }
 
 /// Writes what an answer prints, and tells how the command ends. It takes no memory.
@@ -44,6 +47,10 @@ pub fn write_answer<W: Write>(writer: &mut W, answer: &Answer) -> Result<Status,
         }
         Answer::Recovery(recovered) => {
             write_recovery(writer, *recovered)?;
+            Ok(Status::Done)
+        }
+        Answer::Migration(migrated) => {
+            write_migration(writer, *migrated)?;
             Ok(Status::Done)
         }
     }

@@ -19,7 +19,7 @@ pub use edit_lines::{journal_line, refusal_line, write_changed};
 pub use found_lines::lines_of_findings;
 pub use log_lines::lines_of_records;
 pub use place::{Cursor, Place, place_at};
-pub use recovery_lines::{plain_refusal_line, write_recovery};
+pub use recovery_lines::{plain_refusal_line, write_migration, write_recovery};
 pub use reporting::reported;
 pub use run_fault::{RunFault, fault_line};
 pub use schema_lines::schema_line;

@@ -1,8 +1,8 @@
-//! The lines of a recovery.
+//! The lines of a recovery, and of the move to the second version of a journal.
 
 ghost use Rattle.std.specs.Prelude.{◌≡◌, IfOk, OnErr, OnOk, string_bytes};
 ghost use Rattle.std.specs.Io.KnownBytes.{Appends};
-ghost use Rattle.proto_output.specs.RecoveryLines.{plain_refused_line, recovery_line};
+ghost use Rattle.proto_output.specs.RecoveryLines.{migration_line, plain_refused_line, recovery_line};
 ghost use Rattle.proto_output.specs.Writing.{AppendsBeginning};
 
 use crate::writing::{OutputFault, write_text};
@@ -29,6 +29,27 @@ fn recovery_text(recovered: bool) -> &'static str
         "recovered\n"
     } else {
         "nothing to recover\n"
+    }
+}
+
+/// Writes whether a journal went over to the second version, ended by a
+/// line feed: `migrated` or `nothing to migrate`. It takes no memory.
+pub fn write_migration<W: Write>(writer: &mut W, migrated: bool) -> Result<(), OutputFault>
+    ensures ok { OnOk result (Appends (W.contents writer.old)
+        (W.contents writer.new) (migration_line migrated)) }
+    ensures err { OnErr result (AppendsBeginning
+        (W.contents writer.old) (W.contents writer.new) (migration_line migrated)) }
+{
+    write_text(writer, migration_text(migrated).as_bytes())
+}
+
+fn migration_text(migrated: bool) -> &'static str
+    ensures { result.now ≡ migration_line migrated }
+{
+    if migrated {
+        "migrated\n"
+    } else {
+        "nothing to migrate\n"
     }
 }
 

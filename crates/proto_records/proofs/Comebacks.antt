@@ -1,27 +1,27 @@
 -- A store that is torn between the files before and after an entry comes back, and stays torn so where recovery is cut off.
-use Rattle.std.proofs.Common.{◌≡◌, ◌≢◌, ◌⊎◌, inl, inr, ℕ, Bool, true, false, cond, List, [], ◌∷◌, ◌++◌, Some, refl, sym, ap, ◌∙◌, subst, Contains, bytes_eq}
+use Rattle.std.proofs.Common.{◌≡◌, ◌≢◌, ◌⊎◌, inl, inr, ℕ, Bool, true, false, cond, List, [], ◌∷◌, ◌++◌, Some, refl, sym, ap, ◌∙◌, subst, Contains, bytes_eq, Option}
 use Rattle.proto_faults.proofs.Common.{AllByRecursion, bytes_eq-Decides, recursion_from_All}
 use Rattle.proto_files.specs.GivenFiles.{FileOf, paths_of}
-use Rattle.proto_entries.proofs.Common.{ChangeOf, IsEntry, EachPuts, IsPut, find_change}
-use Rattle.proto_records.specs.Common.{Record, IsJournal, IsRecord, opened, IsReadInOneWay, ArePartlyBack, ArePutBack, IsPutBack, IsRecovered, IsRecovering, IsRestored, IsUnnamed, IsBetween, IsTornBetween, Keeps}
+use Rattle.proto_entries.proofs.Common.{ChangeOf, IsEntry, EachPuts, IsPut, find_change, Asked}
+use Rattle.proto_records.specs.Common.{IsRecord, opened, IsReadInOneWay, ArePartlyBack, ArePutBack, IsPutBack, IsRecovered, IsRecovering, IsRestored, IsUnnamed, IsBetween, IsTornBetween, Keeps, Version, RecordOf, IsJournalIn}
 use Rattle.proto_store.proofs.Common.{AreInPathOrder, Held, bytes_at, same_files}
 use Rattle.proto_records.proofs.PutBack.{of_some, put_is_restored, restored_once, same_order}
 use Rattle.proto_records.proofs.TornStores.{IsAt, as_before, change_in, put_at}
 
 -- ---- journals
 
-pub head_of : (x y : Record) (xs ys : List Record) → x ∷ xs ≡ y ∷ ys → x ≡ y
+pub head_of : (x y : RecordOf) (xs ys : List RecordOf) → x ∷ xs ≡ y ∷ ys → x ≡ y
 head_of x y xs ys e = cc
 
-pub tail_of : (x y : Record) (xs ys : List Record) → x ∷ xs ≡ y ∷ ys → xs ≡ ys
+pub tail_of : (x y : RecordOf) (xs ys : List RecordOf) → x ∷ xs ≡ y ∷ ys → xs ≡ ys
 tail_of x y xs ys e = cc
 
-never_none : {P : Type 0} (rs : List Record) (a : Record) → rs ++ a ∷ [] ≡ [] → P
+never_none : {P : Type 0} (rs : List RecordOf) (a : RecordOf) → rs ++ a ∷ [] ≡ [] → P
 never_none [] a e = cc
 never_none (r ∷ rs) a e = cc
 
 -- lists with one more record are the same in their fronts and in their last records
-pub same_ends : (rs ss : List Record) (a b : Record) → rs ++ a ∷ [] ≡ ss ++ b ∷ [] → (rs ≡ ss) × (a ≡ b)
+pub same_ends : (rs ss : List RecordOf) (a b : RecordOf) → rs ++ a ∷ [] ≡ ss ++ b ∷ [] → (rs ≡ ss) × (a ≡ b)
 same_ends [] [] a b e = (refl, head_of a b [] [] e)
 same_ends [] (s ∷ ss) a b e = never_none ss b (sym (tail_of a s [] (ss ++ b ∷ []) e))
 same_ends (r ∷ rs) [] a b e = never_none rs a (tail_of r b (rs ++ a ∷ []) [] e)
@@ -30,13 +30,24 @@ same_ends (r ∷ rs) (s ∷ ss) a b e =
     let first : r ≡ s = head_of r s (rs ++ a ∷ []) (ss ++ b ∷ []) e in
     ((λ i. first i ∷ more.0 i), more.1)
 
-pub last_of_all : (P : Record → Type 0) (rs : List Record) (r : Record) → AllByRecursion P (rs ++ r ∷ []) → P r
+pub last_of_all : (P : RecordOf → Type 0) (rs : List RecordOf) (r : RecordOf) → AllByRecursion P (rs ++ r ∷ []) → P r
 last_of_all P [] r h = h.0
 last_of_all P (s ∷ rs) r h = last_of_all P rs r h.1
 
+never_empty : (rs : List RecordOf) (a : RecordOf) → rs ++ a ∷ [] ≢ []
+never_empty rs a e = never_none rs a e
+
+-- the version, the records and the entry of a journal whose last entry is open are one
+pub same_torn : IsReadInOneWay → (journal : List ℕ) (v w : Version) (rs ss : List RecordOf) (p q : Option Asked) (e f : List ChangeOf)
+    → IsJournalIn v journal (rs ++ opened p e ∷ []) → IsJournalIn w journal (ss ++ opened q f ∷ []) → (v ≡ w) × (rs ≡ ss) × (e ≡ f)
+same_torn one_way journal v w rs ss p q e f j k =
+    let once = one_way journal v w (rs ++ opened p e ∷ []) (ss ++ opened q f ∷ []) j k in
+    let ends = same_ends rs ss (opened p e) (opened q f) once.0 in
+    (once.1 (never_empty rs (opened p e)), ends.0, ap (λ (r : RecordOf). r.entry) ends.1)
+
 -- the last entry of a journal is an entry
-pub entry_of : (journal : List ℕ) (records : List Record) (entry : List ChangeOf) → IsJournal journal (records ++ opened entry ∷ []) → IsEntry entry
-entry_of journal records entry j = (last_of_all IsRecord records (opened entry) (recursion_from_All IsRecord (records ++ opened entry ∷ []) j.entries)).entry
+pub entry_of : (v : Version) (journal : List ℕ) (records : List RecordOf) (edit : Option Asked) (entry : List ChangeOf) → IsJournalIn v journal (records ++ opened edit entry ∷ []) → IsEntry entry
+entry_of v journal records edit entry j = (last_of_all (IsRecord v) records (opened edit entry) (recursion_from_All (IsRecord v) (records ++ opened edit entry ∷ []) j.entries)).entry
 
 -- ---- files
 
@@ -118,26 +129,26 @@ module _ (entry : List ChangeOf) (before after : List FileOf) (is : IsEntry entr
 
 -- ---- stores
 
-module _ (one_way : IsReadInOneWay) (records : List Record) (entry : List ChangeOf) (before after : List FileOf) (torn : Held)
-    (order : AreInPathOrder before) (is : IsEntry entry) (put : IsPut before entry after) (between : IsTornBetween records entry before after torn) where
-  -- the records and the entry of a torn store are these
-  same_open : (rs : List Record) (e : List ChangeOf) → IsJournal torn.journal (rs ++ opened e ∷ []) → (rs ≡ records) × (e ≡ entry)
-  same_open rs e j =
-      let ends = same_ends rs records (opened e) (opened entry) (one_way torn.journal (rs ++ opened e ∷ []) (records ++ opened entry ∷ []) j between.journal) in
-      (ends.0, ap (λ (r : Record). r.entry) ends.1)
+module _ (one_way : IsReadInOneWay) (v : Version) (records : List RecordOf) (entry : List ChangeOf) (before after : List FileOf) (torn : Held)
+    (order : AreInPathOrder before) (is : IsEntry entry) (put : IsPut before entry after) (between : IsTornBetween v records entry before after torn) where
+  -- the version, the records and the entry of a torn store are these
+  same_open : (w : Version) (rs : List RecordOf) (edit : Option Asked) (e : List ChangeOf) → IsJournalIn w torn.journal (rs ++ opened edit e ∷ []) → (w ≡ v) × (rs ≡ records) × (e ≡ entry)
+  same_open w rs edit e j = same_torn one_way torn.journal w v rs records edit between.edit e entry j between.journal
 
-  pub recovered_keeps : (rs : List Record) (e : List ChangeOf) (now : Held) → IsRecovered rs e torn now → Keeps before records now
-  recovered_keeps rs e now r =
-      let same = same_open rs e r.torn.journal in
+  pub recovered_keeps : (w : Version) (rs : List RecordOf) (e : List ChangeOf) (now : Held) → IsRecovered w rs e torn now → Keeps v before records now
+  recovered_keeps w rs e now r =
+      let same = same_open w rs r.torn.edit e r.torn.journal in
+      let there : IsJournalIn v now.journal rs = subst (λ (x : Version). IsJournalIn x now.journal rs) same.0 r.journal in
       record {
-        has = comes_back entry before after is put torn.files now.files order between.files (subst (λ (x : List ChangeOf). ArePutBack x torn.files now.files) same.1 r.files);
-        journal = subst (λ (x : List Record). IsJournal now.journal x) same.0 r.journal;
+        has = comes_back entry before after is put torn.files now.files order between.files (subst (λ (x : List ChangeOf). ArePutBack x torn.files now.files) same.2 r.files);
+        journal = subst (λ (x : List RecordOf). IsJournalIn v now.journal x) same.1 there;
       }
 
-  pub recovering_stays : (rs : List Record) (e : List ChangeOf) (now : Held) → IsRecovering rs e torn now → IsTornBetween records entry before after now
-  recovering_stays rs e now r =
-      let same = same_open rs e r.torn.journal in
+  pub recovering_stays : (w : Version) (rs : List RecordOf) (e : List ChangeOf) (now : Held) → IsRecovering w rs e torn now → IsTornBetween v records entry before after now
+  recovering_stays w rs e now r =
+      let same = same_open w rs r.torn.edit e r.torn.journal in
       record {
-        journal = subst (λ (x : List ℕ). IsJournal x (records ++ opened entry ∷ [])) (sym r.journal) between.journal;
-        files = stays_between entry before after is put torn.files now.files between.files (subst (λ (x : List ChangeOf). ArePartlyBack x torn.files now.files) same.1 r.files);
+        edit = between.edit;
+        journal = subst (λ (x : List ℕ). IsJournalIn v x (records ++ opened between.edit entry ∷ [])) (sym r.journal) between.journal;
+        files = stays_between entry before after is put torn.files now.files between.files (subst (λ (x : List ChangeOf). ArePartlyBack x torn.files now.files) same.2 r.files);
       }

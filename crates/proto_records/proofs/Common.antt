@@ -1,8 +1,9 @@
 -- What proofs of the crates above name of this crate, passed on from one place. Declares nothing.
 pub use Rattle.proto_records.specs.FaultTable.{fault_of}
-pub use Rattle.proto_records.specs.Journals.{IsJournal, IsRecord, done, is_last_open, is_open, journal_limit, journal_text, opened}
+pub use Rattle.proto_records.specs.Journals.{IsJournal, IsJournalIn, IsRecord, IsTold, is_last_open, is_open, journal_limit, journal_text}
 pub use Rattle.proto_records.specs.Known.{CountsFault, IsSettled, Over, OverBoth}
-pub use Rattle.proto_records.specs.Laws.{IsReadInOneWay, JournalsGrow, JournalsShrink, StatesKeepLength}
+pub use Rattle.proto_records.specs.Laws.{IsReadInOneWay, JournalsGrow, JournalsMigrate, JournalsShrink, StatesKeepLength}
 pub use Rattle.proto_records.specs.ReadJournals.{HasOpenEntry, IsReady, IsReadyWith, IsUnreadable}
 unfoldable pub use Rattle.proto_records.specs.RecordText.{record_text}
+pub use Rattle.proto_records.specs.Records.{IsNoted, RecordOf, done, opened}
 pub use Rattle.proto_records.specs.Torn.{IsBetween, IsTornBetween, Keeps}

@@ -2,8 +2,10 @@ pub mod TornStores
 mod Apart
 mod Comebacks
 mod CompactText
+mod EditData
 mod JournalLists
 mod Lines
+mod Migrations
 mod OldFiles
 mod OldTexts
 mod OneRecovery

@@ -4,7 +4,7 @@ use Rattle.proto_faults.proofs.Common.{bytes_eq-Decides, contains_cases, contain
 use Rattle.proto_text.specs.Edits.{AreShort, Edit, Puts, inverse_from, inverse_of, new_len, old_len}
 use Rattle.proto_files.specs.GivenFiles.{FileOf}
 use Rattle.proto_entries.proofs.Common.{ChangeOf, IsChange, IsEntry, inverted, turned_round, EachPuts, IsPut, IsEven, contains_none, entries_lead_back, measured_is_even, put_back}
-use Rattle.proto_records.specs.Common.{Record, TornBetweenIsTorn, IsAsBefore, IsEitherWay, IsTorn, IsTornBetween}
+use Rattle.proto_records.specs.Common.{TornBetweenIsTorn, IsAsBefore, IsEitherWay, IsTorn, IsTornBetween, Version, RecordOf}
 use Rattle.proto_store.specs.Stores.{Held, bytes_at}
 
 -- ---- the file of a change
@@ -65,16 +65,17 @@ either_way c before after files x y b = elim b [
   | inr e ↦ record { text = y.old; there = e ∙ y.before_it; either = inr (as_before (turned_round c) after before y) }
 ]
 
-pub torn_at : (records : List Record) (entry : List ChangeOf) (before after : List FileOf) (held : Held) → IsPut before entry after → IsPut after (inverted entry) before
-    → IsTornBetween records entry before after held → IsTorn records entry held
-torn_at records entry before after held put back torn = record {
+pub torn_at : (v : Version) (records : List RecordOf) (entry : List ChangeOf) (before after : List FileOf) (held : Held) → IsPut before entry after → IsPut after (inverted entry) before
+    → IsTornBetween v records entry before after held → IsTorn v records entry held
+torn_at v records entry before after held put back torn = record {
+  edit = torn.edit;
   journal = torn.journal;
   files = λ c k. either_way c before after held.files (put_at entry c before after k put)
       (put_at (inverted entry) (turned_round c) after before (contains_map turned_round entry c k) back) (torn.files.bytes c.path);
 }
 
 pub torn_between_is_torn : TornBetweenIsTorn
-torn_between_is_torn records entry before after held is put torn = torn_at records entry before after held put (entries_lead_back before after entry is put) torn
+torn_between_is_torn v records entry before after held is put torn = torn_at v records entry before after held put (entries_lead_back before after entry is put) torn
 
 -- ---- turned round twice
 

@@ -1,13 +1,16 @@
--- Journals: the texts of records, one behind the other.
-use Rattle.std.specs.Prelude.{◌≡◌, ◌≢◌, ℕ, ◌≤◌, List, [], ◌∷◌, ◌++◌, length, Bool, true, false, All}
+-- Journals: the texts of records, one behind the other, all of them in one version.
+use Rattle.std.specs.Prelude.{◌≡◌, ◌≢◌, ℕ, ◌≤◌, List, [], ◌∷◌, ◌++◌, length, Option, None, Bool, true, false, All}
 use Rattle.std.specs.List.{flat_map}
 use Rattle.std.specs.Str.{IsUtf8}
 use Rattle.proto_faults.specs.Texts.{Text}
 use Rattle.proto_text.specs.Edits.{Edit}
+use Rattle.proto_entries.specs.EditsAsked.{Asked}
 use Rattle.proto_entries.specs.Entries.{ChangeOf, IsEntry}
 use Rattle.proto_records.specs.declared.record.State.{State}
 use Rattle.proto_records.specs.declared.record.State.TheVariants.{Open, Done}
-use Rattle.proto_records.specs.declared.record.Record.{Record}
+use Rattle.proto_records.specs.declared.record.Version.{Version}
+use Rattle.proto_records.specs.declared.record.Version.TheVariants.{First, Second}
+use Rattle.proto_records.specs.Records.{RecordOf, IsNoted}
 use Rattle.proto_records.specs.RecordText.{record_text}
 
 -- what a splice takes out and puts in are texts
@@ -19,18 +22,16 @@ pub record IsTextual (e : Edit) : Type 0 where
 abbrev pub AreTextual : List ChangeOf → Type 0
 AreTextual cs = All (λ c. All IsTextual c.splices) cs
 
--- a record that has a text
-pub record IsRecord (r : Record) : Type 0 where
+-- what a version tells of the edit: the first nothing, the second what a record may tell
+abbrev pub IsTold : Version → Option Asked → Type 0
+IsTold First edit = edit ≡ None
+IsTold Second edit = IsNoted edit
+
+-- a record that has a text in this version
+pub record IsRecord (version : Version) (r : RecordOf) : Type 0 where
   pub entry : IsEntry r.entry
   pub texts : AreTextual r.entry
-
--- the record of an entry whose files are written
-abbrev pub done : List ChangeOf → Record
-done entry = record { state = Done; entry = entry }
-
--- the record of an entry whose files are being written
-abbrev pub opened : List ChangeOf → Record
-opened entry = record { state = Open; entry = entry }
+  pub edit : IsTold version r.edit
 
 -- whether a record says that its files are being written
 abbrev pub is_open : State → Bool
@@ -38,13 +39,13 @@ is_open Open = true
 is_open Done = false
 
 -- whether the last of the records is open; of no records none is
-abbrev pub is_last_open : List Record → Bool
+abbrev pub is_last_open : List RecordOf → Bool
 is_last_open [] = false
 is_last_open (r ∷ []) = is_open r.state
 is_last_open (r ∷ s ∷ rs) = is_last_open (s ∷ rs)
 
 -- each record that another one follows is done
-abbrev pub AreInOrder : List Record → Type 0
+abbrev pub AreInOrder : List RecordOf → Type 0
 AreInOrder [] = Unit {0}
 AreInOrder (r ∷ rs) = (rs ≢ [] → r.state ≡ Done) × AreInOrder rs
 
@@ -52,16 +53,20 @@ AreInOrder (r ∷ rs) = (rs ≢ [] → r.state ≡ Done) × AreInOrder rs
 abbrev pub journal_limit : ℕ
 journal_limit = 16777216
 
--- the text of a journal: the lines of its records, the oldest first
-abbrev pub journal_text : List Record → Text
-journal_text rs = flat_map record_text rs
+-- the text of a journal in a version: the lines of its records, the oldest first
+abbrev pub journal_text : Version → List RecordOf → Text
+journal_text version rs = flat_map (record_text version) rs
 
--- the bytes are a journal, and these are its records
-pub record IsJournal (bytes : Text) (records : List Record) : Type 0 where
-  pub text : bytes ≡ journal_text records
+-- the bytes are a journal of this version, and these are its records
+pub record IsJournalIn (version : Version) (bytes : Text) (records : List RecordOf) : Type 0 where
+  pub text : bytes ≡ journal_text version records
   pub order : AreInOrder records
-  pub entries : All IsRecord records
+  pub entries : All (IsRecord version) records
   pub short : length bytes ≤ journal_limit
+
+-- the bytes are a journal, wholly of one version, and these are its records
+abbrev pub IsJournal : Text → List RecordOf → Type 0
+IsJournal bytes records = (version : Version) × IsJournalIn version bytes records
 
 -- ---- lines, for a private clause
 

@@ -3,8 +3,10 @@ pub mod FaultTable
 pub mod Journals
 pub mod Known
 pub mod Laws
+pub mod Migration
 pub mod ReadJournals
 pub mod RecordText
+pub mod Records
 pub mod Recovery
 pub mod RecoveryLaws
 pub mod Restoring

@@ -4,12 +4,14 @@ use Rattle.std.specs.List.{Contains}
 use Rattle.proto_faults.specs.Texts.{Path, Text}
 use Rattle.proto_text.specs.Edits.{Puts}
 use Rattle.proto_files.specs.GivenFiles.{FileOf, paths_of}
+use Rattle.proto_entries.specs.EditsAsked.{Asked}
 use Rattle.proto_entries.specs.Entries.{ChangeOf, turned_round}
 use Rattle.proto_entries.specs.declared.refusal.Refusal.TheVariants as refusal
 use Rattle.proto_records.specs.declared.fault.JournalFault.{JournalFault}
 use Rattle.proto_records.specs.declared.fault.JournalFault.TheVariants as fault
-use Rattle.proto_records.specs.declared.record.Record.{Record}
-use Rattle.proto_records.specs.Journals.{IsJournal, opened}
+use Rattle.proto_records.specs.declared.record.Version.{Version}
+use Rattle.proto_records.specs.Records.{RecordOf, opened}
+use Rattle.proto_records.specs.Journals.{IsJournalIn}
 use Rattle.proto_store.specs.Stores.{Held, bytes_at}
 use Rattle.proto_records.specs.Known.{Over, OverBoth}
 use Rattle.proto_records.specs.ReadJournals.{IsReady, IsUnreadable}
@@ -50,39 +52,41 @@ pub record ArePartlyBack (entry : List ChangeOf) (old new : List FileOf) : Type 
 
 -- ---- stores
 
--- The store was torn. Its files are those from before
--- the entry now, and the journal is without the entry.
-pub record IsRecovered (records : List Record) (entry : List ChangeOf) (then now : Held)
-    : Type 0 where
-  pub torn : IsTorn records entry then
+-- The store was torn. Its files are those from before the entry
+-- now, and the journal is without the entry, in the version that it had.
+pub record IsRecovered (version : Version) (records : List RecordOf) (entry : List ChangeOf)
+    (then now : Held) : Type 0 where
+  pub torn : IsTorn version records entry then
   pub files : ArePutBack entry then.files now.files
-  pub journal : IsJournal now.journal records
+  pub journal : IsJournalIn version now.journal records
 
 -- The store was torn, and is so still: some of its
 -- files may be put back, and the journal is as it was.
-pub record IsRecovering (records : List Record) (entry : List ChangeOf) (then now : Held)
-    : Type 0 where
-  pub torn : IsTorn records entry then
+pub record IsRecovering (version : Version) (records : List RecordOf) (entry : List ChangeOf)
+    (then now : Held) : Type 0 where
+  pub torn : IsTorn version records entry then
   pub files : ArePartlyBack entry then.files now.files
   pub journal : now.journal ≡ then.journal
 
 -- A store call failed: the store is as before, or it was torn and is so still, or it is recovered.
 abbrev pub IsRecoveryCut : Option Held → Option Held → Type 0
 IsRecoveryCut old new = (new ≡ old)
-    ⊎ OverBoth old new (λ then now. (records : List Record) × (entry : List ChangeOf)
-    × (IsRecovering records entry then now ⊎ IsRecovered records entry then now))
+    ⊎ OverBoth old new (λ then now.
+    (version : Version) × (records : List RecordOf) × (entry : List ChangeOf)
+    × (IsRecovering version records entry then now ⊎ IsRecovered version records entry then now))
 
 -- the last entry is open, and one of its files is
 -- not there, or is neither as before nor as after it
 abbrev pub HasStaleFile : Held → Type 0
-HasStaleFile held = (records : List Record) × (entry : List ChangeOf)
-    × IsJournal held.journal (records ++ opened entry ∷ [])
+HasStaleFile held = (version : Version) × (records : List RecordOf) × (edit : Option Asked)
+    × (entry : List ChangeOf) × IsJournalIn version held.journal (records ++ opened edit entry ∷ [])
     × (c : ChangeOf) × Contains entry c × (IsEitherWay held.files c → ⊥)
 
 -- An answer, and the store then and now.
 abbrev pub RecoverOutcome : Option Held → Option Held → Result Bool JournalFault → Type 0
 RecoverOutcome old new (Ok true) = OverBoth old new (λ then now.
-    (records : List Record) × (entry : List ChangeOf) × IsRecovered records entry then now)
+    (version : Version) × (records : List RecordOf) × (entry : List ChangeOf)
+    × IsRecovered version records entry then now)
 RecoverOutcome old new (Ok false) = (new ≡ old) × Over old IsReady
 RecoverOutcome old new (Err fault.BadJournal) = (new ≡ old) × Over old IsUnreadable
 RecoverOutcome old new (Err fault.NothingToUndo) = ⊥

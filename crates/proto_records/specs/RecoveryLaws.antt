@@ -6,7 +6,8 @@ use Rattle.proto_entries.specs.Entries.{ChangeOf, IsChange, IsEntry}
 use Rattle.proto_entries.specs.Putting.{IsPut}
 use Rattle.proto_records.specs.declared.fault.JournalFault.{JournalFault}
 use Rattle.proto_records.specs.declared.fault.JournalFault.TheVariants as fault
-use Rattle.proto_records.specs.declared.record.Record.{Record}
+use Rattle.proto_records.specs.declared.record.Version.{Version}
+use Rattle.proto_records.specs.Records.{RecordOf}
 use Rattle.proto_store.specs.Stores.{AreInPathOrder, Held}
 use Rattle.proto_records.specs.Known.{IsSettled}
 use Rattle.proto_records.specs.Recovery.{RecoverOutcome}
@@ -23,9 +24,10 @@ NoTextIsBoth = (c : ChangeOf) (text : Text)
 -- is as before or as after it.
 abbrev pub TornBetweenIsTorn : Type 0
 TornBetweenIsTorn =
-    (records : List Record) (entry : List ChangeOf) (before after : List FileOf) (held : Held)
+    (version : Version) (records : List RecordOf) (entry : List ChangeOf)
+    (before after : List FileOf) (held : Held)
     → IsEntry entry → IsPut before entry after
-    → IsTornBetween records entry before after held → IsTorn records entry held
+    → IsTornBetween version records entry before after held → IsTorn version records entry held
 
 -- ---- recovery, where the files of a store are in the order of their paths
 
@@ -38,26 +40,29 @@ RecoveriesAreOne = (old : Held) (new now : Option Held) (a b : Result Bool Journ
     → (a ≡ b) × (new ≡ now)
 
 -- A store that is torn between the files before and after an entry comes back: recovery answers
--- true, and leaves the files before the entry and the journal of the records before it.
+-- true, and leaves the files before the entry and the journal of the records before it, in the
+-- version that it has.
 abbrev pub TornComesBack : Type 0
 TornComesBack =
-    (records : List Record) (entry : List ChangeOf) (before after : List FileOf)
+    (version : Version) (records : List RecordOf) (entry : List ChangeOf)
+    (before after : List FileOf)
     (torn : Held) (new : Option Held) (a : Result Bool JournalFault)
     → AreInPathOrder before → IsEntry entry → IsPut before entry after
-    → IsTornBetween records entry before after torn
+    → IsTornBetween version records entry before after torn
     → IsSettled a → RecoverOutcome (Some torn) new a
-    → (a ≡ Ok true) × (now : Held) × (new ≡ Some now) × Keeps before records now
+    → (a ≡ Ok true) × (now : Held) × (new ≡ Some now) × Keeps version before records now
 
 -- Where a call fails while such a store is recovered, it is torn so still, or recovered.
 abbrev pub CutStaysTorn : Type 0
 CutStaysTorn =
-    (records : List Record) (entry : List ChangeOf) (before after : List FileOf)
+    (version : Version) (records : List RecordOf) (entry : List ChangeOf)
+    (before after : List FileOf)
     (torn : Held) (new : Option Held)
     → AreInPathOrder before → IsEntry entry → IsPut before entry after
-    → IsTornBetween records entry before after torn
+    → IsTornBetween version records entry before after torn
     → RecoverOutcome (Some torn) new (Err fault.Store)
     → (now : Held) × (new ≡ Some now)
-    × (IsTornBetween records entry before after now ⊎ Keeps before records now)
+    × (IsTornBetween version records entry before after now ⊎ Keeps version before records now)
 
 -- the answers of a recovery that was not cut off, and of one that comes behind one that was: where
 -- that had done all, nothing is left to recover

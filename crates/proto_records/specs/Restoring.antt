@@ -6,12 +6,14 @@ use Rattle.std.specs.Str.{bytes_eq}
 use Rattle.proto_faults.specs.Texts.{Path, Text}
 use Rattle.proto_text.specs.Edits.{Puts}
 use Rattle.proto_files.specs.GivenFiles.{FileOf}
+use Rattle.proto_entries.specs.EditsAsked.{Asked}
 use Rattle.proto_entries.specs.Entries.{ChangeOf, turned_round}
 use Rattle.proto_entries.specs.declared.refusal.Refusal.TheVariants as refusal
 use Rattle.proto_records.specs.declared.fault.JournalFault.{JournalFault}
 use Rattle.proto_records.specs.declared.fault.JournalFault.TheVariants as fault
-use Rattle.proto_records.specs.declared.record.Record.{Record}
-use Rattle.proto_records.specs.Journals.{IsJournal, is_last_open, opened}
+use Rattle.proto_records.specs.declared.record.Version.{Version}
+use Rattle.proto_records.specs.Records.{RecordOf, opened}
+use Rattle.proto_records.specs.Journals.{IsJournal, IsJournalIn, is_last_open}
 use Rattle.proto_store.specs.Stores.{Held, IsListed, bytes_at, with_bytes}
 use Rattle.proto_records.specs.Known.{Over}
 use Rattle.proto_records.specs.Torn.{IsAsAfter, IsAsBefore}
@@ -21,11 +23,12 @@ use Rattle.proto_records.specs.Torn.{IsAsAfter, IsAsBefore}
 -- the last entry of a journal where it is open, or none where no entry is; or why there is neither
 abbrev pub OpenOutcome : Text → Result (Option (List ChangeOf)) JournalFault → Type 0
 OpenOutcome journal (Ok (Some entry)) =
-    (records : List Record) × IsJournal journal (records ++ opened entry ∷ [])
+    (version : Version) × (records : List RecordOf) × (edit : Option Asked)
+    × IsJournalIn version journal (records ++ opened edit entry ∷ [])
 OpenOutcome journal (Ok None) =
-    (records : List Record) × IsJournal journal records × (is_last_open records ≡ Bool.false)
+    (records : List RecordOf) × IsJournal journal records × (is_last_open records ≡ Bool.false)
 OpenOutcome journal (Err fault.BadJournal) =
-    (records : List Record) → IsJournal journal records → ⊥
+    (records : List RecordOf) → IsJournal journal records → ⊥
 OpenOutcome journal (Err fault.NoMemory) = Unit {0}
 OpenOutcome journal (Err _) = ⊥
 

@@ -1,18 +1,21 @@
 -- A store in the midst of an entry.
-use Rattle.std.specs.Prelude.{◌≡◌, ◌⊎◌, List, [], ◌∷◌, ◌++◌, Some, length}
+use Rattle.std.specs.Prelude.{◌≡◌, ◌⊎◌, List, [], ◌∷◌, ◌++◌, Option, Some, length}
 use Rattle.std.specs.List.{Contains}
 use Rattle.proto_faults.specs.Texts.{Path, Text}
 use Rattle.proto_text.specs.Edits.{Puts}
 use Rattle.proto_files.specs.GivenFiles.{FileOf, paths_of}
+use Rattle.proto_entries.specs.EditsAsked.{Asked}
 use Rattle.proto_entries.specs.Entries.{ChangeOf, turned_round}
-use Rattle.proto_records.specs.declared.record.Record.{Record}
-use Rattle.proto_records.specs.Journals.{IsJournal, opened}
+use Rattle.proto_records.specs.declared.record.Version.{Version}
+use Rattle.proto_records.specs.Records.{RecordOf, opened}
+use Rattle.proto_records.specs.Journals.{IsJournalIn}
 use Rattle.proto_store.specs.Stores.{Held, bytes_at}
 
--- the store has these files, and its journal is that of these records
-pub record Keeps (files : List FileOf) (records : List Record) (held : Held) : Type 0 where
+-- the store has these files, and its journal is that of these records in this version
+pub record Keeps (version : Version) (files : List FileOf) (records : List RecordOf) (held : Held)
+    : Type 0 where
   pub has : held.files ≡ files
-  pub journal : IsJournal held.journal records
+  pub journal : IsJournalIn version held.journal records
 
 -- ---- torn between two lists of files
 
@@ -23,10 +26,11 @@ pub record IsBetween (before after files : List FileOf) : Type 0 where
       → (bytes_at path files ≡ bytes_at path before) ⊎ (bytes_at path files ≡ bytes_at path after)
 
 -- Torn between the files before and after an entry, over the records of the entries before it: the
--- journal has the entry behind them, open.
-pub record IsTornBetween (records : List Record) (entry : List ChangeOf)
+-- journal has the entry behind them, open, with the edit that made it where that is known.
+pub record IsTornBetween (version : Version) (records : List RecordOf) (entry : List ChangeOf)
     (before after : List FileOf) (held : Held) : Type 0 where
-  pub journal : IsJournal held.journal (records ++ opened entry ∷ [])
+  pub edit : Option Asked
+  pub journal : IsJournalIn version held.journal (records ++ opened edit entry ∷ [])
   pub files : IsBetween before after held.files
 
 -- ---- torn
@@ -48,6 +52,8 @@ pub record IsEitherWay (files : List FileOf) (c : ChangeOf) : Type 0 where
   pub either : IsAsBefore c text ⊎ IsAsAfter c text
 
 -- Torn: the journal's last entry is open, and each file that it names is as before or as after it.
-pub record IsTorn (records : List Record) (entry : List ChangeOf) (held : Held) : Type 0 where
-  pub journal : IsJournal held.journal (records ++ opened entry ∷ [])
+pub record IsTorn (version : Version) (records : List RecordOf) (entry : List ChangeOf)
+    (held : Held) : Type 0 where
+  pub edit : Option Asked
+  pub journal : IsJournalIn version held.journal (records ++ opened edit entry ∷ [])
   pub files : (c : ChangeOf) → Contains entry c → IsEitherWay held.files c

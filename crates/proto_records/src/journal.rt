@@ -1,16 +1,19 @@
 //! Journals: records, a line each.
 
-ghost use Rattle.std.specs.Prelude.{◌≡◌, ◌⊎◌, List, [], ◌∷◌, ◌++◌, IfOk, IfErr, OnOk, Err};
+ghost use Rattle.std.specs.Prelude.{◌≡◌, ◌⊎◌, ℕ, List, [], ◌∷◌, ◌++◌, IfOk, IfErr, OnOk, Err, option_map, slice_index_or};
+ghost use Rattle.proto_entries.specs.EditsAsked.{asked};
 ghost use Rattle.proto_records.specs.RecordText.{record_text};
-ghost use Rattle.proto_records.specs.Journals.{IsRecord, is_last_open, journal_text, IsJournal, IsFirstLine};
-ghost use Rattle.proto_records.specs.declared.record.Record.{Record as RecordOf};
+ghost use Rattle.proto_records.specs.Journals.{IsRecord, IsTold, is_last_open, journal_text, IsJournal, IsJournalIn, IsFirstLine};
+ghost use Rattle.proto_records.specs.declared.record.Version.{Version as VersionOf};
+ghost use Rattle.proto_records.specs.declared.record.Version.TheVariants.{Second as second};
+ghost use Rattle.proto_records.specs.Records.{RecordOf};
 ghost use Rattle.proto_records.specs.declared.fault.JournalFault.TheVariants as JournalFault;
 
 use crate::fault::JournalFault;
-use crate::reading::read_entry;
-use crate::record::{Record, State};
-use crate::writing::line_of;
-use proto_entries::Entry;
+use crate::reading::read_line;
+use crate::record::{Record, State, Version};
+use crate::writing::{entry_text, line_of};
+use proto_entries::{Edit, Entry};
 use proto_faults::{MAX_JOURNAL_LEN, NoMemory};
 use std::alloc::Global;
 
@@ -19,7 +22,7 @@ pub fn last_is_open(records: &[Record]) -> bool
     ensures { result ≡ is_last_open records.now }
 {
     match records {
-        [.., last] => match last.state {
+        [.., last] => match last.state() {
             State::Open => true,
             State::Done => false,
         },
@@ -42,14 +45,35 @@ fn first_line(bytes: &[u8]) -> (&[u8], &[u8])
     (bytes, &[])
 }
 
-/// The records of a journal, exactly where the bytes are one: at most 16,777,216 bytes that are
-/// texts of records, each record done that another one follows. Otherwise BadJournal; beside that
-/// only want of memory is answered.
-pub fn read_records(alloc: Global, bytes: &[u8]) -> Result<Vec<Record>, JournalFault>
-    ensures ok { IfOk result (λ records. IsJournal bytes.now records.items) }
+// The byte at a place, or 0 behind the end.
+fn byte_at(bytes: &[u8], place: usize) -> u8
+    ensures { result ≡ slice_index_or bytes.now place 0 }
+{
+    match bytes.get(place) {
+        Some(byte) => *byte,
+        None => 0,
+    }
+}
+
+// The version of a journal that begins with a record: the first key is `files` or `edit`.
+fn version_of(bytes: &[u8]) -> Version
+    ensures told { (v : VersionOf) (r : RecordOf) (more : List ℕ)
+        → bytes.now ≡ record_text v r ++ more → result ≡ v }
+    ensures empty { bytes.now ≡ [] → result ≡ second }
+{
+    if byte_at(bytes, 2) == b'f' {
+        Version::First
+    } else {
+        Version::Second
+    }
+}
+
+// The records of a journal of this version.
+fn read_all(alloc: Global, version: Version, bytes: &[u8]) -> Result<Vec<Record>, JournalFault>
+    ensures ok { IfOk result (λ records. IsJournalIn version bytes.now records.items) }
     ensures err { IfErr result (λ e. (e ≡ JournalFault.BadJournal) ⊎ (e ≡ JournalFault.NoMemory)) }
     ensures bad { result ≡ Err JournalFault.BadJournal
-        → (records : List RecordOf) → IsJournal bytes.now records → ⊥ }
+        → (records : List RecordOf) → IsJournalIn version bytes.now records → ⊥ }
 {
     if bytes.len() > MAX_JOURNAL_LEN {
         return Err(JournalFault::BadJournal);
@@ -61,25 +85,69 @@ pub fn read_records(alloc: Global, bytes: &[u8]) -> Result<Vec<Record>, JournalF
             return Err(JournalFault::BadJournal);
         }
         let (line, rest) = first_line(left);
-        let noted = read_entry(alloc, line)?;
+        let noted = read_line(alloc, version, line)?;
         records.push(noted)?;
         left = rest;
     }
     Ok(records)
 }
 
-/// The bytes of a journal with the text of one more record behind them.
+/// The records of a journal, as `read_records` answers them, with their version. That of an empty
+/// journal is the second.
+pub fn read_journal(alloc: Global, bytes: &[u8]) -> Result<(Version, Vec<Record>), JournalFault>
+    ensures ok { IfOk result (λ x. IsJournalIn x.0 bytes.now x.1.items) }
+    ensures empty { IfOk result (λ x. bytes.now ≡ [] → x.0 ≡ second) }
+    ensures err { IfErr result (λ e. (e ≡ JournalFault.BadJournal) ⊎ (e ≡ JournalFault.NoMemory)) }
+    ensures bad { result ≡ Err JournalFault.BadJournal
+        → (records : List RecordOf) → IsJournal bytes.now records → ⊥ }
+{
+    let version = version_of(bytes);
+    let records = read_all(alloc, version, bytes)?;
+    Ok((version, records))
+}
+
+/// The records of a journal, exactly where the bytes are one: at most 16,777,216 bytes that are
+/// texts of records, all of the first version or all of the second, each record done that another
+/// one follows. Otherwise BadJournal; beside that only want of memory is answered.
+pub fn read_records(alloc: Global, bytes: &[u8]) -> Result<Vec<Record>, JournalFault>
+    ensures ok { IfOk result (λ records. IsJournal bytes.now records.items) }
+    ensures err { IfErr result (λ e. (e ≡ JournalFault.BadJournal) ⊎ (e ≡ JournalFault.NoMemory)) }
+    ensures bad { result ≡ Err JournalFault.BadJournal
+        → (records : List RecordOf) → IsJournal bytes.now records → ⊥ }
+{
+    let (_, records) = read_journal(alloc, bytes)?;
+    Ok(records)
+}
+
+/// The text of these records in the second version.
+pub fn second_text(alloc: Global, records: &[Record]) -> Result<Vec<u8>, NoMemory>
+    ensures { IfOk result (λ bytes. bytes.items ≡ journal_text second records.now) }
+{
+    let mut bytes = Vec::new(alloc);
+    for noted in records {
+        let line = entry_text(alloc, noted)?;
+        bytes.extend_from_slice(line.as_bytes())?;
+    }
+    Ok(bytes)
+}
+
+/// The bytes of a journal of this version with the text of one more record behind them. The first
+/// version does not tell the edit, so none is given there.
 pub fn with_record(
     alloc: Global,
+    version: Version,
     journal: &[u8],
     state: State,
     entry: &Entry,
+    edit: Option<&Edit>,
 ) -> Result<Vec<u8>, NoMemory>
-    ensures text { IfOk result (λ bytes. bytes.items
-        ≡ journal.now ++ record_text (record { state = state; entry = entry.now })) }
-    ensures is { OnOk result (IsRecord (record { state = state; entry = entry.now })) }
+    requires { IsTold version (option_map (λ e. asked e.now) edit) }
+    ensures text { IfOk result (λ bytes. bytes.items ≡ journal.now ++ record_text version (record
+        { state = state; entry = entry.now; edit = option_map (λ e. asked e.now) edit.entry })) }
+    ensures is { OnOk result (IsRecord version (record
+        { state = state; entry = entry.now; edit = option_map (λ e. asked e.now) edit.entry })) }
 {
-    let line = line_of(alloc, state, entry)?;
+    let line = line_of(alloc, version, state, entry, edit)?;
     let mut bytes = Vec::with_capacity(alloc, journal.len() + line.len())?;
     bytes.extend_from_slice(journal)?;
     bytes.extend_from_slice(line.as_bytes())?;
@@ -88,8 +156,9 @@ pub fn with_record(
 
 /// The bytes of a journal before the text of its last record.
 pub fn without_last(journal: &[u8]) -> &[u8]
-    ensures { (records : List RecordOf) (last : RecordOf) → IsRecord last
-        → journal.now ≡ journal_text (records ++ last ∷ []) → result.now ≡ journal_text records }
+    ensures { (v : VersionOf) (records : List RecordOf) (last : RecordOf) → IsRecord v last
+        → journal.now ≡ journal_text v (records ++ last ∷ [])
+        → result.now ≡ journal_text v records }
 {
     let Some((_, mut left)) = journal.split_last() else {
         return journal;

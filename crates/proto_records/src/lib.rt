@@ -5,6 +5,7 @@
 mod fault;
 mod journal;
 pub mod laws;
+mod migrating;
 mod putting;
 mod reading;
 mod record;
@@ -14,8 +15,11 @@ mod restoring;
 mod writing;
 
 pub use fault::JournalFault;
-pub use journal::{last_is_open, read_records, with_record, without_last};
+pub use journal::{
+    last_is_open, read_journal, read_records, second_text, with_record, without_last,
+};
+pub use migrating::migrate;
 pub use reading::read_entry;
-pub use record::{Record, State};
+pub use record::{Record, State, Version};
 pub use recovering::recover;
 pub use writing::{entry_text, state_text};

@@ -1,25 +1,27 @@
 //! The record that a line is the text of.
 
-ghost use Rattle.std.specs.Prelude.{◌≡◌, ◌≢◌, ◌⊎◌, ◌↔◌, ◌^◌, ◌<◌, ℕ, List, All, map, IfOk, IfErr, OnOk, IsSomeAnd, IsTrue, option_map, option_and_then, Some, Err, codes};
+ghost use Rattle.std.specs.Prelude.{◌≡◌, ◌≢◌, ◌⊎◌, ◌↔◌, ◌^◌, ◌<◌, ℕ, List, All, map, IfOk, IfErr, OnOk, IsSomeAnd, IfSome, IsTrue, Option, None, option_map, option_and_then, Some, Err, codes};
 ghost use Rattle.std.specs.Str.{IsUtf8};
 ghost use Rattle.serde_json.specs.Data.{Data};
 ghost use Rattle.serde_json.specs.Read.{read};
 ghost use Rattle.serde_json.specs.View.{view, items_view, items_of};
 ghost use Rattle.serde_json.specs.Find.{get, as_number, as_u64, as_str, as_array};
 ghost use Rattle.serde_json.specs.Written.{compact_text};
-ghost use Rattle.proto_text.specs.Edits.{Edit, AreShort};
+ghost use Rattle.proto_text.specs.Edits.{Edit as SpliceOf, AreShort};
 ghost use Rattle.proto_text.specs.Splicing.{edit_of, edits};
+ghost use Rattle.proto_entries.specs.EditsAsked.{Asked, asked, rename as rename_asked, delete_field as delete_asked, add_import as add_asked, drop_import as drop_asked};
 ghost use Rattle.proto_entries.specs.Entries.{ChangeOf, change_of, IsMeasured, IsEntry};
-ghost use Rattle.proto_records.specs.RecordText.{splice_data, change_data, record_data, record_text, state_name};
-ghost use Rattle.proto_records.specs.Journals.{IsRecord};
+ghost use Rattle.proto_records.specs.RecordText.{asked_data, splice_data, change_data, edit_data, record_data, record_text, state_name};
+ghost use Rattle.proto_records.specs.Journals.{IsRecord, IsTold};
 ghost use Rattle.proto_records.specs.declared.record.State.{State as StateOf};
-ghost use Rattle.proto_records.specs.declared.record.Record.{Record as RecordOf};
+ghost use Rattle.proto_records.specs.declared.record.Version.TheVariants.{First as first, Second as second};
+ghost use Rattle.proto_records.specs.Records.{RecordOf};
 ghost use Rattle.proto_records.specs.declared.fault.JournalFault.TheVariants as JournalFault;
 
 use crate::fault::JournalFault;
-use crate::record::{Record, State};
-use crate::writing::entry_text;
-use proto_entries::{Change, Entry};
+use crate::record::{Record, State, Version};
+use crate::writing::line_of;
+use proto_entries::{Change, Edit, Entry};
 use proto_faults::NoMemory;
 use proto_text::{Splice, Splices};
 use serde_json::{Category, Value};
@@ -57,7 +59,7 @@ fn list_at<'a>(value: &'a Value, key: &str) -> Option<&'a Vec<Value>>
 
 #[tactic(auto, unfolding(crate::specs::RecordText::splice_data))]
 fn read_splice(alloc: Global, value: &Value) -> Result<Option<Splice>, NoMemory>
-    ensures { IfOk result (λ found. (e : Edit) → e.at < 2 ^ 32 → view value.now ≡ splice_data e
+    ensures { IfOk result (λ found. (e : SpliceOf) → e.at < 2 ^ 32 → view value.now ≡ splice_data e
         → IsSomeAnd found (λ splice. edit_of splice ≡ e)) }
 {
     let Some(at) = small_number_at(value, "at") else {
@@ -75,7 +77,7 @@ fn read_splice(alloc: Global, value: &Value) -> Result<Option<Splice>, NoMemory>
 }
 
 fn read_splice_list(alloc: Global, values: &Vec<Value>) -> Result<Option<Vec<Splice>>, NoMemory>
-    ensures { IfOk result (λ found. (es : List Edit) → All (λ e. e.at < 2 ^ 32) es
+    ensures { IfOk result (λ found. (es : List SpliceOf) → All (λ e. e.at < 2 ^ 32) es
         → items_view values.now.items ≡ items_of (map splice_data es)
         → IsSomeAnd found (λ list. edits list.items ≡ es)) }
 {
@@ -90,7 +92,7 @@ fn read_splice_list(alloc: Global, values: &Vec<Value>) -> Result<Option<Vec<Spl
 }
 
 fn read_splices(alloc: Global, values: &Vec<Value>) -> Result<Option<Splices>, NoMemory>
-    ensures { IfOk result (λ found. (es : List Edit) → AreShort 0 0 es
+    ensures { IfOk result (λ found. (es : List SpliceOf) → AreShort 0 0 es
         → items_view values.now.items ≡ items_of (map splice_data es)
         → IsSomeAnd found (λ splices. splices ≡ es)) }
 {
@@ -173,11 +175,13 @@ fn read_files(alloc: Global, values: &Vec<Value>) -> Result<Option<Entry>, NoMem
     Ok(Entry::new(changes))
 }
 
-#[tactic(auto, unfolding(crate::specs::RecordText::record_data))]
-fn read_record(alloc: Global, value: &Value) -> Result<Option<Record>, NoMemory>
-    ensures { IfOk result (λ found. (r : RecordOf)
-        → IsEntry r.entry → view value.now ≡ record_data r
-        → IsSomeAnd found (λ s. s ≡ r)) }
+// The state and the entry of a record.
+fn read_parts(alloc: Global, value: &Value) -> Result<Option<(State, Entry)>, NoMemory>
+    ensures { IfOk result (λ found. (s : StateOf) (cs : List ChangeOf) → IsEntry cs
+        → option_and_then as_str (get (codes "state") (view value.now)) ≡ Some (state_name s)
+        → option_and_then as_array (get (codes "files") (view value.now))
+        ≡ Some (items_of (map change_data cs))
+        → IsSomeAnd found (λ x. (x.0 ≡ s) × (x.1 ≡ cs))) }
 {
     let Some(state) = read_state(value) else {
         return Ok(None);
@@ -185,10 +189,158 @@ fn read_record(alloc: Global, value: &Value) -> Result<Option<Record>, NoMemory>
     let Some(list) = list_at(value, "files") else {
         return Ok(None);
     };
-    let Some(entry) = read_files(alloc, list)? else {
+    match read_files(alloc, list)? {
+        Some(entry) => Ok(Some((state, entry))),
+        None => Ok(None),
+    }
+}
+
+#[tactic(auto, unfolding(crate::specs::RecordText::asked_data))]
+fn read_rename(alloc: Global, value: &Value) -> Result<Option<Edit>, NoMemory>
+    ensures { IfOk result (λ found. (name to : List ℕ)
+        → view value.now ≡ asked_data (rename_asked name to)
+        → IsSomeAnd found (λ edit. asked edit ≡ rename_asked name to)) }
+{
+    let Some(name) = text_at(value, "name") else {
         return Ok(None);
     };
-    Ok(Some(Record { state, entry }))
+    let Some(to) = text_at(value, "to") else {
+        return Ok(None);
+    };
+    let name = String::from_str(alloc, name)?;
+    let to = String::from_str(alloc, to)?;
+    Ok(Some(Edit::Rename { name, to }))
+}
+
+#[tactic(auto, unfolding(crate::specs::RecordText::asked_data))]
+fn read_deletion(alloc: Global, value: &Value) -> Result<Option<Edit>, NoMemory>
+    ensures { IfOk result (λ found. (name : List ℕ)
+        → view value.now ≡ asked_data (delete_asked name)
+        → IsSomeAnd found (λ edit. asked edit ≡ delete_asked name)) }
+{
+    let Some(name) = text_at(value, "name") else {
+        return Ok(None);
+    };
+    let name = String::from_str(alloc, name)?;
+    Ok(Some(Edit::DeleteField { name }))
+}
+
+#[tactic(auto, unfolding(crate::specs::RecordText::asked_data))]
+fn read_addition(alloc: Global, value: &Value) -> Result<Option<Edit>, NoMemory>
+    ensures { IfOk result (λ found. (file path : List ℕ)
+        → view value.now ≡ asked_data (add_asked file path)
+        → IsSomeAnd found (λ edit. asked edit ≡ add_asked file path)) }
+{
+    let Some(file) = text_at(value, "file") else {
+        return Ok(None);
+    };
+    let Some(path) = text_at(value, "path") else {
+        return Ok(None);
+    };
+    let file = String::from_str(alloc, file)?;
+    let path = String::from_str(alloc, path)?;
+    Ok(Some(Edit::AddImport { file, path }))
+}
+
+#[tactic(auto, unfolding(crate::specs::RecordText::asked_data))]
+fn read_drop(alloc: Global, value: &Value) -> Result<Option<Edit>, NoMemory>
+    ensures { IfOk result (λ found. (file path : List ℕ)
+        → view value.now ≡ asked_data (drop_asked file path)
+        → IsSomeAnd found (λ edit. asked edit ≡ drop_asked file path)) }
+{
+    let Some(file) = text_at(value, "file") else {
+        return Ok(None);
+    };
+    let Some(path) = text_at(value, "path") else {
+        return Ok(None);
+    };
+    let file = String::from_str(alloc, file)?;
+    let path = String::from_str(alloc, path)?;
+    Ok(Some(Edit::DropImport { file, path }))
+}
+
+// The edit of its kind.
+fn read_asked(alloc: Global, value: &Value) -> Result<Option<Edit>, NoMemory>
+    ensures { IfOk result (λ found. (e : Asked) → view value.now ≡ asked_data e
+        → IsSomeAnd found (λ edit. asked edit ≡ e)) }
+{
+    let Some(kind) = text_at(value, "kind") else {
+        return Ok(None);
+    };
+    if kind == "rename" {
+        return read_rename(alloc, value);
+    }
+    if kind == "delete-field" {
+        return read_deletion(alloc, value);
+    }
+    if kind == "add-import" {
+        return read_addition(alloc, value);
+    }
+    if kind == "drop-import" {
+        return read_drop(alloc, value);
+    }
+    Ok(None)
+}
+
+// The edit that a record tells, or that it tells none.
+fn read_edit(alloc: Global, value: &Value) -> Result<Option<Option<Edit>>, NoMemory>
+    ensures { IfOk result (λ found. (o : Option Asked)
+        → get (codes "edit") (view value.now) ≡ Some (edit_data o)
+        → IsSomeAnd found (λ edit. option_map asked edit ≡ o)) }
+{
+    let Some(told) = value.get("edit") else {
+        return Ok(None);
+    };
+    if told.is_null() {
+        return Ok(Some(None));
+    }
+    let Some(edit) = read_asked(alloc, told)? else {
+        return Ok(None);
+    };
+    Ok(Some(Some(edit)))
+}
+
+#[tactic(auto, unfolding(crate::specs::RecordText::record_data))]
+fn read_first(alloc: Global, value: &Value) -> Result<Option<Record>, NoMemory>
+    ensures shape { IfOk result (λ found. (r : RecordOf)
+        → IsEntry r.entry → IsTold first r.edit → view value.now ≡ record_data first r
+        → IsSomeAnd found (λ s. s ≡ r)) }
+    ensures told { IfOk result (λ found. IfSome found (λ s. IsTold first s.edit)) }
+{
+    let Some(parts) = read_parts(alloc, value)? else {
+        return Ok(None);
+    };
+    let (state, entry) = parts;
+    Ok(Record::new(state, entry, None))
+}
+
+#[tactic(auto, unfolding(crate::specs::RecordText::record_data))]
+fn read_second(alloc: Global, value: &Value) -> Result<Option<Record>, NoMemory>
+    ensures shape { IfOk result (λ found. (r : RecordOf)
+        → IsEntry r.entry → IsTold second r.edit → view value.now ≡ record_data second r
+        → IsSomeAnd found (λ s. s ≡ r)) }
+    ensures told { IfOk result (λ found. IfSome found (λ s. IsTold second s.edit)) }
+{
+    let Some(edit) = read_edit(alloc, value)? else {
+        return Ok(None);
+    };
+    let Some(parts) = read_parts(alloc, value)? else {
+        return Ok(None);
+    };
+    let (state, entry) = parts;
+    Ok(Record::new(state, entry, edit))
+}
+
+fn read_record(alloc: Global, version: Version, value: &Value) -> Result<Option<Record>, NoMemory>
+    ensures shape { IfOk result (λ found. (r : RecordOf)
+        → IsEntry r.entry → IsTold version r.edit → view value.now ≡ record_data version r
+        → IsSomeAnd found (λ s. s ≡ r)) }
+    ensures told { IfOk result (λ found. IfSome found (λ s. IsTold version s.edit)) }
+{
+    match version {
+        Version::First => read_first(alloc, value),
+        Version::Second => read_second(alloc, value),
+    }
 }
 
 fn read_value(alloc: Global, line: &[u8]) -> Result<Option<Value>, NoMemory>
@@ -205,33 +357,44 @@ fn read_value(alloc: Global, line: &[u8]) -> Result<Option<Value>, NoMemory>
 }
 
 // The record of this shape, if there is one: what is read of a record's text is that record.
-fn read_shape(alloc: Global, line: &[u8]) -> Result<Option<Record>, NoMemory>
-    ensures { IfOk result (λ found. (r : RecordOf)
-        → IsRecord r → line.now ≡ compact_text (record_data r)
+fn read_shape(alloc: Global, version: Version, line: &[u8]) -> Result<Option<Record>, NoMemory>
+    ensures shape { IfOk result (λ found. (r : RecordOf)
+        → IsRecord version r → line.now ≡ compact_text (record_data version r)
         → IsSomeAnd found (λ s. s ≡ r)) }
+    ensures told { IfOk result (λ found. IfSome found (λ s. IsTold version s.edit)) }
 {
     let Some(value) = read_value(alloc, line)? else {
         return Ok(None);
     };
-    read_record(alloc, &value)
+    read_record(alloc, version, &value)
 }
 
-fn is_text_of(alloc: Global, bytes: &[u8], noted: &Record) -> Result<bool, NoMemory>
-    ensures same { IfOk result (λ b. IsTrue b ↔ (record_text noted.now ≡ bytes.now)) }
-    ensures is { OnOk result (IsRecord noted.now) }
+fn is_text_of(
+    alloc: Global,
+    version: Version,
+    bytes: &[u8],
+    noted: &Record,
+) -> Result<bool, NoMemory>
+    requires { IsTold version noted.now.edit }
+    ensures same { IfOk result (λ b. IsTrue b ↔ (record_text version noted.now ≡ bytes.now)) }
+    ensures is { OnOk result (IsRecord version noted.now) }
 {
-    let text = entry_text(alloc, noted)?;
+    let text = line_of(alloc, version, noted.state(), noted.entry(), noted.edit())?;
     Ok(text.as_bytes() == bytes)
 }
 
-/// The record that has these bytes for its text: a line with its line feed. Each record has one
-/// spelling, and any other is BadJournal, as are bytes that are no record's text. Beside that only
-/// want of memory is answered.
-pub fn read_entry(alloc: Global, bytes: &[u8]) -> Result<Record, JournalFault>
-    ensures ok { IfOk result (λ r. (record_text r ≡ bytes.now) × IsRecord r) }
+/// The record that has these bytes for its text in this version: a line with its line feed. Each
+/// record has one spelling, and any other is BadJournal, as are bytes that are no record's text.
+/// Beside that only want of memory is answered.
+pub(crate) fn read_line(
+    alloc: Global,
+    version: Version,
+    bytes: &[u8],
+) -> Result<Record, JournalFault>
+    ensures ok { IfOk result (λ r. (record_text version r ≡ bytes.now) × IsRecord version r) }
     ensures err { IfErr result (λ e. (e ≡ JournalFault.BadJournal) ⊎ (e ≡ JournalFault.NoMemory)) }
     ensures bad { result ≡ Err JournalFault.BadJournal
-        → (r : RecordOf) → IsRecord r → record_text r ≢ bytes.now }
+        → (r : RecordOf) → IsRecord version r → record_text version r ≢ bytes.now }
 {
     let Some((last, line)) = bytes.split_last() else {
         return Err(JournalFault::BadJournal);
@@ -239,13 +402,25 @@ pub fn read_entry(alloc: Global, bytes: &[u8]) -> Result<Record, JournalFault>
     if *last != b'\n' {
         return Err(JournalFault::BadJournal);
     }
-    let Some(found) = read_shape(alloc, line)? else {
+    let Some(found) = read_shape(alloc, version, line)? else {
         return Err(JournalFault::BadJournal);
     };
-    let is_same = is_text_of(alloc, bytes, &found)?;
+    let is_same = is_text_of(alloc, version, bytes, &found)?;
     if is_same {
         Ok(found)
     } else {
         Err(JournalFault::BadJournal)
     }
+}
+
+/// The record that has these bytes for its text in the second version: a line with its line feed.
+/// Each record has one spelling, and any other is BadJournal, as are bytes that are no record's
+/// text. Beside that only want of memory is answered.
+pub fn read_entry(alloc: Global, bytes: &[u8]) -> Result<Record, JournalFault>
+    ensures ok { IfOk result (λ r. (record_text second r ≡ bytes.now) × IsRecord second r) }
+    ensures err { IfErr result (λ e. (e ≡ JournalFault.BadJournal) ⊎ (e ≡ JournalFault.NoMemory)) }
+    ensures bad { result ≡ Err JournalFault.BadJournal
+        → (r : RecordOf) → IsRecord second r → record_text second r ≢ bytes.now }
+{
+    read_line(alloc, Version::Second, bytes)
 }

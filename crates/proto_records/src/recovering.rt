@@ -23,7 +23,7 @@ fn open_entry(alloc: Global, journal: &[u8]) -> Result<Option<Entry>, JournalFau
         return Ok(None);
     }
     match records.pop() {
-        Some(last) => Ok(Some(last.entry)),
+        Some(last) => Ok(Some(last.into_entry())),
         None => Ok(None),
     }
 }

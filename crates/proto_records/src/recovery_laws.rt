@@ -1,7 +1,8 @@
-//! What holds of torn stores and of their recovery, for
+//! What holds of torn stores and of their recovery, and of the move to the second version, for
 //! whoever builds on them. None of these does anything.
 
 ghost use Rattle.proto_records.specs.RecoveryLaws.{CutStaysTorn, NoTextIsBoth, RecoveriesAreOne, RecoveryGoesOn, TornBetweenIsTorn, TornComesBack};
+ghost use Rattle.proto_records.specs.Migration.{MigrationsAreOne};
 
 use crate::laws::{journals_are_read_in_one_way, journals_grow_and_shrink};
 
@@ -33,4 +34,12 @@ pub fn recovery_goes_on()
 {
     journals_are_read_in_one_way();
     journals_grow_and_shrink();
+}
+
+/// Where no call of a store fails and memory is there, the store
+/// decides what the move of its journal answers, and what it leaves.
+pub fn migrations_are_one()
+    ensures { MigrationsAreOne }
+{
+    journals_are_read_in_one_way();
 }

@@ -1,5 +1,5 @@
 -- What the program does for a request, and which commands write.
-use Rattle.proto_edit.specs.declared.edit.Edit.TheVariants as edit
+use Rattle.proto_entries.specs.declared.edit.Edit.TheVariants as edit
 use Rattle.protoref_run.specs.declared.command.Command.{Command}
 use Rattle.protoref_run.specs.declared.command.Command.TheVariants as command
 use Rattle.protoref_words.specs.declared.request.Request.{Request}
@@ -23,8 +23,9 @@ errand_of (request.DropImport root file path) =
 errand_of (request.Undo root) = errand.Run command.Undo root
 errand_of (request.Log root) = errand.Run command.Log root
 errand_of (request.Recover root) = errand.Run command.Recover root
+errand_of (request.Migrate root) = errand.Run command.Migrate root
 
--- edits, undo and recovery write, and no other command does
+-- edits, undo, recovery and migration write, and no other command does
 abbrev pub way_of : Command → Way
 way_of command.Compile = way.Reads
 way_of (command.Lint rules) = way.Reads
@@ -32,3 +33,4 @@ way_of (command.Edit edit) = way.Changes
 way_of command.Undo = way.Changes
 way_of command.Log = way.Reads
 way_of command.Recover = way.Recovers
+way_of command.Migrate = way.Changes

@@ -44,6 +44,7 @@ pub fn errand_for(request: Request) -> Errand
         Request::Undo { root } => Errand::Run(Command::Undo, root),
         Request::Log { root } => Errand::Run(Command::Log, root),
         Request::Recover { root } => Errand::Run(Command::Recover, root),
+        Request::Migrate { root } => Errand::Run(Command::Migrate, root),
     }
 }
 
@@ -64,5 +65,6 @@ pub fn way_for(command: &Command) -> Way
         Command::Undo => Way::Changes,
         Command::Log => Way::Reads,
         Command::Recover => Way::Recovers,
+        Command::Migrate => Way::Changes,
     }
 }

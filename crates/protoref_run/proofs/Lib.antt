@@ -1,4 +1,5 @@
 mod Faulted
+mod Migrated
 mod Printing
 mod Recovered
 mod Tellings

@@ -5,10 +5,8 @@ use Rattle.proto_entries.specs.Entries.{ChangeOf}
 use Rattle.proto_entries.specs.declared.refusal.Refusal.{Refusal}
 use Rattle.proto_entries.specs.declared.refusal.Refusal.TheVariants as refusal
 use Rattle.proto_files.proofs.Common.{FaultAt, IsLeastFault, FileOf}
-use Rattle.proto_journal.specs.Commits.{CommitOutcome}
-use Rattle.proto_records.proofs.Common.{IsReady, Over, IsJournal}
-use Rattle.proto_journal.specs.Loads.{IsUnready}
-use Rattle.proto_journal.specs.Undoing.{UndoOutcome}
+use Rattle.proto_journal.specs.Common.{CommitOutcome, IsUnready, UndoOutcome}
+use Rattle.proto_records.proofs.Common.{IsReady, Over, IsJournal, RecordOf}
 use Rattle.proto_output.proofs.Common.{status_of, text_of, faulty_line, IsLineOver}
 use Rattle.proto_output.specs.declared.answer.Answer.{Answer}
 use Rattle.proto_output.specs.declared.run_fault.RunFault.{RunFault}
@@ -17,7 +15,6 @@ use Rattle.proto_output.specs.declared.status.Status.{Status}
 use Rattle.proto_output.specs.declared.status.Status.TheVariants.{Problem}
 use Rattle.proto_records.specs.declared.fault.JournalFault.{JournalFault}
 use Rattle.proto_records.specs.declared.fault.JournalFault.TheVariants as fault
-use Rattle.proto_records.specs.declared.record.Record.{Record}
 use Rattle.proto_desc.specs.Whole.{WorkspaceFaults}
 use Rattle.proto_store.specs.Stores.{Held, HoldsFiles, HoldsJournal}
 use Rattle.protoref_run.specs.Common.{AnswersEdit, AnswersUndo, Begins, IsEditCut, IsUndoingCut, MayBegin, of_journal, of_files, of_change, CountsAlike, IsFaultTold, IsNoRefusal, IsTold, Tells, TellsOf}
@@ -200,7 +197,7 @@ ends_undone before after ends.Output plain same = plain refl
 -- ---- the log
 
 -- what is told of bytes that are no journal
-pub log_tells : (journal : List ℕ) (f : JournalFault) (r : Result Answer RunFault) → (f ≡ fault.BadJournal) ⊎ (f ≡ fault.NoMemory) → (f ≡ fault.BadJournal → (records : List Record) → IsJournal journal records → ⊥)
+pub log_tells : (journal : List ℕ) (f : JournalFault) (r : Result Answer RunFault) → (f ≡ fault.BadJournal) ⊎ (f ≡ fault.NoMemory) → (f ≡ fault.BadJournal → (records : List RecordOf) → IsJournal journal records → ⊥)
     → (IsNoRefusal f → IsTold [] (Err f) r) → TellsLog journal r
 log_tells journal fault.BadJournal (Ok a) only bad told = let t = told tt in subst (λ (s : Status). PrintsLog journal (text_of a) s) (sym t.1) (bad refl, t.0)
 log_tells journal fault.BadJournal (Err e) only bad told = told tt

@@ -14,11 +14,12 @@ use Rattle.proto_records.specs.Recovery.{IsRecoveryCut}
 use Rattle.proto_store.specs.Stores.{Held}
 use Rattle.protoref_run.specs.Changes.{IsEditCut, IsUndoingCut, PrintsEdit, PrintsUndo}
 use Rattle.protoref_run.specs.Logs.{PrintsLogOf}
+use Rattle.protoref_run.specs.Migrations.{IsMigrationCut, PrintsMigration}
 use Rattle.protoref_run.specs.Recoveries.{PrintsRecovery}
 use Rattle.protoref_run.specs.Linted.{PrintsLinted}
 use Rattle.protoref_run.specs.Printed.{PrintsCompiled}
 use Rattle.protoref_run.specs.declared.command.Command.{Command}
-use Rattle.protoref_run.specs.declared.command.Command.TheVariants.{Compile, Lint, Edit, Undo, Log, Recover}
+use Rattle.protoref_run.specs.declared.command.Command.TheVariants.{Compile, Lint, Edit, Undo, Log, Recover, Migrate}
 
 -- the text that a command prints over a store, the
 -- status that it ends with, and the store then and now
@@ -31,13 +32,15 @@ Answered (Edit edit) before after text status = PrintsEdit (asked edit) before a
 Answered Undo before after text status = PrintsUndo before after text status
 Answered Log before after text status = PrintsLogOf before after text status
 Answered Recover before after text status = PrintsRecovery before after text status
+Answered Migrate before after text status = PrintsMigration before after text status
 
--- where a store call failed: the store is as before, or as
--- an edit, an undo or a recovery that was cut leaves it
+-- where a store call failed: the store is as before, or as an edit,
+-- an undo, a recovery or a move of the journal that was cut leaves it
 abbrev pub IsCut : Command → Option Held → Option Held → Type 0
 IsCut (Edit edit) before after = IsEditCut (asked edit) before after
 IsCut Undo before after = IsUndoingCut before after
 IsCut Recover before after = IsRecoveryCut before after
+IsCut Migrate before after = IsMigrationCut before after
 IsCut _ before after = after ≡ before
 
 -- the answer of a command before it is written, and the store then and now

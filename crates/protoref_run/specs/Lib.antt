@@ -3,6 +3,7 @@ pub mod Commands
 pub mod Common
 pub mod Linted
 pub mod Logs
+pub mod Migrations
 pub mod Printed
 pub mod Recoveries
 pub mod Told

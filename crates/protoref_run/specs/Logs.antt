@@ -12,15 +12,15 @@ use Rattle.proto_output.specs.declared.status.Status.{Status}
 use Rattle.proto_output.specs.declared.status.Status.TheVariants.{Done, Problem}
 use Rattle.proto_records.specs.Journals.{IsJournal}
 use Rattle.proto_records.specs.declared.fault.JournalFault.TheVariants as fault
-use Rattle.proto_records.specs.declared.record.Record.{Record}
+use Rattle.proto_records.specs.Records.{RecordOf}
 use Rattle.proto_store.specs.Stores.{Held}
 
 -- of a journal the lines of its records, and of what is none that it is bad
 abbrev pub PrintsLog : Text → Text → Status → Type 0
 PrintsLog journal text Done =
-    (records : List Record) × IsJournal journal records × (text ≡ log_lines records)
+    (records : List RecordOf) × IsJournal journal records × (text ≡ log_lines records)
 PrintsLog journal text Problem =
-    ((records : List Record) → IsJournal journal records → ⊥)
+    ((records : List RecordOf) → IsJournal journal records → ⊥)
     × (text ≡ faulty_line fault.BadJournal)
 
 -- the answer over the bytes of a journal; only memory may be wanting

@@ -18,4 +18,6 @@ pub enum Command {
     Log,
     /// A torn store brought back to before the last entry of its journal.
     Recover,
+    /// The journal moved to the second version.
+    Migrate,
 }

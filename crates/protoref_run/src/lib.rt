@@ -6,6 +6,7 @@ mod beginning;
 mod changing;
 mod command;
 mod logging;
+mod migrating;
 mod opening;
 mod recovering;
 mod running;

@@ -23,12 +23,12 @@ pub fn recover_answer<S: Store>(alloc: Global, store: &mut S) -> Result<Answer, 
 {
     match recover(alloc, store) {
         Ok(recovered) => Ok(Answer::Recovery(recovered)),
-        Err(fault) => unrecovered(alloc, &fault),
+        Err(fault) => plain_answer(alloc, &fault),
     }
 }
 
-// The answer that tells why a store is not recovered.
-fn unrecovered(alloc: Global, fault: &JournalFault) -> Result<Answer, RunFault>
+// The answer that tells of a fault, of which a refusal has no place.
+pub(crate) fn plain_answer(alloc: Global, fault: &JournalFault) -> Result<Answer, RunFault>
     ensures told { IsFaultTold plain_refused_line fault.now result }
     ensures count { CountsAlike (Err fault.now) result }
 {

@@ -8,6 +8,7 @@ use crate::answer::{described, linted};
 use crate::changing::{edit_answer, undo_answer};
 use crate::command::Command;
 use crate::logging::log_answer;
+use crate::migrating::migrate_answer;
 use crate::opening::{Opening, open};
 use crate::recovering::recover_answer;
 use proto_lint::RuleSet;
@@ -18,9 +19,10 @@ use std::io::Write;
 
 /// Runs a command over a store, and writes what it prints. It ends with `Store` at the first call
 /// of the store that fails, with `NoMemory` where memory runs out, and with `Output` where a write
-/// fails or takes no byte. An edit, an undo and a recovery are made before anything is written of
-/// them: after `Output` they stand. After `Store` the store is as before, or it is as an edit, an
-/// undo or a recovery that was cut leaves it; after `NoMemory` it is as before.
+/// fails or takes no byte. An edit, an undo, a recovery and a move of the journal are made before
+/// anything is written of them: after `Output` they stand. After `Store` the store is as before, or
+/// it is as an edit, an undo, a recovery or a move that was cut leaves it; after `NoMemory` it is as
+/// before.
 pub fn run<S: Store, W: Write>(
     alloc: Global,
     command: Command,
@@ -49,6 +51,7 @@ fn answer_of<S: Store>(alloc: Global, command: Command, store: &mut S) -> Result
         Command::Undo => undo_answer(alloc, store),
         Command::Log => log_answer(alloc, store),
         Command::Recover => recover_answer(alloc, store),
+        Command::Migrate => migrate_answer(alloc, store),
     }
 }
 

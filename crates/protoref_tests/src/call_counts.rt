@@ -2,7 +2,7 @@
 //! last does not come, and comes with the next call of all.
 
 use crate::pipe::Pipe;
-use crate::stores::{LINE, OLD, OPEN_LINE, RENAME, command_of, store_of};
+use crate::stores::{FIRST_LINE, FIRST_OPEN, LINE, OLD, OPEN_LINE, RENAME, command_of, store_of};
 use crate::three_files::{M_TO_N, files_at, step};
 use protoref_run::{MemoryStore, Store, run};
 use std::process::Abort;
@@ -73,6 +73,8 @@ const REFUSED: &[(&str, &str, &str, u64)] = &[
     (OLD, "none\n", "undo", 1),
     (OLD, "none\n", "log", 1),
     (OLD, "none\n", "recover", 1),
+    (OLD, "none\n", "migrate", 1),
+    (OLD, FIRST_OPEN, "migrate", 1),
     (OLD, OPEN_LINE, RENAME, 1),
     (OLD, LINE, "undo", 4),
     (OTHER, OPEN_LINE, "recover", 3),
@@ -85,5 +87,16 @@ fn makes_no_call_more_where_it_refuses(rt: HostRuntime) {
     for (files, journal, asked, calls) in REFUSED {
         let mut store = store_of(&rt, files, journal);
         expect_calls(&rt, &mut store, asked, *calls);
+    }
+}
+
+// A journal that may be moved to the second version, and how many calls that makes.
+const MOVED: &[(&str, u64)] = &[("", 1), (LINE, 1), (OPEN_LINE, 1), (FIRST_LINE, 2)];
+
+#[test]
+fn makes_no_call_more_where_it_moves_a_journal(rt: HostRuntime) {
+    for (journal, calls) in MOVED {
+        let mut store = store_of(&rt, OLD, journal);
+        expect_calls(&rt, &mut store, "migrate", *calls);
     }
 }

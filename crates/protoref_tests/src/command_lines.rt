@@ -58,6 +58,7 @@ fn asks_for<R: Abort>(rt: &R, request: &Request, wanted: &str) -> bool {
         Request::Undo { root } => ("undo", root, "", ""),
         Request::Log { root } => ("log", root, "", ""),
         Request::Recover { root } => ("recover", root, "", ""),
+        Request::Migrate { root } => ("migrate", root, "", ""),
     };
     command == asked && first == root.as_str() && second == name && third == more
 }
@@ -117,7 +118,7 @@ const REFUSED: &[Row] = &[
     ("protoref lint . -x", REFUSAL),
     ("protoref lint -- . IMPORT_USED", REFUSAL),
     ("protoref Recover .", REFUSAL),
-    ("protoref migrate .", REFUSAL),
+    ("protoref Migrate .", REFUSAL),
     ("protoref Rename . A B", REFUSAL),
     ("protoref delete_field . A", REFUSAL),
     ("protoref redo .", REFUSAL),
@@ -140,6 +141,9 @@ const REFUSED: &[Row] = &[
     ("protoref recover", REFUSAL),
     ("protoref recover . .", REFUSAL),
     ("protoref recover . --help", REFUSAL),
+    ("protoref migrate", REFUSAL),
+    ("protoref migrate . .", REFUSAL),
+    ("protoref migrate . --help", REFUSAL),
 ];
 
 const TAKEN: &[Row] = &[
@@ -177,6 +181,9 @@ const TAKEN: &[Row] = &[
     ("protoref recover .", "recover|."),
     ("protoref recover -r", "recover|-r"),
     ("protoref recover recover", "recover|recover"),
+    ("protoref migrate .", "migrate|."),
+    ("protoref migrate -m", "migrate|-m"),
+    ("protoref migrate migrate", "migrate|migrate"),
 ];
 
 #[test]
@@ -211,6 +218,7 @@ const HELPS: &[Row] = &[
     ("protoref undo --help", USAGE),
     ("protoref log -h", USAGE),
     ("protoref recover --help", USAGE),
+    ("protoref migrate -h", USAGE),
     ("protoref compile -h", "help|Example: protoref compile "),
     ("protoref lint -h", "help|Example: protoref lint "),
     ("protoref rename -h", "help|Example: protoref rename "),
@@ -229,6 +237,7 @@ const HELPS: &[Row] = &[
     ("protoref undo -h", "help|Example: protoref undo "),
     ("protoref log -h", "help|Example: protoref log "),
     ("protoref recover -h", "help|Example: protoref recover "),
+    ("protoref migrate -h", "help|Example: protoref migrate "),
     // A line of each rule.
     ("protoref lint --help", "rules"),
 ];

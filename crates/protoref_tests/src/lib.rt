@@ -23,6 +23,8 @@ mod linting;
 #[cfg(test)]
 mod mended;
 #[cfg(test)]
+mod migrations;
+#[cfg(test)]
 mod pipe;
 #[cfg(test)]
 mod recoveries;

@@ -1,7 +1,7 @@
 //! Torn stores whose files were changed by other hands, and journals that are none.
 
-use crate::stores::{LINE, NO_JOURNAL, OPEN_LINE, STALE, joined};
-use crate::three_files::OPEN;
+use crate::stores::{FIRST_LINE, FIRST_OPEN, LINE, NO_JOURNAL, OPEN_LINE, STALE, joined};
+use crate::three_files::{FIRST_OPEN as FIRST_OF_THREE, OPEN};
 use crate::turns::Turn::{Done, Holds};
 use crate::turns::{expect_kept, expect_turns};
 
@@ -27,6 +27,7 @@ const NEITHER: &[&str] = &[
 fn are_stale_with_a_file_that_is_neither_and_without_one(rt: HostRuntime) {
     for files in NEITHER {
         expect_kept(&rt, files, OPEN, "recover", STALE);
+        expect_kept(&rt, files, FIRST_OF_THREE, "recover", STALE);
     }
 }
 
@@ -62,6 +63,16 @@ const DAMAGED: &[(&str, &str)] = &[
     (OPEN_LINE, OPEN_LINE),
     (" ", OPEN_LINE),
     ("\r\n", OPEN_LINE),
+    // The same in the first version, and lines of both.
+    (FIRST_LINE, "x"),
+    (FIRST_LINE, "\n"),
+    (FIRST_OPEN, "\n"),
+    (FIRST_OPEN, FIRST_LINE),
+    (FIRST_OPEN, FIRST_OPEN),
+    (" ", FIRST_OPEN),
+    ("\r\n", FIRST_OPEN),
+    (FIRST_LINE, OPEN_LINE),
+    (LINE, FIRST_OPEN),
 ];
 
 #[test]

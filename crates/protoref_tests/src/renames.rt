@@ -1,13 +1,13 @@
 //! What renames print and leave, and why they are refused.
 
-use crate::stores::{CHANGED, LINE, NEW, OLD, RENAME, STALE};
+use crate::stores::{CHANGED, FIRST_LINE, LINE, NEW, OLD, RENAME, STALE};
 use crate::turns::Turn::{Done, Holds, Problem};
 use crate::turns::{Turn, expect_kept, expect_turns};
 
 const ONE: &[Turn<'static>] = &[
     Done(RENAME, CHANGED),
     Holds(NEW, LINE),
-    Done("log", "1 done a.proto\n"),
+    Done("log", "1 done a.proto rename A.b_c d_e\n"),
     Done("undo", CHANGED),
     Holds(OLD, ""),
     Done("log", ""),
@@ -20,7 +20,10 @@ const THREE: &[Turn<'static>] = &[
     Done(RENAME, CHANGED),
     Done("rename A.d_e f", CHANGED),
     Done("rename A.f b_c", CHANGED),
-    Done("log", "1 done a.proto\n2 done a.proto\n3 done a.proto\n"),
+    Done(
+        "log",
+        "1 done a.proto rename A.b_c d_e\n2 done a.proto rename A.d_e f\n3 done a.proto rename A.f b_c\n",
+    ),
     Done("undo", CHANGED),
     Done("undo", CHANGED),
     Done("undo", CHANGED),
@@ -64,4 +67,5 @@ fn are_refused_by_the_least_case(rt: HostRuntime) {
     }
     // An undo of files that are others than after the last entry.
     expect_kept(&rt, OLD, LINE, "undo", STALE);
+    expect_kept(&rt, OLD, FIRST_LINE, "undo", STALE);
 }

@@ -19,4 +19,5 @@ fn fails_where_the_root_is_the_empty_word(rt: HostRuntime) {
     expect_nowhere(&rt, Command::Undo);
     expect_nowhere(&rt, Command::Log);
     expect_nowhere(&rt, Command::Recover);
+    expect_nowhere(&rt, Command::Migrate);
 }

@@ -29,10 +29,10 @@ const OF_ONEOF: &[Turn<'static>] = &[
     Problem("delete-field M.o", "refused: 2 KindNotAllowed\n"),
     Done("delete-field M.a", CHANGED),
     Problem("delete-field M.b", "refused: 10 LastOfOneof\n"),
-    Done("log", "1 done a.proto\n"),
+    Done("log", "1 done a.proto delete-field M.a\n"),
     Holds(
         "a.proto syntax = \"proto3\"; message M { oneof o {  int32 b = 2; } reserved 1; reserved \"a\"; }",
-        "{\"files\":[{\"after\":84,\"before\":71,\"path\":\"a.proto\",\"splices\":[{\"at\":41,\"new\":\" int32 b = 2; } reserved 1; reserved \\\"a\\\";\",\"old\":\"string a = 1; int32 b = 2; }\"}]}],\"state\":\"done\",\"version\":1}\n",
+        "{\"edit\":{\"kind\":\"delete-field\",\"name\":\"M.a\"},\"files\":[{\"after\":84,\"before\":71,\"path\":\"a.proto\",\"splices\":[{\"at\":41,\"new\":\" int32 b = 2; } reserved 1; reserved \\\"a\\\";\",\"old\":\"string a = 1; int32 b = 2; }\"}]}],\"state\":\"done\",\"version\":2}\n",
     ),
     Done("undo", CHANGED),
     Holds(ONEOF, ""),
@@ -43,9 +43,10 @@ const OF_APART: &[Turn<'static>] = &[
     Problem(IMPORT, "refused: 12 AlreadyImported\n"),
     Problem("add-import b.proto a.proto", "refused: 14 Cycle\n"),
     Problem("add-import a.proto x.proto", "refused: 11 UnknownFile\n"),
+    Done("log", "1 done a.proto add-import a.proto b.proto\n"),
     Holds(
         ADDED,
-        "{\"files\":[{\"after\":66,\"before\":48,\"path\":\"a.proto\",\"splices\":[{\"at\":18,\"new\":\"\\nimport \\\"b.proto\\\";\",\"old\":\"\"}]}],\"state\":\"done\",\"version\":1}\n",
+        "{\"edit\":{\"file\":\"a.proto\",\"kind\":\"add-import\",\"path\":\"b.proto\"},\"files\":[{\"after\":66,\"before\":48,\"path\":\"a.proto\",\"splices\":[{\"at\":18,\"new\":\"\\nimport \\\"b.proto\\\";\",\"old\":\"\"}]}],\"state\":\"done\",\"version\":2}\n",
     ),
     Done("undo", CHANGED),
     Holds(APART, ""),
@@ -54,9 +55,10 @@ const OF_APART: &[Turn<'static>] = &[
 const OF_ADDED: &[Turn<'static>] = &[
     Done(UNIMPORT, CHANGED),
     Problem(UNIMPORT, "refused: 13 NotImported\n"),
+    Done("log", "1 done a.proto drop-import a.proto b.proto\n"),
     Holds(
         "a.proto syntax = \"proto3\";\n message A { string b_c = 1; } | b.proto ",
-        "{\"files\":[{\"after\":49,\"before\":66,\"path\":\"a.proto\",\"splices\":[{\"at\":19,\"new\":\"\",\"old\":\"import \\\"b.proto\\\";\"}]}],\"state\":\"done\",\"version\":1}\n",
+        "{\"edit\":{\"file\":\"a.proto\",\"kind\":\"drop-import\",\"path\":\"b.proto\"},\"files\":[{\"after\":49,\"before\":66,\"path\":\"a.proto\",\"splices\":[{\"at\":19,\"new\":\"\",\"old\":\"import \\\"b.proto\\\";\"}]}],\"state\":\"done\",\"version\":2}\n",
     ),
     Done("undo", CHANGED),
     Holds(ADDED, ""),
@@ -66,7 +68,7 @@ const OF_EMPTY: &[Turn<'static>] = &[
     Done(IMPORT, CHANGED),
     Holds(
         "a.proto import \"b.proto\";\n | b.proto ",
-        "{\"files\":[{\"after\":18,\"before\":0,\"path\":\"a.proto\",\"splices\":[{\"at\":0,\"new\":\"import \\\"b.proto\\\";\\n\",\"old\":\"\"}]}],\"state\":\"done\",\"version\":1}\n",
+        "{\"edit\":{\"file\":\"a.proto\",\"kind\":\"add-import\",\"path\":\"b.proto\"},\"files\":[{\"after\":18,\"before\":0,\"path\":\"a.proto\",\"splices\":[{\"at\":0,\"new\":\"import \\\"b.proto\\\";\\n\",\"old\":\"\"}]}],\"state\":\"done\",\"version\":2}\n",
     ),
     Done("undo", CHANGED),
     Holds(EMPTY, ""),

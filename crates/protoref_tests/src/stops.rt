@@ -16,7 +16,8 @@ fn tells_no_log_that_it_cannot_read(rt: HostRuntime) {
 const TOLD: &[(&str, &str)] = &[
     ("compile", ROW_JSON),
     ("lint", "a.proto:1:1: PACKAGE_DEFINED -\n"),
-    ("log", "1 done a.proto\n"),
+    ("log", "1 done a.proto rename A.b_c d_e\n"),
+    ("migrate", "nothing to migrate\n"),
 ];
 
 #[test]

@@ -12,11 +12,23 @@ pub(crate) const NEW: &str = "a.proto syntax = \"proto3\"; message A { string d_
 
 /// The journal of that rename.
 pub(crate) const LINE: &str =
-    "{\"files\":[{\"after\":48,\"before\":48,\"path\":\"a.proto\",\"splices\":[{\"at\":38,\"new\":\"d_e\",\"old\":\"b_c\"}]}],\"state\":\"done\",\"version\":1}\n";
+    "{\"edit\":{\"kind\":\"rename\",\"name\":\"A.b_c\",\"to\":\"d_e\"},\"files\":[{\"after\":48,\"before\":48,\"path\":\"a.proto\",\"splices\":[{\"at\":38,\"new\":\"d_e\",\"old\":\"b_c\"}]}],\"state\":\"done\",\"version\":2}\n";
 
 /// The same with the entry open.
 pub(crate) const OPEN_LINE: &str =
+    "{\"edit\":{\"kind\":\"rename\",\"name\":\"A.b_c\",\"to\":\"d_e\"},\"files\":[{\"after\":48,\"before\":48,\"path\":\"a.proto\",\"splices\":[{\"at\":38,\"new\":\"d_e\",\"old\":\"b_c\"}]}],\"state\":\"open\",\"version\":2}\n";
+
+/// The journal of that rename in the first version, which does not tell it.
+pub(crate) const FIRST_LINE: &str =
+    "{\"files\":[{\"after\":48,\"before\":48,\"path\":\"a.proto\",\"splices\":[{\"at\":38,\"new\":\"d_e\",\"old\":\"b_c\"}]}],\"state\":\"done\",\"version\":1}\n";
+
+/// The same with the entry open.
+pub(crate) const FIRST_OPEN: &str =
     "{\"files\":[{\"after\":48,\"before\":48,\"path\":\"a.proto\",\"splices\":[{\"at\":38,\"new\":\"d_e\",\"old\":\"b_c\"}]}],\"state\":\"open\",\"version\":1}\n";
+
+/// What becomes of the line of the first version in the second.
+pub(crate) const NULL_LINE: &str =
+    "{\"edit\":null,\"files\":[{\"after\":48,\"before\":48,\"path\":\"a.proto\",\"splices\":[{\"at\":38,\"new\":\"d_e\",\"old\":\"b_c\"}]}],\"state\":\"done\",\"version\":2}\n";
 
 /// What a change of `a.proto` prints.
 pub(crate) const CHANGED: &str = "changed a.proto\n";
@@ -50,6 +62,7 @@ pub(crate) fn command_of<R: AllocGlobal + Abort>(rt: &R, asked: &str) -> Command
         "undo" => Command::Undo,
         "log" => Command::Log,
         "recover" => Command::Recover,
+        "migrate" => Command::Migrate,
         _ => panic!(rt; "no command {asked}"),
     }
 }

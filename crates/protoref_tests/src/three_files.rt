@@ -15,10 +15,18 @@ pub(crate) const NOTHING: &str = "nothing to recover\n";
 
 /// The journal of that rename.
 const DONE: &str =
-    "{\"files\":[{\"after\":31,\"before\":31,\"path\":\"a.proto\",\"splices\":[{\"at\":27,\"new\":\"N\",\"old\":\"M\"}]},{\"after\":59,\"before\":59,\"path\":\"b.proto\",\"splices\":[{\"at\":49,\"new\":\"N\",\"old\":\"M\"}]},{\"after\":59,\"before\":59,\"path\":\"c.proto\",\"splices\":[{\"at\":49,\"new\":\"N\",\"old\":\"M\"}]}],\"state\":\"done\",\"version\":1}\n";
+    "{\"edit\":{\"kind\":\"rename\",\"name\":\"M\",\"to\":\"N\"},\"files\":[{\"after\":31,\"before\":31,\"path\":\"a.proto\",\"splices\":[{\"at\":27,\"new\":\"N\",\"old\":\"M\"}]},{\"after\":59,\"before\":59,\"path\":\"b.proto\",\"splices\":[{\"at\":49,\"new\":\"N\",\"old\":\"M\"}]},{\"after\":59,\"before\":59,\"path\":\"c.proto\",\"splices\":[{\"at\":49,\"new\":\"N\",\"old\":\"M\"}]}],\"state\":\"done\",\"version\":2}\n";
 
 /// The same with the entry open.
 pub(crate) const OPEN: &str =
+    "{\"edit\":{\"kind\":\"rename\",\"name\":\"M\",\"to\":\"N\"},\"files\":[{\"after\":31,\"before\":31,\"path\":\"a.proto\",\"splices\":[{\"at\":27,\"new\":\"N\",\"old\":\"M\"}]},{\"after\":59,\"before\":59,\"path\":\"b.proto\",\"splices\":[{\"at\":49,\"new\":\"N\",\"old\":\"M\"}]},{\"after\":59,\"before\":59,\"path\":\"c.proto\",\"splices\":[{\"at\":49,\"new\":\"N\",\"old\":\"M\"}]}],\"state\":\"open\",\"version\":2}\n";
+
+/// The journal of that rename in the first version.
+const FIRST_DONE: &str =
+    "{\"files\":[{\"after\":31,\"before\":31,\"path\":\"a.proto\",\"splices\":[{\"at\":27,\"new\":\"N\",\"old\":\"M\"}]},{\"after\":59,\"before\":59,\"path\":\"b.proto\",\"splices\":[{\"at\":49,\"new\":\"N\",\"old\":\"M\"}]},{\"after\":59,\"before\":59,\"path\":\"c.proto\",\"splices\":[{\"at\":49,\"new\":\"N\",\"old\":\"M\"}]}],\"state\":\"done\",\"version\":1}\n";
+
+/// The same with the entry open.
+pub(crate) const FIRST_OPEN: &str =
     "{\"files\":[{\"after\":31,\"before\":31,\"path\":\"a.proto\",\"splices\":[{\"at\":27,\"new\":\"N\",\"old\":\"M\"}]},{\"after\":59,\"before\":59,\"path\":\"b.proto\",\"splices\":[{\"at\":49,\"new\":\"N\",\"old\":\"M\"}]},{\"after\":59,\"before\":59,\"path\":\"c.proto\",\"splices\":[{\"at\":49,\"new\":\"N\",\"old\":\"M\"}]}],\"state\":\"open\",\"version\":1}\n";
 
 /// Which of the three files have the new name, and what the journal has behind its older entries.
@@ -39,6 +47,18 @@ pub(crate) fn step(asked: &str, writes: u64) -> Step {
         (renamed, DONE)
     } else {
         (renamed, "")
+    }
+}
+
+/// After so many of the five writes of its undo, in a journal of the first version.
+pub(crate) fn first_step(writes: u64) -> Step {
+    let (renamed, last) = step("undo", writes);
+    if last == DONE {
+        (renamed, FIRST_DONE)
+    } else if last == OPEN {
+        (renamed, FIRST_OPEN)
+    } else {
+        (renamed, last)
     }
 }
 

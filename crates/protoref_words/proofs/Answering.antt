@@ -49,6 +49,7 @@ no_memory a k (Ok (request.DropImport root file path)) e is = absurd is
 no_memory a k (Ok (request.Undo root)) e is = absurd is
 no_memory a k (Ok (request.Log root)) e is = absurd is
 no_memory a k (Ok (request.Recover root)) e is = absurd is
+no_memory a k (Ok (request.Migrate root)) e is = absurd is
 no_memory a k (Err fault.BadCommandLine) e is = absurd (is.1 e)
 no_memory a k (Err fault.NoMemory) e is = tt
 
@@ -63,6 +64,7 @@ is_help a k (Ok (request.DropImport root file path)) asks e is = absurd is
 is_help a k (Ok (request.Undo root)) asks e is = absurd is
 is_help a k (Ok (request.Log root)) asks e is = absurd is
 is_help a k (Ok (request.Recover root)) asks e is = absurd is
+is_help a k (Ok (request.Migrate root)) asks e is = absurd is
 is_help a k (Err fault.BadCommandLine) asks e is = absurd (is.0 e)
 is_help a k (Err fault.NoMemory) asks e is = tt
 
@@ -77,6 +79,7 @@ is_bad a k (Ok (request.DropImport root file path)) asks e is = absurd is
 is_bad a k (Ok (request.Undo root)) asks e is = absurd is
 is_bad a k (Ok (request.Log root)) asks e is = absurd is
 is_bad a k (Ok (request.Recover root)) asks e is = absurd is
+is_bad a k (Ok (request.Migrate root)) asks e is = absurd is
 is_bad a k (Err fault.BadCommandLine) asks e is = asks
 is_bad a k (Err fault.NoMemory) asks e is = tt
 

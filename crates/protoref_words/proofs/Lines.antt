@@ -13,7 +13,7 @@ use Rattle.clap.proofs.FaultLemmas.{stopped_fault}
 use Rattle.clap.proofs.WalkLemmas.{both, walk_stopped}
 use Rattle.clap.proofs.SimpleLemmas.{is_false}
 use Rattle.clap.proofs.OnLiterals.{clap_on_literals}
-use Rattle.protoref_words.specs.Common.{Asked, Command, asked, asked_by, asks_help, bad_line, command_named, commands, help, name_of, taken, compile, lint, rename, delete_field, add_import, drop_import, undo, log, recover, begins_dashed, is_dashed, mark, marked, asked_of, program}
+use Rattle.protoref_words.specs.Common.{Asked, Command, asked, asked_by, asks_help, bad_line, command_named, commands, help, name_of, taken, compile, lint, rename, delete_field, add_import, drop_import, undo, log, recover, begins_dashed, is_dashed, mark, marked, asked_of, program, migrate}
 
 pub simple : is_simple_and_free program ≡ true
 unfolding clap_on_literals
@@ -125,6 +125,7 @@ at_command drop_import n bs = record { fault = faults (built program) (name_of d
 at_command undo n bs = record { fault = faults (built program) (name_of undo) (name_of undo) (leaf undo) entering bs refl refl refl refl refl refl; found = enters (built program) (name_of undo) (name_of undo) (leaf undo) entering bs refl refl }
 at_command log n bs = record { fault = faults (built program) (name_of log) (name_of log) (leaf log) entering bs refl refl refl refl refl refl; found = enters (built program) (name_of log) (name_of log) (leaf log) entering bs refl refl }
 at_command recover n bs = record { fault = faults (built program) (name_of recover) (name_of recover) (leaf recover) entering bs refl refl refl refl refl refl; found = enters (built program) (name_of recover) (name_of recover) (leaf recover) entering bs refl refl }
+at_command migrate n bs = record { fault = faults (built program) (name_of migrate) (name_of migrate) (leaf migrate) entering bs refl refl refl refl refl refl; found = enters (built program) (name_of migrate) (name_of migrate) (leaf migrate) entering bs refl refl }
 
 -- ---- the words behind a command
 
@@ -139,6 +140,7 @@ missing drop_import = refl
 missing undo = refl
 missing log = refl
 missing recover = refl
+missing migrate = refl
 
 short_help : (c : Command) (ts : List Text) → below c (codes "-h" ∷ ts) ≡ kind.DisplayHelp ∷ []
 unfolding clap_on_literals
@@ -151,6 +153,7 @@ short_help drop_import ts = refl
 short_help undo ts = refl
 short_help log ts = refl
 short_help recover ts = refl
+short_help migrate ts = refl
 
 long_help : (c : Command) (ts : List Text) → below c (codes "--help" ∷ ts) ≡ kind.DisplayHelp ∷ []
 unfolding clap_on_literals
@@ -163,6 +166,7 @@ long_help drop_import ts = refl
 long_help undo ts = refl
 long_help log ts = refl
 long_help recover ts = refl
+long_help migrate ts = refl
 
 -- how the texts behind a command end
 abbrev Texts : Command → List Text → Type 0
@@ -187,6 +191,11 @@ recover_texts : (t : Text) (ts : List Text) → Texts recover (t ∷ ts)
 unfolding clap_on_literals
 recover_texts t [] = read refl refl
 recover_texts t (u ∷ us) = refused refl refl
+
+migrate_texts : (t : Text) (ts : List Text) → Texts migrate (t ∷ ts)
+unfolding clap_on_literals
+migrate_texts t [] = read refl refl
+migrate_texts t (u ∷ us) = refused refl refl
 
 delete_texts : (t : Text) (ts : List Text) → Texts delete_field (t ∷ ts)
 unfolding clap_on_literals
@@ -287,6 +296,7 @@ texts drop_import t ts few = drop_texts t ts
 texts undo t ts few = undo_texts t ts
 texts log t ts few = log_texts t ts
 texts recover t ts few = recover_texts t ts
+texts migrate t ts few = migrate_texts t ts
 
 -- ---- the words behind a command
 
@@ -324,6 +334,7 @@ none_taken drop_import = refl
 none_taken undo = refl
 none_taken log = refl
 none_taken recover = refl
+none_taken migrate = refl
 
 either : (a b : Bool) → (a || b) ≡ true → (a ≡ true) ⊎ (b ≡ true)
 either true b e = inl refl
@@ -363,6 +374,7 @@ asked_at drop_import ts = refl
 asked_at undo ts = refl
 asked_at log ts = refl
 asked_at recover ts = refl
+asked_at migrate ts = refl
 
 named : (cs : List Command) (w : Text) (c : Command) → find (λ x. bytes_eq (name_of x) w) cs ≡ Some c → bytes_eq (name_of c) w ≡ true
 named [] w c e = cc

@@ -19,6 +19,7 @@ pub data Command : Type 0 where
   undo : Command
   log : Command
   recover : Command
+  migrate : Command
 
 -- the word that names a command
 abbrev pub name_of : Command → Text
@@ -31,6 +32,7 @@ name_of drop_import = codes "drop-import"
 name_of undo = codes "undo"
 name_of log = codes "log"
 name_of recover = codes "recover"
+name_of migrate = codes "migrate"
 
 -- all commands of the program
 abbrev pub commands : List Command
@@ -43,6 +45,7 @@ commands = compile
     ∷ undo
     ∷ log
     ∷ recover
+    ∷ migrate
     ∷ []
 
 -- the command that a word names; none, where it is the name of none
@@ -110,6 +113,8 @@ pub data Asked : Type 0 where
   log_of : Path → Asked
   -- ROOT is brought back to before the open entry of its journal
   recover_of : Path → Asked
+  -- the journal of ROOT goes over to the second version
+  migrate_of : Path → Asked
   -- nothing, since the line is a bad one
   bad_line : Asked
 
@@ -125,6 +130,7 @@ taken drop_import (root ∷ file ∷ path ∷ []) = drop_import_of root file pat
 taken undo (root ∷ []) = undo_of root
 taken log (root ∷ []) = log_of root
 taken recover (root ∷ []) = recover_of root
+taken migrate (root ∷ []) = migrate_of root
 taken _ _ = bad_line
 
 -- what a command asks for with these words behind it: help, where the first asks for it; else each

@@ -4,7 +4,7 @@ use Rattle.std.specs.Option.{option_map_or}
 use Rattle.std.specs.Str.{bytes_eq}
 use Rattle.clap.specs.Walk.{Row, all_of, first_of}
 use Rattle.proto_faults.specs.Texts.{Text}
-use Rattle.protoref_words.specs.CommandLines.{Asked, Command, bad_line, taken, compile, lint, rename, delete_field, add_import, drop_import, undo, log, recover, name_of}
+use Rattle.protoref_words.specs.CommandLines.{Asked, Command, bad_line, taken, compile, lint, rename, delete_field, add_import, drop_import, undo, log, recover, migrate, name_of}
 
 -- what is asked for with the first text of an argument; nothing, where it has none
 abbrev pub with_text : Text → List Row → (Text → Asked) → Asked
@@ -35,6 +35,7 @@ with_root name rows root = if bytes_eq name (name_of compile) then taken compile
     else if bytes_eq name (name_of undo) then taken undo (root ∷ [])
     else if bytes_eq name (name_of log) then taken log (root ∷ [])
     else if bytes_eq name (name_of recover) then taken recover (root ∷ [])
+    else if bytes_eq name (name_of migrate) then taken migrate (root ∷ [])
     else bad_line
 
 -- what the command with this name and these matches asks for

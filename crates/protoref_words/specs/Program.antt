@@ -5,7 +5,7 @@ use Rattle.clap.specs.Walk.{Rule}
 use Rattle.clap.specs.Simple.{App, Shape, new_rule, new_shape}
 use Rattle.clap.specs.declared.builder.action.ArgAction.TheVariants.{Set, Append}
 use Rattle.proto_faults.specs.Texts.{Text}
-use Rattle.protoref_words.specs.CommandLines.{Command, compile, lint, rename, delete_field, add_import, drop_import, undo, log, recover, commands, name_of}
+use Rattle.protoref_words.specs.CommandLines.{Command, compile, lint, rename, delete_field, add_import, drop_import, undo, log, recover, migrate, commands, name_of}
 use Rattle.protoref_words.specs.declared.commands.Argument.{Argument}
 use Rattle.protoref_words.specs.declared.commands.Argument.TheVariants.{One, Many}
 use Rattle.protoref_words.specs.declared.commands.Words.{Words}
@@ -36,6 +36,7 @@ arguments_of drop_import = root ∷ one (codes "FILE") ∷ one (codes "PATH") �
 arguments_of undo = root ∷ []
 arguments_of log = root ∷ []
 arguments_of recover = root ∷ []
+arguments_of migrate = root ∷ []
 
 -- a command of this name with these arguments
 abbrev pub shape_with : Text → List Rule → Shape

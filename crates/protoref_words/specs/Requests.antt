@@ -9,7 +9,7 @@ use Rattle.proto_faults.specs.Texts.{Text}
 use Rattle.proto_rules.specs.Rules.{identifier, is_chosen}
 use Rattle.proto_rules.specs.declared.rule.Rule.{Rule}
 use Rattle.proto_rules.specs.declared.rule_set.RuleSet.{RuleSet}
-use Rattle.protoref_words.specs.CommandLines.{Asked, names_rule, help, compile_of, lint_of, rename_of, delete_field_of, add_import_of, drop_import_of, undo_of, log_of, recover_of, bad_line}
+use Rattle.protoref_words.specs.CommandLines.{Asked, names_rule, help, compile_of, lint_of, rename_of, delete_field_of, add_import_of, drop_import_of, undo_of, log_of, recover_of, migrate_of, bad_line}
 use Rattle.protoref_words.specs.declared.request.Request.{Request}
 use Rattle.protoref_words.specs.declared.request.Request.TheVariants as request
 use Rattle.protoref_words.specs.declared.request.WordsFault.{WordsFault}
@@ -45,6 +45,7 @@ IsRequest asked (request.DropImport root file path) =
 IsRequest asked (request.Undo root) = asked ≡ undo_of (string_bytes root)
 IsRequest asked (request.Log root) = asked ≡ log_of (string_bytes root)
 IsRequest asked (request.Recover root) = asked ≡ recover_of (string_bytes root)
+IsRequest asked (request.Migrate root) = asked ≡ migrate_of (string_bytes root)
 
 -- the answer to what is asked for: that request; a bad command line exactly where nothing is asked
 -- for; or want of memory, which may come at any words

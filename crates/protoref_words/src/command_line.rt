@@ -120,6 +120,7 @@ fn request_with(
         "undo" => Ok(Request::Undo { root }),
         "log" => Ok(Request::Log { root }),
         "recover" => Ok(Request::Recover { root }),
+        "migrate" => Ok(Request::Migrate { root }),
         _ => Err(WordsFault::BadCommandLine),
     }
 }

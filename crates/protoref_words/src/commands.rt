@@ -122,7 +122,7 @@ const COMMANDS: &[Words] = &[
     },
     Words {
         name: "log",
-        about: "Prints the entries of the journal, with the files that each of them changed",
+        about: "Prints the entries of the journal, with the files that each of them changed, and its edit",
         below: "Example: protoref log schemas",
         arguments: &[ROOT],
     },
@@ -130,6 +130,12 @@ const COMMANDS: &[Words] = &[
         name: "recover",
         about: "Takes back what an edit or an undo left that was cut off in its midst",
         below: "Example: protoref recover schemas",
+        arguments: &[ROOT],
+    },
+    Words {
+        name: "migrate",
+        about: "Writes a journal of the first version anew in the second, as each edit does",
+        below: "Example: protoref migrate schemas",
         arguments: &[ROOT],
     },
 ];

@@ -56,6 +56,10 @@ pub enum Request {
     Recover {
         root: String,
     },
+    /// The journal of a folder moved to the second version.
+    Migrate {
+        root: String,
+    },
 }
 
 /// Why the words ask for nothing. Want of memory is never told as a bad command line.

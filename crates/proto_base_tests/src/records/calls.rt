@@ -1,18 +1,29 @@
 //! The calls of these tests, and what each says of the answer.
 
-use proto_entries::{Change, Entry, one_splice};
+use proto_entries::{Change, Edit, Entry, one_splice};
 use proto_faults::NoMemory;
 use proto_records::{
-    JournalFault, Record, State, entry_text, read_entry, read_records, with_record,
+    JournalFault, Record, State, Version, entry_text, read_entry, read_records, with_record,
 };
 use std::process::Abort;
 
-/// The line of a rename of `b_c` to `d_e` in a file of 48 bytes.
+/// The line of the first version of a rename of `b_c` to `d_e` in a file of 48 bytes.
 pub(crate) const LINE: &str =
     "{\"files\":[{\"after\":48,\"before\":48,\"path\":\"a.proto\",\"splices\":[{\"at\":38,\"new\":\"d_e\",\"old\":\"b_c\"}]}],\"state\":\"done\",\"version\":1}\n";
 
 pub(crate) const OPEN_LINE: &str =
     "{\"files\":[{\"after\":48,\"before\":48,\"path\":\"a.proto\",\"splices\":[{\"at\":38,\"new\":\"d_e\",\"old\":\"b_c\"}]}],\"state\":\"open\",\"version\":1}\n";
+
+/// The line of the second version of that rename, with its edit.
+pub(crate) const SECOND_LINE: &str =
+    "{\"edit\":{\"kind\":\"rename\",\"name\":\"A.b_c\",\"to\":\"d_e\"},\"files\":[{\"after\":48,\"before\":48,\"path\":\"a.proto\",\"splices\":[{\"at\":38,\"new\":\"d_e\",\"old\":\"b_c\"}]}],\"state\":\"done\",\"version\":2}\n";
+
+pub(crate) const OPEN_SECOND_LINE: &str =
+    "{\"edit\":{\"kind\":\"rename\",\"name\":\"A.b_c\",\"to\":\"d_e\"},\"files\":[{\"after\":48,\"before\":48,\"path\":\"a.proto\",\"splices\":[{\"at\":38,\"new\":\"d_e\",\"old\":\"b_c\"}]}],\"state\":\"open\",\"version\":2}\n";
+
+/// The line of the second version where no edit is known.
+pub(crate) const NULL_LINE: &str =
+    "{\"edit\":null,\"files\":[{\"after\":48,\"before\":48,\"path\":\"a.proto\",\"splices\":[{\"at\":38,\"new\":\"d_e\",\"old\":\"b_c\"}]}],\"state\":\"done\",\"version\":2}\n";
 
 /// The entry of one splice in place of `b_c` at byte 38 of a file of 48 bytes.
 pub(crate) fn entry_of<R: AllocGlobal + Abort>(
@@ -33,7 +44,15 @@ pub(crate) fn entry_of<R: AllocGlobal + Abort>(
     Ok(Entry::new(changes).expect(rt, "an entry"))
 }
 
-/// Sees that a journal with one record more is this text.
+/// The rename of `A.b_c` to `d_e`.
+pub(crate) fn edit_of<R: AllocGlobal + Abort>(rt: &R) -> Result<Edit, NoMemory> {
+    Ok(Edit::Rename {
+        name: String::from_str(rt.alloc(), "A.b_c")?,
+        to: String::from_str(rt.alloc(), "d_e")?,
+    })
+}
+
+/// Sees that a journal of the first version with one record more is this text.
 pub(crate) fn expect_longer<R: AllocGlobal + Abort>(
     rt: &R,
     journal: &str,
@@ -41,7 +60,31 @@ pub(crate) fn expect_longer<R: AllocGlobal + Abort>(
     wanted: &str,
 ) -> Result<(), NoMemory> {
     let entry = entry_of(rt, "d_e", 48)?;
-    let longer = with_record(rt.alloc(), journal.as_bytes(), state, &entry)?;
+    let bytes = journal.as_bytes();
+    let longer = with_record(rt.alloc(), Version::First, bytes, state, &entry, None)?;
+    assert!(rt; longer.as_slice() == wanted.as_bytes());
+    Ok(())
+}
+
+/// Sees that a journal of the second version with one record more is this text.
+pub(crate) fn expect_longer_second<R: AllocGlobal + Abort>(
+    rt: &R,
+    journal: &str,
+    state: State,
+    wanted: &str,
+) -> Result<(), NoMemory> {
+    let entry = entry_of(rt, "d_e", 48)?;
+    let edit = edit_of(rt)?;
+    let bytes = journal.as_bytes();
+    assert!(rt; edit.is_notable());
+    let longer = with_record(
+        rt.alloc(),
+        Version::Second,
+        bytes,
+        state,
+        &entry,
+        Some(&edit),
+    )?;
     assert!(rt; longer.as_slice() == wanted.as_bytes());
     Ok(())
 }
@@ -56,7 +99,8 @@ pub(crate) fn expect_fault<R: Abort>(rt: &R, fault: JournalFault, number: u32, n
     assert!(rt; fault.number() == number && fault.name() == name);
 }
 
-/// Whether a line is the text of a record. It then is read as one, and else BadJournal is answered.
+/// Whether a line is the text of a record in the second version. It then is read as one, and else
+/// BadJournal is answered.
 pub(crate) fn is_record<R: AllocGlobal + Abort>(rt: &R, line: &str) -> bool {
     match read_entry(rt.alloc(), line.as_bytes()) {
         Ok(noted) => {
@@ -71,7 +115,38 @@ pub(crate) fn is_record<R: AllocGlobal + Abort>(rt: &R, line: &str) -> bool {
     }
 }
 
-/// Sees that the records have this for their texts, one behind the other.
+/// Whether a line is the text of a record in the first version.
+pub(crate) fn is_first_record<R: AllocGlobal + Abort>(rt: &R, line: &str) -> bool {
+    match read_records(rt.alloc(), line.as_bytes()) {
+        Ok(records) => {
+            expect_first_texts(rt, records.as_slice(), line.as_bytes()).expect(rt, "memory");
+            records.len() == 1
+        }
+        Err(fault) => {
+            expect_fault(rt, fault, 1, "BadJournal");
+            false
+        }
+    }
+}
+
+/// Sees that the records have this for their texts in the first version, one behind the other.
+pub(crate) fn expect_first_texts<R: AllocGlobal + Abort>(
+    rt: &R,
+    records: &[Record],
+    bytes: &[u8],
+) -> Result<(), NoMemory> {
+    let mut texts = Vec::new(rt.alloc());
+    for noted in records {
+        assert!(rt; noted.edit().is_none());
+        let state = noted.state();
+        let line = with_record(rt.alloc(), Version::First, &[], state, noted.entry(), None)?;
+        texts.extend_from_slice(line.as_slice())?;
+    }
+    assert!(rt; texts.as_slice() == bytes);
+    Ok(())
+}
+
+/// Sees that the records have this for their texts in the second version, one behind the other.
 pub(crate) fn expect_texts<R: AllocGlobal + Abort>(
     rt: &R,
     records: &[Record],
@@ -85,8 +160,24 @@ pub(crate) fn expect_texts<R: AllocGlobal + Abort>(
     Ok(())
 }
 
-/// Whether the bytes are a journal. Its records then are read, and else BadJournal is answered.
-pub(crate) fn is_journal<R: AllocGlobal + Abort>(rt: &R, bytes: &[u8]) -> bool {
+/// Whether the bytes are a journal of the first version. Its records
+/// then are read, and else BadJournal is answered.
+pub(crate) fn is_first_journal<R: AllocGlobal + Abort>(rt: &R, bytes: &[u8]) -> bool {
+    match read_records(rt.alloc(), bytes) {
+        Ok(records) => {
+            expect_first_texts(rt, records.as_slice(), bytes).expect(rt, "memory");
+            true
+        }
+        Err(fault) => {
+            expect_fault(rt, fault, 1, "BadJournal");
+            false
+        }
+    }
+}
+
+/// Whether the bytes are a journal of the second version. Its records
+/// then are read, and else BadJournal is answered.
+pub(crate) fn is_second_journal<R: AllocGlobal + Abort>(rt: &R, bytes: &[u8]) -> bool {
     match read_records(rt.alloc(), bytes) {
         Ok(records) => {
             expect_texts(rt, records.as_slice(), bytes).expect(rt, "memory");

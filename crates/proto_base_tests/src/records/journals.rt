@@ -9,9 +9,19 @@ fn no_front_of_a_line_is_a_journal(rt: HostRuntime) {
     let bytes = LINE.as_bytes();
     assert!(rt; bytes.len() == 127);
     for len in 1..127usize {
-        assert!(rt; !is_journal(&rt, bytes.split_at(len).0));
+        assert!(rt; !is_first_journal(&rt, bytes.split_at(len).0));
     }
-    assert!(rt; is_journal(&rt, &[]) && is_journal(&rt, bytes));
+    assert!(rt; is_first_journal(&rt, &[]) && is_first_journal(&rt, bytes));
+}
+
+#[test]
+fn no_front_of_a_line_of_the_second_version_is_a_journal(rt: HostRuntime) {
+    let bytes = SECOND_LINE.as_bytes();
+    assert!(rt; bytes.len() == 178 && NULL_LINE.len() == 139);
+    for len in 1..178usize {
+        assert!(rt; !is_second_journal(&rt, bytes.split_at(len).0));
+    }
+    assert!(rt; is_second_journal(&rt, bytes) && is_second_journal(&rt, NULL_LINE.as_bytes()));
 }
 
 // Whether the line with this byte at this place is a record's text, by the rules of docs/journal.md: the path may begin with
@@ -33,7 +43,7 @@ fn is_exact<R: AllocGlobal + Abort>(rt: &R, place: usize, byte: u8) -> bool {
     if let Some(there) = bytes.get_mut(place) {
         *there = byte;
     }
-    is_journal(rt, bytes.as_slice()) == is_spelled(place, byte)
+    is_first_journal(rt, bytes.as_slice()) == is_spelled(place, byte)
 }
 
 #[test]
@@ -51,6 +61,48 @@ fn every_change_of_one_byte(rt: HostRuntime) {
     assert!(rt; spelled == 127 + 633);
 }
 
+// Whether the line of the second version with this byte at this place is a record's text: the words of the name
+// and the new name may have other letters, and what stands behind is that of the first version, 51 bytes on.
+fn is_spelled_second(place: usize, byte: u8) -> bool {
+    match place {
+        33 | 35 | 46 => matches!(byte, b'a'..=b'z' | b'A'..=b'Z' | b'_'),
+        34 | 36 => matches!(byte, b'a'..=b'z' | b'A'..=b'Z' | b'0'..=b'9' | b'_' | b'.'),
+        37 | 47 | 48 => matches!(byte, b'a'..=b'z' | b'A'..=b'Z' | b'0'..=b'9' | b'_'),
+        93 | 119 | 120 | 129..=131 | 141..=143 => is_spelled(place - 51, byte),
+        _ => SECOND_LINE.as_bytes().get(place) == Some(&byte),
+    }
+}
+
+// Whether the line of the second version with this byte at this place is read exactly where it is a record's text.
+fn is_exact_second<R: AllocGlobal + Abort>(rt: &R, place: usize, byte: u8) -> bool {
+    let mut bytes = Vec::from_slice(rt.alloc(), SECOND_LINE.as_bytes()).expect(rt, "memory");
+    if let Some(there) = bytes.get_mut(place) {
+        *there = byte;
+    }
+    is_second_journal(rt, bytes.as_slice()) == is_spelled_second(place, byte)
+}
+
+#[test]
+fn every_change_of_one_byte_of_the_second_version(rt: HostRuntime) {
+    for place in 0..178usize {
+        for byte in 0..=255u8 {
+            assert!(rt; is_exact_second(&rt, place, byte), "{byte} at {place}");
+        }
+    }
+}
+
+// Two texts one behind the other of the second version, and whether they are a journal.
+const SECOND_PAIRS: &[(&str, &str, bool)] = &[
+    (SECOND_LINE, SECOND_LINE, true),
+    (SECOND_LINE, NULL_LINE, true),
+    (NULL_LINE, OPEN_SECOND_LINE, true),
+    (OPEN_SECOND_LINE, "", true),
+    (OPEN_SECOND_LINE, SECOND_LINE, false),
+    (SECOND_LINE, LINE, false),
+    (NULL_LINE, LINE, false),
+    (NULL_LINE, OPEN_LINE, false),
+];
+
 // Two texts one behind the other, and whether they are a journal.
 const PAIRS: &[(&str, &str, bool)] = &[
     (LINE, LINE, true),
@@ -62,13 +114,25 @@ const PAIRS: &[(&str, &str, bool)] = &[
     ("\n", LINE, false),
     (LINE, "x", false),
     (LINE, " ", false),
+    (LINE, SECOND_LINE, false),
+    (LINE, NULL_LINE, false),
+    (LINE, OPEN_SECOND_LINE, false),
 ];
 
 #[test]
 fn several_lines(rt: HostRuntime) {
     for (first, second, is_read) in PAIRS {
         let journal = joined(&rt, first, second);
-        let is_so = is_journal(&rt, journal.as_bytes()) == *is_read;
+        let is_so = is_first_journal(&rt, journal.as_bytes()) == *is_read;
+        expect(&rt, is_so, journal.as_str());
+    }
+}
+
+#[test]
+fn several_lines_of_the_second_version(rt: HostRuntime) {
+    for (first, second, is_read) in SECOND_PAIRS {
+        let journal = joined(&rt, first, second);
+        let is_so = is_second_journal(&rt, journal.as_bytes()) == *is_read;
         expect(&rt, is_so, journal.as_str());
     }
 }
@@ -88,6 +152,8 @@ fn the_last_record(rt: HostRuntime) {
     expect_last(&rt, "", OPEN_LINE, true);
     expect_last(&rt, LINE, LINE, false);
     expect_last(&rt, LINE, OPEN_LINE, true);
+    expect_last(&rt, "", SECOND_LINE, false);
+    expect_last(&rt, NULL_LINE, OPEN_SECOND_LINE, true);
 }
 
 #[test]
@@ -95,6 +161,9 @@ fn one_record_more(rt: HostRuntime) {
     let both = joined(&rt, LINE, OPEN_LINE);
     expect_longer(&rt, LINE, State::Open, both.as_str()).expect(&rt, "memory");
     expect_longer(&rt, "", State::Done, LINE).expect(&rt, "memory");
+    let second = joined(&rt, NULL_LINE, OPEN_SECOND_LINE);
+    expect_longer_second(&rt, NULL_LINE, State::Open, second.as_str()).expect(&rt, "memory");
+    expect_longer_second(&rt, "", State::Done, SECOND_LINE).expect(&rt, "memory");
 }
 
 // So many copies of the line.
@@ -115,5 +184,5 @@ fn the_largest_journal(rt: HostRuntime) {
     let records = read_records(rt.alloc(), bytes.as_slice()).expect(&rt, "a journal");
     assert!(rt; records.len() == 132_104);
     let longer = copies(&rt, 132_105);
-    assert!(rt; !is_journal(&rt, longer.as_slice()));
+    assert!(rt; !is_first_journal(&rt, longer.as_slice()));
 }

@@ -1,27 +1,31 @@
 //! Lines: what is written for a record, and which lines are read.
 
 use super::calls::*;
+use proto_entries::Edit;
 use proto_records::{Record, State, entry_text};
 use std::process::Abort;
 
-// The line of one splice.
+// The line of one splice, of which no edit is known.
 fn written<R: AllocGlobal + Abort>(rt: &R, new: &str, after: u32) -> String {
-    let noted = Record {
-        state: State::Done,
-        entry: entry_of(rt, new, after).expect(rt, "memory"),
-    };
+    let entry = entry_of(rt, new, after).expect(rt, "memory");
+    let noted = Record::new(State::Done, entry, None).expect(rt, "a record");
     entry_text(rt.alloc(), &noted).expect(rt, "memory")
 }
 
 #[test]
 fn a_rename_is_written(rt: HostRuntime) {
-    assert!(rt; written(&rt, "d_e", 48).as_str() == LINE);
+    assert!(rt; written(&rt, "d_e", 48).as_str() == NULL_LINE);
+    let entry = entry_of(&rt, "d_e", 48).expect(&rt, "memory");
+    let edit = edit_of(&rt).expect(&rt, "memory");
+    let noted = Record::new(State::Done, entry, Some(edit)).expect(&rt, "a record");
+    let text = entry_text(rt.alloc(), &noted).expect(&rt, "memory");
+    assert!(rt; text.as_str() == SECOND_LINE);
 }
 
 // The line of a new text, which has this for its part, and is read again.
 fn expect_written<R: AllocGlobal + Abort>(rt: &R, new: &str, after: u32, part: &str) {
     let line = format!(in rt.alloc();
-        "{{\"files\":[{{\"after\":{after},\"before\":48,\"path\":\"a.proto\",\"splices\":[{{\"at\":38,\"new\":\"{part}\",\"old\":\"b_c\"}}]}}],\"state\":\"done\",\"version\":1}}\n"
+        "{{\"edit\":null,\"files\":[{{\"after\":{after},\"before\":48,\"path\":\"a.proto\",\"splices\":[{{\"at\":38,\"new\":\"{part}\",\"old\":\"b_c\"}}]}}],\"state\":\"done\",\"version\":2}}\n"
     ).expect(rt, "memory");
     let is_so = written(rt, new, after).as_str() == line.as_str() && is_record(rt, line.as_str());
     expect(rt, is_so, part);
@@ -48,14 +52,36 @@ fn texts_are_escaped(rt: HostRuntime) {
     }
 }
 
-// Whether the lines are read that have the second text of a row in place of the first.
-fn expect_read<R: AllocGlobal + Abort>(rt: &R, rows: &[(&str, &str)], is_read: bool) {
+// The line with a text in place of its first.
+fn replaced<R: AllocGlobal + Abort>(rt: &R, line: &str, from: &str, to: &str) -> String {
+    let (front, back) = line.split_once(from).expect(rt, "a part of the line");
+    format!(in rt.alloc(); "{front}{to}{back}").expect(rt, "memory")
+}
+
+// Whether the lines are read that have the second text of a row in place of the first: that of the first version.
+fn expect_first<R: AllocGlobal + Abort>(rt: &R, rows: &[(&str, &str)], is_read: bool) {
     for (from, to) in rows {
-        let (front, back) = LINE.split_once(from).expect(rt, "a part of the line");
-        let line = format!(in rt.alloc(); "{front}{to}{back}").expect(rt, "memory");
+        let line = replaced(rt, LINE, from, to);
+        expect(rt, is_first_record(rt, line.as_str()) == is_read, to);
+    }
+}
+
+// The same of the second version.
+fn expect_second<R: AllocGlobal + Abort>(rt: &R, rows: &[(&str, &str)], is_read: bool) {
+    for (from, to) in rows {
+        let line = replaced(rt, SECOND_LINE, from, to);
         expect(rt, is_record(rt, line.as_str()) == is_read, to);
     }
 }
+
+// The same of both.
+fn expect_read<R: AllocGlobal + Abort>(rt: &R, rows: &[(&str, &str)], is_read: bool) {
+    expect_first(rt, rows, is_read);
+    expect_second(rt, rows, is_read);
+}
+
+// The new text of the line, which in the second version is that of the edit too.
+const NEW_TEXT: &str = "new\":\"d_e";
 
 const READ: &[(&str, &str)] = &[
     ("38", "38"),
@@ -65,9 +91,9 @@ const READ: &[(&str, &str)] = &[
     ("done", "open"),
     ("48,\"before\":48", "1048576,\"before\":1048576"),
     ("a.proto", "a/b-1/_.x.proto"),
-    ("d_e", "d\\\"e"),
-    ("d_e", "\\\\\\n\\u0001"),
-    ("d_e", "é_"),
+    (NEW_TEXT, "new\":\"d\\\"e"),
+    (NEW_TEXT, "new\":\"\\\\\\n\\u0001"),
+    (NEW_TEXT, "new\":\"é_"),
 ];
 
 #[test]
@@ -88,11 +114,38 @@ const NUMBERS: &[(&str, &str)] = &[
     ("38", "\"38\""),
 ];
 
-const VERSIONS_AND_STATES: &[(&str, &str)] = &[
+const FIRST_VERSIONS: &[(&str, &str)] = &[
     ("\"version\":1", "\"version\":2"),
+    ("\"version\":1", "\"version\":3"),
     ("\"version\":1", "\"version\":0"),
     ("\"version\":1", "\"version\":1.0"),
     ("\"version\":1", "\"version\":true"),
+    ("\"version\":1", "\"version\":1,\"x\":0"),
+    (",\"version\":1", ""),
+    ("{\"files\"", " {\"files\""),
+    ("{\"files\"", "\u{feff}{\"files\""),
+    ("{\"files\"", "{\"edit\":null,\"files\""),
+    (
+        "{\"files\"",
+        "{\"edit\":{\"kind\":\"rename\",\"name\":\"A.b_c\",\"to\":\"d_e\"},\"files\"",
+    ),
+];
+
+const SECOND_VERSIONS: &[(&str, &str)] = &[
+    ("\"version\":2", "\"version\":1"),
+    ("\"version\":2", "\"version\":3"),
+    ("\"version\":2", "\"version\":0"),
+    ("\"version\":2", "\"version\":2.0"),
+    ("\"version\":2", "\"version\":true"),
+    ("\"version\":2", "\"version\":2,\"x\":0"),
+    (",\"version\":2", ""),
+    ("{\"edit\"", " {\"edit\""),
+    ("{\"edit\"", "\u{feff}{\"edit\""),
+    (EDIT, ""),
+    ("{\"edit\"", "{\"edit\":null,\"edit\""),
+];
+
+const STATES: &[(&str, &str)] = &[
     ("\"done\"", "\"Done\""),
     ("\"done\"", "\"\""),
     ("\"done\"", "null"),
@@ -104,11 +157,12 @@ const VERSIONS_AND_STATES: &[(&str, &str)] = &[
 #[test]
 fn numbers_versions_and_states(rt: HostRuntime) {
     expect_read(&rt, NUMBERS, false);
-    expect_read(&rt, VERSIONS_AND_STATES, false);
+    expect_first(&rt, FIRST_VERSIONS, false);
+    expect_second(&rt, SECOND_VERSIONS, false);
+    expect_read(&rt, STATES, false);
 }
 
 const SPACES: &[(&str, &str)] = &[
-    ("{\"files\"", " {\"files\""),
     (":38", ": 38"),
     (",\"new\"", ", \"new\""),
     ("}\n", "} \n"),
@@ -117,7 +171,6 @@ const SPACES: &[(&str, &str)] = &[
     ("}\n", "}\n\n"),
     ("}\n", "}\n "),
     ("[{\"at\"", "[\n{\"at\""),
-    ("{\"files\"", "\u{feff}{\"files\""),
 ];
 
 const OTHER_KEYS: &[(&str, &str)] = &[
@@ -129,9 +182,6 @@ const OTHER_KEYS: &[(&str, &str)] = &[
         "\"old\":\"b_c\",\"new\":\"d_e\"",
     ),
     ("\"after\":48,\"before\":48", "\"before\":48,\"after\":48"),
-    ("\"version\":1", "\"version\":1,\"x\":0"),
-    ("{\"files\"", "{\"edit\":null,\"files\""),
-    (",\"version\":1", ""),
     ("\"state\":\"done\",", ""),
     ("\"at\"", "\"\\u0061t\""),
 ];
@@ -143,21 +193,21 @@ fn spaces_and_other_keys(rt: HostRuntime) {
 }
 
 const TEXTS: &[(&str, &str)] = &[
-    ("d_e", "d\\u005fe"),
-    ("d_e", "\\/_e"),
-    ("d_e", "\\u001F_e"),
-    ("d_e", "\\u0009_e"),
-    ("d_e", "d\te"),
-    ("d_e", "\\u00e9_"),
-    ("d_e", "\\ud83d"),
-    ("d_e", "d\"e"),
+    (NEW_TEXT, "new\":\"d\\u005fe"),
+    (NEW_TEXT, "new\":\"\\/_e"),
+    (NEW_TEXT, "new\":\"\\u001F_e"),
+    (NEW_TEXT, "new\":\"\\u0009_e"),
+    (NEW_TEXT, "new\":\"d\te"),
+    (NEW_TEXT, "new\":\"\\u00e9_"),
+    (NEW_TEXT, "new\":\"\\ud83d"),
+    (NEW_TEXT, "new\":\"d\"e"),
     ("a.proto", "a\\u002eproto"),
     ("done", "\\u0064one"),
 ];
 
 const NO_CHANGES: &[(&str, &str)] = &[
-    ("d_e", "b_c"),
-    ("d_e", "d_ef"),
+    (NEW_TEXT, "new\":\"b_c"),
+    (NEW_TEXT, "new\":\"d_ef"),
     ("38", "46"),
     ("[{\"at\":38,\"new\":\"d_e\",\"old\":\"b_c\"}]", "[]"),
     ("[{\"at\":38,\"new\":\"d_e\",\"old\":\"b_c\"}]", "{}"),
@@ -256,20 +306,95 @@ fn splices_are_in_order(rt: HostRuntime) {
     expect_read(&rt, NO_SPLICES, false);
 }
 
-const NO_OBJECTS: &[(&str, &str)] = &[
-    (LINE, ""),
-    (LINE, "\n"),
-    (LINE, "null\n"),
-    (LINE, "[]\n"),
-    (LINE, "{}\n"),
-    (LINE, "1\n"),
-    (LINE, "\"\"\n"),
-    (LINE, "{\n"),
-    (LINE, "}\n"),
-    (LINE, "x"),
+// What the whole line is in its place.
+const NO_OBJECTS: &[&str] = &[
+    "", "\n", "null\n", "[]\n", "{}\n", "1\n", "\"\"\n", "{\n", "}\n", "x",
 ];
 
 #[test]
 fn what_is_no_object(rt: HostRuntime) {
-    expect_read(&rt, NO_OBJECTS, false);
+    for line in NO_OBJECTS {
+        expect(
+            &rt,
+            !is_first_record(&rt, line) && !is_record(&rt, line),
+            line,
+        );
+    }
+}
+
+// The edit of the line of the second version.
+const EDIT: &str = "\"edit\":{\"kind\":\"rename\",\"name\":\"A.b_c\",\"to\":\"d_e\"},";
+
+// Edits that a record tells.
+const EDITS: &[&str] = &[
+    "null",
+    r#"{"kind":"rename","name":"A.b_c","to":"message"}"#,
+    r#"{"kind":"rename","name":"X.y","to":"_9"}"#,
+    r#"{"kind":"delete-field","name":"A.b_c"}"#,
+    r#"{"kind":"delete-field","name":"a"}"#,
+    r#"{"file":"a.proto","kind":"add-import","path":"p/b.proto"}"#,
+    r#"{"file":"a.proto","kind":"drop-import","path":"a.proto"}"#,
+];
+
+// Edits that none tells.
+const NO_EDITS: &[&str] = &[
+    r#"{"name":"A.b_c","kind":"rename","to":"d_e"}"#,
+    r#"{"kind":"rename","to":"d_e","name":"A.b_c"}"#,
+    r#"{"kind":"rename","name":"","to":"d_e"}"#,
+    r#"{"kind":"rename","name":".A.b_c","to":"d_e"}"#,
+    r#"{"kind":"rename","name":"A.b_c.","to":"d_e"}"#,
+    r#"{"kind":"rename","name":"A..b_c","to":"d_e"}"#,
+    r#"{"kind":"rename","name":"1Entry.b","to":"d_e"}"#,
+    r#"{"kind":"rename","name":"A.b_c","to":"a.b"}"#,
+    r#"{"kind":"rename","name":"A.b_c","to":""}"#,
+    r#"{"kind":"rename","name":"A.b_c","to":"é"}"#,
+    r#"{"kind":"rename","name":"A.b\u005fc","to":"d_e"}"#,
+    r#"{"kind":"rename","name":"A.b_c"}"#,
+    r#"{"kind":"rename","name":"A.b_c","to":null}"#,
+    r#"{"kind":"Rename","name":"A.b_c","to":"d_e"}"#,
+    r#"{"kind":"delete-field","name":"A.b_c","to":"d_e"}"#,
+    r#"{"kind":"delete-field","name":""}"#,
+    r#"{"file":"a.proto","kind":"add-import","path":"b"}"#,
+    r#"{"file":"b","kind":"add-import","path":"a.proto"}"#,
+    r#"{"file":"/a.proto","kind":"drop-import","path":"a.proto"}"#,
+    r#"{"file":"a.proto","kind":"drop-import"}"#,
+    r#"{"kind":"add-import","file":"a.proto","path":"a.proto"}"#,
+    r#"{"file":"a.proto","kind":"delete-field","path":"a.proto"}"#,
+    r#"{}"#,
+    r#"[]"#,
+    r#""rename""#,
+    r#"false"#,
+];
+
+// The line of the second version with another edit.
+fn with_edit<R: AllocGlobal + Abort>(rt: &R, edit: &str) -> String {
+    let to = format!(in rt.alloc(); "\"edit\":{edit},").expect(rt, "memory");
+    replaced(rt, SECOND_LINE, EDIT, to.as_str())
+}
+
+#[test]
+fn edits_are_told(rt: HostRuntime) {
+    for edit in EDITS {
+        expect(&rt, is_record(&rt, with_edit(&rt, edit).as_str()), edit);
+    }
+    for edit in NO_EDITS {
+        expect(&rt, !is_record(&rt, with_edit(&rt, edit).as_str()), edit);
+    }
+}
+
+// Whether there is a record of this rename.
+fn is_told<R: AllocGlobal + Abort>(rt: &R, name: &str, to: &str) -> bool {
+    let entry = entry_of(rt, "d_e", 48).expect(rt, "memory");
+    let edit = Edit::Rename {
+        name: String::from_str(rt.alloc(), name).expect(rt, "memory"),
+        to: String::from_str(rt.alloc(), to).expect(rt, "memory"),
+    };
+    Record::new(State::Done, entry, Some(edit)).is_some()
+}
+
+#[test]
+fn records_of_edits(rt: HostRuntime) {
+    assert!(rt; is_told(&rt, "A.b_c", "d_e") && is_told(&rt, "X.y", "message"));
+    assert!(rt; !is_told(&rt, ".A.b_c", "d_e") && !is_told(&rt, "", "d_e"));
+    assert!(rt; !is_told(&rt, "A.b_c", "a.b") && !is_told(&rt, "1Entry.b", "d_e"));
 }

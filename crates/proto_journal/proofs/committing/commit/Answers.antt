@@ -1,11 +1,11 @@
-use Rattle.std.proofs.Common.{ℕ, List, refl, sym, ap, ◌∙◌, subst, Option}
+use Rattle.std.proofs.Common.{ℕ, List, refl, sym, ap, ◌∙◌, subst, Option, Some}
 use Rattle.std.proofs.lemmas.Result.{err_from_is_err_and}
 use Rattle.proto_files.specs.GivenFiles.{FileOf, paths_of}
-use Rattle.proto_entries.specs.Entries.{ChangeOf}
+use Rattle.proto_entries.proofs.Common.{ChangeOf, Asked}
 use Rattle.proto_edit.specs.Answers.{asked}
-use Rattle.proto_records.specs.Journals.{done, opened}
-use Rattle.proto_store.specs.Stores.{Held, HoldsFiles, HoldsJournal}
-use Rattle.proto_journal.specs.Written.{AddsTo, Passes}
+use Rattle.proto_records.proofs.Common.{done, opened, Over}
+use Rattle.proto_store.specs.Stores.{Held, HoldsFiles}
+use Rattle.proto_journal.specs.Written.{AddsTo, Passes, IsReadyText}
 use Rattle.proto_journal.proofs.Committed.{commit_cut, committed, counts_unprepared, not_ready, unprepared}
 use Rattle.proto_journal.proofs.Holdings.{passes_from, through_from}
 use Rattle.proto_journal.proofs.PutPaths.{step_paths}
@@ -14,15 +14,15 @@ use Rattle.proto_journal.proofs.committing.commit.Goals as goal
 pub returns-in_err-journal-clause-outcome : goal.returns-in_err-journal-clause-outcome
 returns-in_err-journal-clause-outcome g c =
     let p = err_from_is_err_and c.from_residual.result c.from_residual.ensures.1 in
-    rw (p.1, p.2) (not_ready (asked c.args.edit) c.args.workspace.now (g.S.Store.holds c.args.store.now) (g.S.Store.holds c.ready_journal.new.store) _ c.ready_journal.ensures.same
+    rw (p.1, p.2) (not_ready (asked c.args.edit) c.args.workspace.now (g.S.Store.holds c.args.store.now) (g.S.Store.holds c.ready_text.new.store) _ c.ready_text.ensures.same
     c.in_err-journal.ensures.outcome)
 
 pub returns-in_err-made-clause-outcome : goal.returns-in_err-made-clause-outcome
 returns-in_err-made-clause-outcome g c =
     let old : Option Held = g.S.Store.holds c.args.store.now in
-    let there : HoldsJournal old c.as_slice.result.now = subst (λ (t : List ℕ). HoldsJournal old t) (sym c.as_slice.ensures.value) c.in_ok-journal.ensures.bytes in
+    let there : Over old (IsReadyText c.as_slice.result.now) = subst (λ (t : List ℕ). Over old (IsReadyText t)) (sym c.as_slice.ensures.value) c.in_ok-journal.ensures.text in
     let p = err_from_is_err_and c.from_residual-in_err-made.result c.from_residual-in_err-made.ensures.1 in
-    rw (p.1, p.2) (unprepared (asked c.args.edit) c.args.workspace.now old (g.S.Store.holds c.ready_journal.new.store) c.as_slice.result.now _ c.ready_journal.ensures.same
+    rw (p.1, p.2) (unprepared (asked c.args.edit) c.args.workspace.now old (g.S.Store.holds c.ready_text.new.store) c.as_slice.result.now _ c.ready_text.ensures.same
     c.in_ok-journal.ensures.outcome there c.in_err-made.ensures.err)
 
 pub write_through-requires-clause-paths : goal.write_through-requires-clause-paths
@@ -32,23 +32,24 @@ write_through-requires-clause-paths g c =
 
 pub write_through-requires-clause-files : goal.write_through-requires-clause-files
 write_through-requires-clause-files g c =
-    subst (λ (files : List FileOf). HoldsFiles (g.S.Store.holds c.ready_journal.new.store) files) (sym c.files.ensures.files)
-    (subst (λ (h : Option Held). HoldsFiles h c.args.workspace.now) (sym c.ready_journal.ensures.same) c.requires.loaded)
+    subst (λ (files : List FileOf). HoldsFiles (g.S.Store.holds c.ready_text.new.store) files) (sym c.files.ensures.files)
+    (subst (λ (h : Option Held). HoldsFiles h c.args.workspace.now) (sym c.ready_text.ensures.same) c.requires.loaded)
 
 pub returns-clause-outcome : goal.returns-clause-outcome
 returns-clause-outcome g c =
     let old : Option Held = g.S.Store.holds c.args.store.now in
     let journal : List ℕ = c.as_slice.result.now in
     let entry : List ChangeOf = c.in_ok-made.made.entry in
-    let there : HoldsJournal old journal = subst (λ (t : List ℕ). HoldsJournal old t) (sym c.as_slice.ensures.value) c.in_ok-journal.ensures.bytes in
-    let first : AddsTo journal (opened entry) c.as_slice-first.result.now = subst (λ (t : List ℕ). AddsTo journal (opened entry) t) (sym c.as_slice-first.ensures.value) c.in_ok-made.ensures.first in
-    let last : AddsTo journal (done entry) c.as_slice-last.result.now = subst (λ (t : List ℕ). AddsTo journal (done entry) t) (sym c.as_slice-last.ensures.value) c.in_ok-made.ensures.last in
+    let e : Asked = asked c.args.edit in
+    let there : Over old (IsReadyText journal) = subst (λ (t : List ℕ). Over old (IsReadyText t)) (sym c.as_slice.ensures.value) c.in_ok-journal.ensures.text in
+    let first : AddsTo journal (opened (Some e) entry) c.as_slice-first.result.now = subst (λ (t : List ℕ). AddsTo journal (opened (Some e) entry) t) (sym c.as_slice-first.ensures.value) c.in_ok-made.ensures.first in
+    let last : AddsTo journal (done (Some e) entry) c.as_slice-last.result.now = subst (λ (t : List ℕ). AddsTo journal (done (Some e) entry) t) (sym c.as_slice-last.ensures.value) c.in_ok-made.ensures.last in
     let passes : Passes c.args.workspace.now c.in_ok-made.made.next c.as_slice-first.result.now c.as_slice-last.result.now old (g.S.Store.holds c.write_through.new.store) =
-    passes_from c.files.result.now c.args.workspace.now c.files-2.result.now c.in_ok-made.made.next c.as_slice-first.result.now c.as_slice-last.result.now (g.S.Store.holds c.ready_journal.new.store) old
-    (g.S.Store.holds c.write_through.new.store) c.files.ensures.files c.files-2.ensures.files c.ready_journal.ensures.same c.in-Err-Failed.ensures.err in (
+    passes_from c.files.result.now c.args.workspace.now c.files-2.result.now c.in_ok-made.made.next c.as_slice-first.result.now c.as_slice-last.result.now (g.S.Store.holds c.ready_text.new.store) old
+    (g.S.Store.holds c.write_through.new.store) c.files.ensures.files c.files-2.ensures.files c.ready_text.ensures.same c.in-Err-Failed.ensures.err in (
       refl,
-      commit_cut journal c.as_slice-first.result.now c.as_slice-last.result.now entry first last c.args.workspace.now c.in_ok-made.made.next (asked c.args.edit) c.in_ok-made.ensures.step old
-          (g.S.Store.holds c.write_through.new.store) c.in_ok-journal.ensures.outcome there passes,
+      commit_cut e journal c.as_slice-first.result.now c.as_slice-last.result.now entry first last c.args.workspace.now c.in_ok-made.made.next c.in_ok-made.ensures.step old
+          (g.S.Store.holds c.write_through.new.store) there passes,
     )
 
 pub returns-in-Ok-clause-outcome : goal.returns-in-Ok-clause-outcome
@@ -56,13 +57,14 @@ returns-in-Ok-clause-outcome g c =
     let old : Option Held = g.S.Store.holds c.args.store.now in
     let journal : List ℕ = c.as_slice.result.now in
     let entry : List ChangeOf = c.in_ok-made.made.entry in
-    let there : HoldsJournal old journal = subst (λ (t : List ℕ). HoldsJournal old t) (sym c.as_slice.ensures.value) c.in_ok-journal.ensures.bytes in
-    let first : AddsTo journal (opened entry) c.as_slice-first.result.now = subst (λ (t : List ℕ). AddsTo journal (opened entry) t) (sym c.as_slice-first.ensures.value) c.in_ok-made.ensures.first in
-    let last : AddsTo journal (done entry) c.as_slice-last.result.now = subst (λ (t : List ℕ). AddsTo journal (done entry) t) (sym c.as_slice-last.ensures.value) c.in_ok-made.ensures.last in
-    rw c.replace.ensures.after (committed journal c.as_slice-first.result.now c.as_slice-last.result.now entry first last c.args.workspace.now c.in_ok-made.made.next (asked c.args.edit) c.in_ok-made.ensures.step old
-    (g.S.Store.holds c.write_through.new.store) c.in_ok-journal.ensures.outcome there
-    (through_from c.files-2.result.now c.in_ok-made.made.next c.as_slice-last.result.now (g.S.Store.holds c.ready_journal.new.store) old (g.S.Store.holds c.write_through.new.store)
-    c.files-2.ensures.files c.ready_journal.ensures.same c.in-Ok.ensures.ok))
+    let e : Asked = asked c.args.edit in
+    let there : Over old (IsReadyText journal) = subst (λ (t : List ℕ). Over old (IsReadyText t)) (sym c.as_slice.ensures.value) c.in_ok-journal.ensures.text in
+    let first : AddsTo journal (opened (Some e) entry) c.as_slice-first.result.now = subst (λ (t : List ℕ). AddsTo journal (opened (Some e) entry) t) (sym c.as_slice-first.ensures.value) c.in_ok-made.ensures.first in
+    let last : AddsTo journal (done (Some e) entry) c.as_slice-last.result.now = subst (λ (t : List ℕ). AddsTo journal (done (Some e) entry) t) (sym c.as_slice-last.ensures.value) c.in_ok-made.ensures.last in
+    rw c.replace.ensures.after (committed e journal c.as_slice-first.result.now c.as_slice-last.result.now entry first last c.args.workspace.now c.in_ok-made.made.next c.in_ok-made.ensures.step old
+    (g.S.Store.holds c.write_through.new.store) there
+    (through_from c.files-2.result.now c.in_ok-made.made.next c.as_slice-last.result.now (g.S.Store.holds c.ready_text.new.store) old (g.S.Store.holds c.write_through.new.store)
+    c.files-2.ensures.files c.ready_text.ensures.same c.in-Ok.ensures.ok))
 
 pub returns-in_err-journal-clause-count : goal.returns-in_err-journal-clause-count
 returns-in_err-journal-clause-count g c =
@@ -72,5 +74,5 @@ returns-in_err-journal-clause-count g c =
 pub returns-in_err-made-clause-count : goal.returns-in_err-made-clause-count
 returns-in_err-made-clause-count g c =
     let p = err_from_is_err_and c.from_residual-in_err-made.result c.from_residual-in_err-made.ensures.1 in
-    rw (p.1, p.2) (counts_unprepared (g.S.Store.failure_count c.args.store.now) (g.S.Store.failure_count c.ready_journal.new.store) c.args.workspace.now (asked c.args.edit) c.as_slice.result.now _
+    rw (p.1, p.2) (counts_unprepared (g.S.Store.failure_count c.args.store.now) (g.S.Store.failure_count c.ready_text.new.store) c.args.workspace.now (asked c.args.edit) c.as_slice.result.now _
     c.in_ok-journal.ensures.count c.in_err-made.ensures.err)

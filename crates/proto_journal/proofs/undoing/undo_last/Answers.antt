@@ -1,7 +1,10 @@
 use Rattle.std.proofs.Common.{ℕ, List, refl, sym, ap, ◌∙◌, subst, Option}
 use Rattle.std.proofs.lemmas.Result.{err_from_is_err_and}
 use Rattle.proto_files.specs.GivenFiles.{FileOf, paths_of}
-use Rattle.proto_entries.specs.Entries.{ChangeOf}
+use Rattle.proto_entries.proofs.Common.{Asked, ChangeOf}
+use Rattle.proto_records.specs.declared.record.Version.{Version}
+use Rattle.proto_records.proofs.Common.{done}
+use Rattle.proto_journal.proofs.Grown.{last_record}
 use Rattle.proto_store.specs.Stores.{Held, HoldsFiles, HoldsJournal}
 use Rattle.proto_journal.specs.Written.{Passes, Reopens}
 use Rattle.proto_journal.proofs.Holdings.{passes_from, through_from}
@@ -9,24 +12,28 @@ use Rattle.proto_journal.proofs.PutPaths.{undo_paths}
 use Rattle.proto_journal.proofs.Undone.{counts_no_entry, counts_stale, no_entry, stale, undo_cut, undone}
 use Rattle.proto_journal.proofs.undoing.undo_last.Goals as goal
 
-pub returns-in_err-entry-clause-outcome : goal.returns-in_err-entry-clause-outcome
-returns-in_err-entry-clause-outcome g c =
+pub returns-in_err-found-clause-outcome : goal.returns-in_err-found-clause-outcome
+returns-in_err-found-clause-outcome g c =
     let old : Option Held = g.S.Store.holds c.args.store.now in
     let there : HoldsJournal old c.as_slice-text.result.now = subst (λ (t : List ℕ). HoldsJournal old t) (sym c.as_slice-text.ensures.value) c.in-Ok.ensures.bytes in
     let p = err_from_is_err_and c.from_residual.result c.from_residual.ensures.1 in
-    rw (p.1, p.2) (no_entry c.args.workspace.now old (g.S.Store.holds c.read_journal.new.self) c.as_slice-text.result.now _ c.read_journal.ensures.same there c.in_err-entry.ensures)
+    rw (p.1, p.2) (no_entry c.args.workspace.now old (g.S.Store.holds c.read_journal.new.self) c.as_slice-text.result.now _ c.read_journal.ensures.same there c.in_err-found.ensures)
 
 pub returns-in_err-next-clause-outcome : goal.returns-in_err-next-clause-outcome
 returns-in_err-next-clause-outcome g c =
     let old : Option Held = g.S.Store.holds c.args.store.now in
     let there : HoldsJournal old c.as_slice-text.result.now = subst (λ (t : List ℕ). HoldsJournal old t) (sym c.as_slice-text.ensures.value) c.in-Ok.ensures.bytes in
     let p = err_from_is_err_and c.from_residual-in_err-next.result c.from_residual-in_err-next.ensures.1 in
-    rw (p.1, p.2) (stale c.args.workspace.now old (g.S.Store.holds c.read_journal.new.self) c.as_slice-text.result.now c.in_ok-entry.entry _ c.read_journal.ensures.same there c.in_ok-entry.ensures
+    rw (p.1, p.2) (stale c.args.workspace.now old (g.S.Store.holds c.read_journal.new.self) c.as_slice-text.result.now c.in_ok-found.found.0 c.in_ok-found.found.1 _ c.read_journal.ensures.same there c.in_ok-found.ensures
     c.in_err-next.ensures.err)
+
+pub reopened-requires : goal.reopened-requires
+reopened-requires g c =
+    (last_record c.in_ok-found.found.0 c.in_ok-found.ensures.0 (done c.in_ok-found.found.1.edit c.in_ok-found.found.1.entry) c.in_ok-found.ensures.1.entries).edit
 
 pub write_through-requires-clause-paths : goal.write_through-requires-clause-paths
 write_through-requires-clause-paths g c =
-    ap paths_of c.files-2.ensures.files ∙ undo_paths c.args.workspace.now c.in_ok-next.next c.in_ok-entry.entry c.in_ok-next.ensures.ok ∙ sym (ap paths_of c.files.ensures.files)
+    ap paths_of c.files-2.ensures.files ∙ undo_paths c.args.workspace.now c.in_ok-next.next c.in_ok-found.found.1.entry c.in_ok-next.ensures.ok ∙ sym (ap paths_of c.files.ensures.files)
 
 pub write_through-requires-clause-files : goal.write_through-requires-clause-files
 write_through-requires-clause-files g c =
@@ -37,33 +44,37 @@ pub returns-clause-outcome : goal.returns-clause-outcome
 returns-clause-outcome g c =
     let old : Option Held = g.S.Store.holds c.args.store.now in
     let journal : List ℕ = c.as_slice-text.result.now in
-    let entry : List ChangeOf = c.in_ok-entry.entry in
+    let version : Version = c.in_ok-found.found.0 in
+    let edit : Option Asked = c.in_ok-found.found.1.edit in
+    let entry : List ChangeOf = c.in_ok-found.found.1.entry in
     let there : HoldsJournal old journal = subst (λ (t : List ℕ). HoldsJournal old t) (sym c.as_slice-text.ensures.value) c.in-Ok.ensures.bytes in
-    let first : Reopens journal entry c.as_slice.result.now = subst (λ (t : List ℕ). Reopens journal entry t) (sym c.as_slice.ensures.value) c.in_ok-first.ensures in
+    let first : Reopens version journal edit entry c.as_slice.result.now = subst (λ (t : List ℕ). Reopens version journal edit entry t) (sym c.as_slice.ensures.value) c.in_ok-first.ensures in
     let passes : Passes c.args.workspace.now c.in_ok-next.next c.as_slice.result.now c.shortened-last.result.now old (g.S.Store.holds c.write_through.new.store) =
     passes_from c.files.result.now c.args.workspace.now c.files-2.result.now c.in_ok-next.next c.as_slice.result.now c.shortened-last.result.now (g.S.Store.holds c.read_journal.new.self) old
     (g.S.Store.holds c.write_through.new.store) c.files.ensures.files c.files-2.ensures.files c.read_journal.ensures.same c.in-Err-Failed-write_through.ensures.err in (
       refl,
-      undo_cut journal c.as_slice.result.now c.shortened-last.result.now entry first c.shortened-last.ensures c.args.workspace.now c.in_ok-next.next
-          (undo_paths c.args.workspace.now c.in_ok-next.next entry c.in_ok-next.ensures.ok) c.in_ok-next.ensures.ok old (g.S.Store.holds c.write_through.new.store) c.in_ok-entry.ensures there passes,
+      undo_cut journal c.as_slice.result.now c.shortened-last.result.now version edit entry first c.shortened-last.ensures c.args.workspace.now c.in_ok-next.next
+          (undo_paths c.args.workspace.now c.in_ok-next.next entry c.in_ok-next.ensures.ok) c.in_ok-next.ensures.ok old (g.S.Store.holds c.write_through.new.store) c.in_ok-found.ensures there passes,
     )
 
 pub returns-in-Ok-write_through-clause-outcome : goal.returns-in-Ok-write_through-clause-outcome
 returns-in-Ok-write_through-clause-outcome g c =
     let old : Option Held = g.S.Store.holds c.args.store.now in
     let journal : List ℕ = c.as_slice-text.result.now in
-    let entry : List ChangeOf = c.in_ok-entry.entry in
+    let version : Version = c.in_ok-found.found.0 in
+    let edit : Option Asked = c.in_ok-found.found.1.edit in
+    let entry : List ChangeOf = c.in_ok-found.found.1.entry in
     let there : HoldsJournal old journal = subst (λ (t : List ℕ). HoldsJournal old t) (sym c.as_slice-text.ensures.value) c.in-Ok.ensures.bytes in
-    let first : Reopens journal entry c.as_slice.result.now = subst (λ (t : List ℕ). Reopens journal entry t) (sym c.as_slice.ensures.value) c.in_ok-first.ensures in
-    rw c.replace.ensures.after (undone journal c.as_slice.result.now c.shortened-last.result.now entry first c.shortened-last.ensures c.args.workspace.now c.in_ok-next.next
-    (undo_paths c.args.workspace.now c.in_ok-next.next entry c.in_ok-next.ensures.ok) c.in_ok-next.ensures.ok old (g.S.Store.holds c.write_through.new.store) c.in_ok-entry.ensures there
+    let first : Reopens version journal edit entry c.as_slice.result.now = subst (λ (t : List ℕ). Reopens version journal edit entry t) (sym c.as_slice.ensures.value) c.in_ok-first.ensures in
+    rw c.replace.ensures.after (undone journal c.as_slice.result.now c.shortened-last.result.now version edit entry first c.shortened-last.ensures c.args.workspace.now c.in_ok-next.next
+    (undo_paths c.args.workspace.now c.in_ok-next.next entry c.in_ok-next.ensures.ok) c.in_ok-next.ensures.ok old (g.S.Store.holds c.write_through.new.store) c.in_ok-found.ensures there
     (through_from c.files-2.result.now c.in_ok-next.next c.shortened-last.result.now (g.S.Store.holds c.read_journal.new.self) old (g.S.Store.holds c.write_through.new.store)
     c.files-2.ensures.files c.read_journal.ensures.same c.in-Ok-write_through.ensures.ok))
 
-pub returns-in_err-entry-clause-count : goal.returns-in_err-entry-clause-count
-returns-in_err-entry-clause-count g c =
+pub returns-in_err-found-clause-count : goal.returns-in_err-found-clause-count
+returns-in_err-found-clause-count g c =
     let p = err_from_is_err_and c.from_residual.result c.from_residual.ensures.1 in
-    rw (p.1, p.2) (counts_no_entry (g.S.Store.failure_count c.args.store.now) (g.S.Store.failure_count c.read_journal.new.self) c.as_slice-text.result.now _ c.in-Ok.ensures.count c.in_err-entry.ensures)
+    rw (p.1, p.2) (counts_no_entry (g.S.Store.failure_count c.args.store.now) (g.S.Store.failure_count c.read_journal.new.self) c.as_slice-text.result.now _ c.in-Ok.ensures.count c.in_err-found.ensures)
 
 pub returns-in_err-next-clause-count : goal.returns-in_err-next-clause-count
 returns-in_err-next-clause-count g c =

@@ -4,22 +4,24 @@ use Rattle.serde_json.specs.Read.{read}
 use Rattle.serde_json.specs.View.{view}
 use Rattle.serde_json.specs.Written.{compact_text}
 use Rattle.proto_entries.specs.Entries.{IsEntry}
-use Rattle.proto_records.specs.Common.{record_data, IsRecord, Record as RecordOf}
+use Rattle.proto_records.specs.Common.{record_data, IsRecord, RecordOf, IsTold}
 use Rattle.proto_records.proofs.RecordTexts.{utf8_record, reads_record}
 use Rattle.proto_records.proofs.reading.read_shape.Goals as goal
 
-pub returns-in_default : goal.returns-in_default
-returns-in_default c = λ r is e.
-    let h = c.in_ok-value.ensures (record_data r) (subst IsUtf8 (sym e) (utf8_record r is)) (ap read e ∙ reads_record r is) in
+pub returns-in_default-clause-shape : goal.returns-in_default-clause-shape
+returns-in_default-clause-shape c = λ r is e.
+    let v = c.args.version in
+    let h = c.in_ok-value.ensures (record_data v r) (subst IsUtf8 (sym e) (utf8_record v r is)) (ap read e ∙ reads_record v r is) in
     rw c.in_default.is at h
 
-pub returns : goal.returns
-returns c =
+pub returns-clause-shape : goal.returns-clause-shape
+returns-clause-shape c =
+    let v = c.args.version in
     IfOk-weaker c.read_record.result
-    (λ found. (r : RecordOf) → IsEntry r.entry → view c.in-Some.value ≡ record_data r → IsSomeAnd found (λ s. s ≡ r))
-    (λ found. (r : RecordOf) → IsRecord r → c.args.line.now ≡ compact_text (record_data r) → IsSomeAnd found (λ s. s ≡ r))
+    (λ found. (r : RecordOf) → IsEntry r.entry → IsTold v r.edit → view c.in-Some.value ≡ record_data v r → IsSomeAnd found (λ s. s ≡ r))
+    (λ found. (r : RecordOf) → IsRecord v r → c.args.line.now ≡ compact_text (record_data v r) → IsSomeAnd found (λ s. s ≡ r))
     (λ found h r is e.
-    let v = c.in_ok-value.ensures (record_data r) (subst IsUtf8 (sym e) (utf8_record r is)) (ap read e ∙ reads_record r is) in
-    let same : view c.in-Some.value ≡ record_data r = rw c.in-Some.is at v in
-    h r is.entry same)
-    c.read_record.ensures
+    let d = c.in_ok-value.ensures (record_data v r) (subst IsUtf8 (sym e) (utf8_record v r is)) (ap read e ∙ reads_record v r is) in
+    let same : view c.in-Some.value ≡ record_data v r = rw c.in-Some.is at d in
+    h r is.entry is.edit same)
+    c.read_record.ensures.shape

@@ -1,7 +1,8 @@
-use Rattle.std.proofs.Common.{◌≡◌, List, true, sym, ap, ◌∙◌, Err}
+use Rattle.std.proofs.Common.{◌≡◌, List, true, sym, ap, ◌∙◌, Err, subst, Ok, Some}
 use Rattle.std.proofs.lemmas.Result.{err_from_is_err_and}
-use Rattle.proto_records.specs.Common.{Record, is_last_open}
+use Rattle.proto_records.specs.Common.{is_last_open, OpenOutcome, RecordOf}
 use Rattle.proto_records.proofs.Outcomes.{no_open, open_there}
+use Rattle.proto_entries.specs.Entries.{ChangeOf}
 use Rattle.proto_records.proofs.recovering.open_entry.Goals as goal
 
 pub returns-in_err-records : goal.returns-in_err-records
@@ -11,6 +12,7 @@ returns-in_err-records c =
 
 pub returns-in-Some : goal.returns-in-Some
 returns-in-Some c =
-    let records : List Record = c.in_ok-records.records.items in
+    let records : List RecordOf = c.in_ok-records.records.items in
     let is : is_last_open records ≡ true = ap is_last_open (sym c.as_slice.ensures.value) ∙ sym c.last_is_open.ensures ∙ c.if-not-last_is_open.false in
-    open_there c.args.journal.now records c.pop.new.self.items c.in-Some.last c.in_ok-records.ensures.ok is c.in-Some.ensures.items
+    subst (λ (e : List ChangeOf). OpenOutcome c.args.journal.now (Ok (Some e))) (sym c.into_entry.ensures)
+    (open_there c.args.journal.now records c.pop.new.self.items c.in-Some.last c.in_ok-records.ensures.ok is c.in-Some.ensures.items)

@@ -1,10 +1,11 @@
-use Rattle.std.proofs.Common.{◌≡◌, ◌⊎◌, List, ℕ, sym, ap, ◌∙◌, subst, Ok, Option, String, option_map, Global}
+use Rattle.std.proofs.Common.{◌≡◌, ◌⊎◌, List, ℕ, sym, ap, ◌∙◌, subst, Ok, Option, String, option_map, Global, Contains}
 use Rattle.std.specs.Global.{Vec}
 use Rattle.proto_files.specs.GivenFiles.{FileOf, files_of}
 use Rattle.proto_entries.specs.Entries.{ChangeOf}
 use Rattle.proto_store.specs.Stores.{Held, HoldsJournal, with_journal}
-use Rattle.proto_records.specs.Common.{Over, AreOldFiles, ArePartlyIn, OpenOutcome, with_files}
-use Rattle.proto_records.proofs.Outcomes.{IsOpenAt, all_listed, cut_off, recovered}
+use Rattle.proto_records.specs.Common.{Over, AreOldFiles, ArePartlyIn, OpenOutcome, with_files, IsStaleOnly, IsEitherWay}
+use Rattle.proto_records.proofs.Outcomes.{IsOpenAt, all_listed, cut_off, recovered, not_found, not_read}
+use Rattle.std.proofs.lemmas.Result.{err_from_is_err_and}
 use Rattle.proto_records.proofs.recovering.recover.Goals as goal
 
 pub put_back-requires-clause-listed : goal.put_back-requires-clause-listed
@@ -49,3 +50,23 @@ returns-clause-outcome g c =
     subst (λ (z : Option Held). ArePartlyIn olds z new ⊎ (new ≡ option_map (with_journal short) (option_map (with_files olds) z))) (c.in_ok-files.ensures.same ∙ c.read_journal.ensures.same)
     c.in-Err-Failed-put_back.ensures.err in
     cut_off journal short entry olds c.journals_grow_and_shrink.ensures.less c.without_last.ensures old new there opens found cut
+
+pub returns-in_err-entry-clause-outcome : goal.returns-in_err-entry-clause-outcome
+returns-in_err-entry-clause-outcome g c =
+    let old : Option Held = g.S.Store.holds c.args.store.now in
+    let new : Option Held = g.S.Store.holds c.read_journal.new.self in
+    let p = err_from_is_err_and c.from_residual.result c.from_residual.ensures.1 in
+    let there : HoldsJournal old c.as_slice.result.now = subst (λ (t : List ℕ). HoldsJournal old t) (sym c.as_slice.ensures.value) c.in-Ok.ensures.bytes in
+    rw (p.1, p.2) (not_read old new c.as_slice.result.now _ c.read_journal.ensures.same there c.in_err-entry.ensures)
+
+pub returns-in_err-files-clause-outcome : goal.returns-in_err-files-clause-outcome
+returns-in_err-files-clause-outcome g c =
+    let old : Option Held = g.S.Store.holds c.args.store.now in
+    let mid : Option Held = g.S.Store.holds c.read_journal.new.self in
+    let new : Option Held = g.S.Store.holds c.old_files.new.store in
+    let entry : List ChangeOf = c.in-Some.entry in
+    let p = err_from_is_err_and c.from_residual-in_err-files.result c.from_residual-in_err-files.ensures.1 in
+    let there : HoldsJournal old c.as_slice.result.now = subst (λ (t : List ℕ). HoldsJournal old t) (sym c.as_slice.ensures.value) c.in-Ok.ensures.bytes in
+    let opens : IsOpenAt c.as_slice.result.now entry = subst (λ (o : Option (List ChangeOf)). OpenOutcome c.as_slice.result.now (Ok o)) c.in-Some.is c.in_ok-entry.ensures in
+    rw (p.1, p.2) (not_found old new c.as_slice.result.now entry c.in_err-files.field-0.0 (c.old_files.ensures.same ∙ c.read_journal.ensures.same) there opens
+    (subst (λ (z : Option Held). IsStaleOnly (Over z (λ h. (x : ChangeOf) × Contains entry x × (IsEitherWay h.files x → ⊥))) c.in_err-files.field-0.0) c.read_journal.ensures.same c.in_err-files.ensures.err))

@@ -2,11 +2,11 @@ use Rattle.std.proofs.Common.{◌≡◌, Result, Err, ap, rules, string_bytes}
 use Rattle.std.specs.Global.{Vec}
 use Rattle.proto_output.specs.LogLines.{log_lines}
 use Rattle.proto_records.specs.declared.fault.JournalFault.{JournalFault}
-use Rattle.proto_records.specs.declared.record.Record.{Record}
+use Rattle.proto_records.specs.Records.{RecordOf}
 use Rattle.protoref_run.proofs.Tellings.{log_tells}
 use Rattle.protoref_run.proofs.logging.log_of.Goals as goal
 
-abbrev unread : JournalFault → Result (Vec Record) JournalFault
+abbrev unread : JournalFault → Result (Vec RecordOf) JournalFault
 unread x = Err x
 
 pub returns-in_ok-text-in-Ok : goal.returns-in_ok-text-in-Ok

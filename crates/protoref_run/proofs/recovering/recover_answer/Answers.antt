@@ -7,8 +7,8 @@ returns-in-Ok-clause-outcome g c = (Ok c.in-Ok.recovered, c.in-Ok.ensures.outcom
 
 pub returns-in-Err-clause-outcome : goal.returns-in-Err-clause-outcome
 returns-in-Err-clause-outcome g c =
-    unrecovered_answers (g.S.Store.holds c.args.store.now) (g.S.Store.holds c.recover.new.store) c.in-Err.fault c.unrecovered.result c.in-Err.ensures.outcome c.unrecovered.ensures.told
+    unrecovered_answers (g.S.Store.holds c.args.store.now) (g.S.Store.holds c.recover.new.store) c.in-Err.fault c.plain_answer.result c.in-Err.ensures.outcome c.plain_answer.ensures.told
 
 pub returns-in-Err-clause-count : goal.returns-in-Err-clause-count
 returns-in-Err-clause-count g c =
-    c.unrecovered.ensures.count (g.S.Store.failure_count c.args.store.now) (g.S.Store.failure_count c.recover.new.store) c.in-Err.ensures.count
+    c.plain_answer.ensures.count (g.S.Store.failure_count c.args.store.now) (g.S.Store.failure_count c.recover.new.store) c.in-Err.ensures.count

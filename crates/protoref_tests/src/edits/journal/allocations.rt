@@ -6,7 +6,16 @@ use proto_faults::NoMemory;
 use proto_journal::MemoryStore;
 use std::process::Abort;
 
+// The store before, and as each further write leaves it.
 const CUTS: &[Left] = &[(BEFORE, ""), (BEFORE, OPEN), (AFTER, OPEN), (AFTER, DONE)];
+
+// The same over an entry of the first version.
+const FIRST_CUTS: &[Left] = &[
+    (BEFORE, FIRST_DONE),
+    (BEFORE, FIRST_THEN_OPEN),
+    (AFTER, FIRST_THEN_OPEN),
+    (AFTER, FIRST_THEN_DONE),
+];
 
 // Whether the store is left as one of these, asked again where memory is wanting.
 fn is_one_of<R: AllocGlobal + Abort>(rt: &R, store: &mut MemoryStore, states: &[Left]) -> bool {
@@ -22,21 +31,25 @@ fn is_one_of<R: AllocGlobal + Abort>(rt: &R, store: &mut MemoryStore, states: &[
     false
 }
 
-fn expect_left<R: AllocGlobal + Abort>(rt: &R, store: &mut MemoryStore) {
+fn expect_left<R: AllocGlobal + Abort>(
+    rt: &R,
+    store: &mut MemoryStore,
+    (before, made): (Left, Left),
+    cuts: &[Left],
+) {
     let ((number, name, _), text) = match called(rt, store, RENAME) {
         Ok(answer) => answer,
         Err(_) => called(rt, store, RENAME).expect(rt, "an answer"),
     };
-    let (states, wanted): (&[Left], &str) = match (number, name) {
-        (0, "done") => (&[(AFTER, DONE)], AFTER),
+    let (is_so, wanted) = match (number, name) {
+        (0, "done") => (is_one_of(rt, store, &[made]), AFTER),
         // Refused for want of memory.
-        (6, _) => (&[(BEFORE, "")], BEFORE),
+        (6, _) => (is_one_of(rt, store, &[before]), BEFORE),
         // The store's own growth was refused, which is a call that failed.
-        (4, _) => (CUTS, BEFORE),
-        _ => (&[], BEFORE),
+        (4, _) => (is_one_of(rt, store, cuts), BEFORE),
+        _ => (false, BEFORE),
     };
-    let is_so = is_one_of(rt, store, states) && text == wanted;
-    assert!(rt; is_so, "after {number} {name}");
+    assert!(rt; is_so && text == wanted, "after {number} {name}");
     // Nothing is refused any more, so the same call is made.
     if number == 6 {
         assert!(rt;
@@ -47,13 +60,25 @@ fn expect_left<R: AllocGlobal + Abort>(rt: &R, store: &mut MemoryStore) {
 }
 
 // Fails only where no memory is there for the store.
-fn expect_one<R: AllocGlobal + Abort>(rt: &R) -> Result<(), NoMemory> {
-    let mut store = store_of(rt.alloc(), (BEFORE, ""))?;
-    expect_left(rt, &mut store);
+fn expect_one<R: AllocGlobal + Abort>(
+    rt: &R,
+    (before, made): (Left, Left),
+    cuts: &[Left],
+) -> Result<(), NoMemory> {
+    let mut store = store_of(rt.alloc(), before)?;
+    expect_left(rt, &mut store, (before, made), cuts);
     Ok(())
 }
 
 #[test]
 fn one_is_refused(rt: HostRuntime) {
-    assert!(rt; expect_one(&rt).is_ok() || expect_one(&rt).is_ok());
+    let ends = ((BEFORE, ""), (AFTER, DONE));
+    assert!(rt; expect_one(&rt, ends, CUTS).is_ok() || expect_one(&rt, ends, CUTS).is_ok());
+}
+
+#[test]
+fn one_is_refused_over_the_first_version(rt: HostRuntime) {
+    let ends = ((BEFORE, FIRST_DONE), (AFTER, FIRST_THEN_DONE));
+    let is_one = expect_one(&rt, ends, FIRST_CUTS).is_ok();
+    assert!(rt; is_one || expect_one(&rt, ends, FIRST_CUTS).is_ok());
 }

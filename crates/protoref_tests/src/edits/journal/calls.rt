@@ -11,11 +11,33 @@ pub(crate) const BEFORE: &str = "syntax = \"proto3\"; message A { string b_c = 1
 
 pub(crate) const AFTER: &str = "syntax = \"proto3\"; message A { string d_e = 1; }";
 
+/// The journal of the rename.
 pub(crate) const DONE: &str =
+    "{\"edit\":{\"kind\":\"rename\",\"name\":\"A.b_c\",\"to\":\"d_e\"},\"files\":[{\"after\":48,\"before\":48,\"path\":\"a.proto\",\"splices\":[{\"at\":38,\"new\":\"d_e\",\"old\":\"b_c\"}]}],\"state\":\"done\",\"version\":2}\n";
+
+/// The same with the entry open.
+pub(crate) const OPEN: &str =
+    "{\"edit\":{\"kind\":\"rename\",\"name\":\"A.b_c\",\"to\":\"d_e\"},\"files\":[{\"after\":48,\"before\":48,\"path\":\"a.proto\",\"splices\":[{\"at\":38,\"new\":\"d_e\",\"old\":\"b_c\"}]}],\"state\":\"open\",\"version\":2}\n";
+
+/// The journal of the rename in the first version.
+pub(crate) const FIRST_DONE: &str =
     "{\"files\":[{\"after\":48,\"before\":48,\"path\":\"a.proto\",\"splices\":[{\"at\":38,\"new\":\"d_e\",\"old\":\"b_c\"}]}],\"state\":\"done\",\"version\":1}\n";
 
-pub(crate) const OPEN: &str =
+/// The same with the entry open.
+pub(crate) const FIRST_OPEN: &str =
     "{\"files\":[{\"after\":48,\"before\":48,\"path\":\"a.proto\",\"splices\":[{\"at\":38,\"new\":\"d_e\",\"old\":\"b_c\"}]}],\"state\":\"open\",\"version\":1}\n";
+
+/// What becomes of the line of the first version in the second.
+pub(crate) const NULL_DONE: &str =
+    "{\"edit\":null,\"files\":[{\"after\":48,\"before\":48,\"path\":\"a.proto\",\"splices\":[{\"at\":38,\"new\":\"d_e\",\"old\":\"b_c\"}]}],\"state\":\"done\",\"version\":2}\n";
+
+/// The rename behind an entry of the first version, which is of the second then.
+pub(crate) const FIRST_THEN_DONE: &str =
+    "{\"edit\":null,\"files\":[{\"after\":48,\"before\":48,\"path\":\"a.proto\",\"splices\":[{\"at\":38,\"new\":\"d_e\",\"old\":\"b_c\"}]}],\"state\":\"done\",\"version\":2}\n{\"edit\":{\"kind\":\"rename\",\"name\":\"A.b_c\",\"to\":\"d_e\"},\"files\":[{\"after\":48,\"before\":48,\"path\":\"a.proto\",\"splices\":[{\"at\":38,\"new\":\"d_e\",\"old\":\"b_c\"}]}],\"state\":\"done\",\"version\":2}\n";
+
+/// The same with the entry open.
+pub(crate) const FIRST_THEN_OPEN: &str =
+    "{\"edit\":null,\"files\":[{\"after\":48,\"before\":48,\"path\":\"a.proto\",\"splices\":[{\"at\":38,\"new\":\"d_e\",\"old\":\"b_c\"}]}],\"state\":\"done\",\"version\":2}\n{\"edit\":{\"kind\":\"rename\",\"name\":\"A.b_c\",\"to\":\"d_e\"},\"files\":[{\"after\":48,\"before\":48,\"path\":\"a.proto\",\"splices\":[{\"at\":38,\"new\":\"d_e\",\"old\":\"b_c\"}]}],\"state\":\"open\",\"version\":2}\n";
 
 /// A fault's number and name, or 0 and `done`; and the number of a refusal, or 0.
 pub(crate) type Said = (u32, &'static str, u32);

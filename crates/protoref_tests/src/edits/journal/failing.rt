@@ -35,10 +35,33 @@ const UNDOS: &[Turn] = &[
     (("", 5, false), TAKEN_BACK, (BEFORE, "")),
 ];
 
+// The same over an entry of the first version: the first write puts it into the second.
+const FIRST_COMMITS: &[Turn] = &[
+    (("A.b_c", 1, true), CUT, (BEFORE, FIRST_DONE)),
+    (("A.b_c", 2, false), CUT, (BEFORE, FIRST_DONE)),
+    (("A.b_c", 2, true), CUT, (BEFORE, FIRST_THEN_OPEN)),
+    (("A.b_c", 3, false), CUT, (BEFORE, FIRST_THEN_OPEN)),
+    (("A.b_c", 3, true), CUT, (AFTER, FIRST_THEN_OPEN)),
+    (("A.b_c", 4, false), CUT, (AFTER, FIRST_THEN_OPEN)),
+    (("A.b_c", 4, true), CUT, (AFTER, FIRST_THEN_DONE)),
+    (("A.b_c", 5, false), MADE, (AFTER, FIRST_THEN_DONE)),
+];
+
+// An undo keeps the first version.
+const FIRST_UNDOS: &[Turn] = &[
+    (("", 2, true), UNDO_CUT, (AFTER, FIRST_OPEN)),
+    (("", 3, true), UNDO_CUT, (BEFORE, FIRST_OPEN)),
+    (("", 4, false), UNDO_CUT, (BEFORE, FIRST_OPEN)),
+    (("", 4, true), UNDO_CUT, (BEFORE, "")),
+];
+
 #[test]
 fn commits_are_cut(rt: HostRuntime) {
     for turn in COMMITS {
         expect_row(&rt, (BEFORE, ""), READY, &[*turn]);
+    }
+    for turn in FIRST_COMMITS {
+        expect_row(&rt, (BEFORE, FIRST_DONE), READY, &[*turn]);
     }
 }
 
@@ -46,5 +69,8 @@ fn commits_are_cut(rt: HostRuntime) {
 fn undos_are_cut(rt: HostRuntime) {
     for turn in UNDOS {
         expect_row(&rt, (AFTER, DONE), READY, &[*turn]);
+    }
+    for turn in FIRST_UNDOS {
+        expect_row(&rt, (AFTER, FIRST_DONE), READY, &[*turn]);
     }
 }

@@ -2,7 +2,7 @@ use Rattle.std.proofs.Common.{[]}
 use Rattle.proto_output.specs.EditLines.{refused_line}
 use Rattle.proto_output.specs.RecoveryLines.{plain_refused_line}
 use Rattle.protoref_run.proofs.Tellings.{no_refusal, told_alone}
-use Rattle.protoref_run.proofs.recovering.unrecovered.Goals as goal
+use Rattle.protoref_run.proofs.recovering.plain_answer.Goals as goal
 
 pub returns-in_default-clause-told : goal.returns-in_default-clause-told
 returns-in_default-clause-told c =
