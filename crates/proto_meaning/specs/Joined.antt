@@ -13,7 +13,7 @@ joined (w ∷ v ∷ rest) = w ++ ascii.dot ∷ joined (v ∷ rest)
 
 -- a word right below a scope, as text: behind it and a dot
 abbrev pub below : Text → Text → Text
-below scope word = scope ++ 46 ∷ word
+below scope word = scope ++ ascii.dot ∷ word
 
 -- a word that is not empty and has no dot
 abbrev pub IsPlain : Word → Type 0
