@@ -4,6 +4,7 @@ use Rattle.std.specs.Fmt.{signed_decimal}
 use Rattle.json.specs.Print.{separator, token_text, ends}
 use Rattle.json.specs.Token.{Token}
 use Rattle.json.specs.Token as json
+use Rattle.proto_faults.specs.Ascii as ascii
 use Rattle.proto_faults.specs.Texts.{Text}
 use Rattle.proto_json.specs.JsonText.{Slot, quoted, object_if_any}
 use Rattle.serde.specs.Event.{Event, Log, Logs, boolean, signed, unsigned, single, double, character, text, octets, nothing, unit_variant, seq_begins, seq_ends, map_begins, map_ends, field_key, variant_key, key_begins, key_ends, flattens}
@@ -64,7 +65,7 @@ pub record Leads (change : Written → Written) (old new : Log) : Type 0 where
 
 -- the comma that stands behind a value
 abbrev pub comma : Written → Text
-comma w = if w.has_ended then 44 ∷ [] else []
+comma w = if w.has_ended then ascii.comma ∷ [] else []
 
 -- a value behind what is written
 unfoldable pub value_put : Text → Written → Written
@@ -72,7 +73,8 @@ value_put t w = record { bytes = w.bytes ++ (comma w ++ t); has_ended = true }
 
 -- a key of an object and its colon behind what is written
 unfoldable pub key_put : Text → Written → Written
-key_put k w = record { bytes = w.bytes ++ (comma w ++ (quoted k ++ 58 ∷ [])); has_ended = false }
+key_put k w =
+    record { bytes = w.bytes ++ (comma w ++ (quoted k ++ ascii.colon ∷ [])); has_ended = false }
 
 -- a member of an object behind what is written, if it is there
 unfoldable pub slot_put : Slot → Written → Written
