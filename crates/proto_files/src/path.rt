@@ -2,6 +2,7 @@
 
 ghost use Rattle.std.specs.Prelude.{◌≡◌, ◌==◌, ◌↔◌, IsTrue, codes, nat_eq};
 ghost use Rattle.std.specs.List.{list_all, slice_split, ends_with};
+ghost use Rattle.proto_faults.specs.Ascii as ascii;
 ghost use Rattle.proto_files.specs.WorkspacePaths.{is_path_byte, is_path_part, is_workspace_path, IsWorkspacePath};
 
 /// How many bytes a path has at most.
@@ -26,7 +27,7 @@ fn is_path_part(part: &str) -> bool
 }
 
 fn has_path_parts(path: &str) -> bool
-    ensures { result ≡ list_all is_path_part (slice_split (λ b. b == 47) path.now) }
+    ensures { result ≡ list_all is_path_part (slice_split (λ b. b == ascii.slash) path.now) }
 {
     path.split('/').all(|part| is_path_part(part))
 }
