@@ -1,17 +1,18 @@
 -- What number tokens stand for: decimal, octal behind a `0`, hexadecimal behind `0x` or `0X`.
 use Rattle.std.specs.Prelude.{ℕ, ◌^◌, ℤ, pos, neg_ℤ, Bool, false, ◌==◌, ◌||◌, ◌&&◌, if◌then◌else◌, [], ◌∷◌, drop, is_some}
 use Rattle.proto_text.specs.Strings.{number_in}
+use Rattle.proto_faults.specs.Ascii as ascii
 use Rattle.proto_faults.specs.Texts.{Text}
 use Rattle.proto_tree.specs.declared.tree.Signed.{Signed}
 
 -- whether it begins with `0x` or `0X`
 abbrev pub is_hexadecimal : Text → Bool
-is_hexadecimal (z ∷ x ∷ digits) = z == 48 && (x == 120 || x == 88)
+is_hexadecimal (z ∷ x ∷ digits) = z == ascii.zero && (x == ascii.lower_x || x == ascii.upper_x)
 is_hexadecimal _ = false
 
 -- whether it begins with `0`: octal, where it is not hexadecimal
 abbrev pub is_octal : Text → Bool
-is_octal (z ∷ digits) = z == 48
+is_octal (z ∷ digits) = z == ascii.zero
 is_octal [] = false
 
 -- what a number token stands for
