@@ -4,6 +4,7 @@ ghost use Rattle.std.specs.Prelude.{◌≡◌, ◌≢◌, ℕ, List, if◌then�
 ghost use Rattle.std.specs.List.{list_any};
 ghost use Rattle.std.specs.Str.{IsUtf8, bytes_eq};
 ghost use Rattle.std.specs.Vec.{vec_capacity, vec_len};
+ghost use Rattle.proto_faults.specs.Ascii as ascii;
 ghost use Rattle.proto_table.specs.Filling.{IsRowOf};
 ghost use Rattle.proto_meaning.specs.Forest.{under, front};
 ghost use Rattle.proto_meaning.specs.Joined.{joined, ArePlain, IsPlain};
@@ -382,8 +383,9 @@ fn push_empty(alloc: Global, below: &mut Vec<IndexMap<String, usize>>)
 
 /// A text before and after its first `.`; none where it has no `.`.
 pub fn cut(text: &str) -> Option<(&str, &str)>
-    ensures cases { MatchOption result (list_any (λ b. b == 46) text.now ≡ false)
-        (λ x. (text.now ≡ x.0.now ++ 46 ∷ x.1.now) × (list_any (λ b. b == 46) x.0.now ≡ false)) }
+    ensures cases { MatchOption result (list_any (λ b. b == ascii.dot) text.now ≡ false)
+        (λ x. (text.now ≡ x.0.now ++ ascii.dot ∷ x.1.now)
+        × (list_any (λ b. b == ascii.dot) x.0.now ≡ false)) }
     ensures utf8 { IfSome result (λ x. IsUtf8 x.0.now × IsUtf8 x.1.now) }
 {
     text.split_once('.')
