@@ -2,6 +2,7 @@
 use Rattle.std.specs.Prelude.{◌≡◌, ◌≢◌, ℕ, ◌≤◌, List, [], ◌∷◌, ◌++◌, length, Option, None, Bool, true, false, All}
 use Rattle.std.specs.List.{flat_map}
 use Rattle.std.specs.Str.{IsUtf8}
+use Rattle.proto_faults.specs.Ascii as ascii
 use Rattle.proto_faults.specs.Texts.{Text}
 use Rattle.proto_text.specs.Edits.{Edit}
 use Rattle.proto_entries.specs.EditsAsked.{Asked}
@@ -72,11 +73,11 @@ IsJournal bytes records = (version : Version) × IsJournalIn version bytes recor
 
 -- no byte of these is a line feed
 abbrev pub HasNoFeed : Text → Type 0
-HasNoFeed bytes = All (λ b. b ≢ 10) bytes
+HasNoFeed bytes = All (λ b. b ≢ ascii.line_feed) bytes
 
 -- the bytes through the first line feed, and the rest
 pub record IsFirstLine (bytes line rest : Text) : Type 0 where
   pub all : bytes ≡ line ++ rest
   pub some : bytes ≢ [] → line ≢ []
-  pub first : (front more : Text) → HasNoFeed front → bytes ≡ front ++ 10 ∷ more
-      → (line ≡ front ++ 10 ∷ []) × (rest ≡ more)
+  pub first : (front more : Text) → HasNoFeed front → bytes ≡ front ++ ascii.line_feed ∷ more
+      → (line ≡ front ++ ascii.line_feed ∷ []) × (rest ≡ more)

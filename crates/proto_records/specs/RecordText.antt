@@ -4,6 +4,7 @@ use Rattle.std.specs.Prelude.{[], ◌∷◌, ◌++◌, map, codes, Option, Some,
 use Rattle.serde_json.specs.Data.{Data, null, number, unsigned, string, array, object, member, no_members}
 use Rattle.serde_json.specs.View.{items_of}
 use Rattle.serde_json.specs.Written.{compact_text}
+use Rattle.proto_faults.specs.Ascii as ascii
 use Rattle.proto_faults.specs.Texts.{Text}
 use Rattle.proto_text.specs.Edits.{Edit}
 use Rattle.proto_entries.specs.EditsAsked.{Asked, rename, delete_field, add_import, drop_import}
@@ -72,4 +73,4 @@ record_data Second r = object
 
 -- the line of a record in a version, with its line feed
 unfoldable pub record_text : Version → RecordOf → Text
-record_text version r = compact_text (record_data version r) ++ 10 ∷ []
+record_text version r = compact_text (record_data version r) ++ ascii.line_feed ∷ []
