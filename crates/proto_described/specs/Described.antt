@@ -3,6 +3,7 @@
 use Rattle.std.specs.Prelude.{ℕ, suc, ◌+◌, ℤ, pos, negsuc, nat_abs, ◌^◌, ◌-◌, Bool, true, false, ◌&&◌, ◌||◌, if◌then◌else◌, List, [], ◌∷◌, ◌++◌, map, flat_map, Option, Some, None, option_map, is_some, codes}
 use Rattle.std.specs.Fmt.{signed_decimal}
 use Rattle.std.specs.Str.{bytes_eq}
+use Rattle.proto_faults.specs.Ascii as ascii
 use Rattle.proto_faults.specs.Texts.{Text, Path, or_nothing}
 use Rattle.proto_tree.specs.declared.tree.Constant.{Constant}
 use Rattle.proto_tree.specs.declared.tree.Constant.TheVariants as constant
@@ -96,7 +97,7 @@ type_of scene (written_type.Reference r) =
 
 -- a full name behind a dot
 abbrev pub absolute : Text → Text
-absolute name = 46 ∷ name
+absolute name = ascii.dot ∷ name
 
 -- a reference has the full name that it means, behind a dot; a scalar has none
 abbrev pub type_name_of : Scene → WrittenType → Option Text
