@@ -2,6 +2,7 @@
 use Rattle.std.specs.Prelude.{ℕ, Bool, not, nat_le, ◌||◌, List, [], ◌∷◌, ◌++◌, flat_map, length, is_some, codes}
 use Rattle.std.specs.List.{filter}
 use Rattle.std.specs.Str.{bytes_eq}
+use Rattle.proto_faults.specs.Ascii as ascii
 use Rattle.proto_faults.specs.Texts.{Text}
 use Rattle.proto_tree.specs.declared.tree.MethodType.{MethodType}
 use Rattle.proto_tree.specs.declared.tree.Signature.{Signature}
@@ -63,8 +64,8 @@ rpc_no_server_streaming r service s = method_unless r service (not (is_some s.ou
 -- the suffix
 abbrev pub is_standard : (service method suffix type : Text) → Bool
 is_standard service method suffix type =
-    bytes_eq (behind_last 46 type) (method ++ suffix)
-    || bytes_eq (behind_last 46 type) (service ++ (method ++ suffix))
+    bytes_eq (behind_last ascii.dot type) (method ++ suffix)
+    || bytes_eq (behind_last ascii.dot type) (service ++ (method ++ suffix))
 
 -- RPC_REQUEST_STANDARD_NAME: a method whose input's name does not end in the part `GetRequest` or
 -- `SGetRequest`, where the method is `Get` of the service `S` (a service by its full name, and by

@@ -2,6 +2,7 @@
 use Rattle.std.specs.Prelude.{ℕ, Bool, not, ◌==◌, ◌||◌, ◌&&◌, nat_eq, List, [], ◌∷◌, ◌++◌, flat_map, codes}
 use Rattle.std.specs.List.{starts_with, ends_with}
 use Rattle.std.specs.Str.{bytes_eq}
+use Rattle.proto_faults.specs.Ascii as ascii
 use Rattle.proto_faults.specs.Texts.{Text}
 use Rattle.proto_tree.specs.declared.tree.Value.{Value}
 use Rattle.proto_tree.specs.declared.piece.Statement.{Statement}
@@ -45,7 +46,7 @@ enum_value_upper_snake_case r scope within =
 
 -- what the names of an enum's values begin with: its name in upper snake, and `_`
 abbrev pub value_prefix : Text → Text
-value_prefix enum = upper enum ++ 95 ∷ []
+value_prefix enum = upper enum ++ ascii.underscore ∷ []
 
 -- ENUM_VALUE_PREFIX: a value whose name does not begin with that
 abbrev pub enum_value_prefix : Reading → Text → ℕ → Tree → List Named
