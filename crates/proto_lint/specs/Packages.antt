@@ -2,6 +2,7 @@
 use Rattle.std.specs.Prelude.{ℕ, Bool, true, not, ◌||◌, ◌&&◌, ◌==◌, if◌then◌else◌, List, [], ◌∷◌, ◌++◌, map, find, length, take, ◌-◌, Option, Some, None}
 use Rattle.std.specs.List.{list_all}
 use Rattle.std.specs.Str.{bytes_eq}
+use Rattle.proto_faults.specs.Ascii as ascii
 use Rattle.proto_faults.specs.Texts.{Path, Text}
 use Rattle.proto_meaning.specs.Joined.{joined}
 use Rattle.proto_case.specs.Cases.{is_lower_snake}
@@ -29,11 +30,11 @@ has_package h = not (is_empty (package_name h))
 
 -- the directory of a file: what stands before the last slash of its path, or nothing
 abbrev pub directory : Head → Text
-directory h = before_last 47 h.path
+directory h = before_last ascii.slash h.path
 
 -- the name of a file: the last part of its path
 abbrev pub file_name : Head → Text
-file_name h = behind_last 47 h.path
+file_name h = behind_last ascii.slash h.path
 
 -- a file's name without its `.proto`
 abbrev pub stem : Text → Text
@@ -65,7 +66,7 @@ has_directory_of_package heads h =
 
 -- a name with `/` for `.`
 abbrev pub slashed : Text → Text
-slashed name = map (λ b. if b == 46 then 47 else b) name
+slashed name = map (λ b. if b == ascii.dot then ascii.slash else b) name
 
 -- PACKAGE_DIRECTORY_MATCH: the directory of a file with a package is the package with `/` for `.`
 abbrev pub has_directory_like_package : Head → Bool
@@ -78,7 +79,7 @@ has_lower_snake_package h = list_all is_lower_snake h.words
 
 -- PACKAGE_VERSION_SUFFIX: the last part of a file's package, where it has one, is a version
 abbrev pub has_version : Head → Bool
-has_version h = not (has_package h) || is_version (behind_last 46 (package_name h))
+has_version h = not (has_package h) || is_version (behind_last ascii.dot (package_name h))
 
 -- FILE_LOWER_SNAKE_CASE: a file's name without `.proto` is lower snake
 abbrev pub has_lower_snake_file : Head → Bool
@@ -88,7 +89,7 @@ has_lower_snake_file h = is_lower_snake (stem (file_name h))
 
 -- what a rule of packages prints: the package, or `-`
 abbrev pub package_or_dash : Head → Text
-package_or_dash h = if has_package h then package_name h else 45 ∷ []
+package_or_dash h = if has_package h then package_name h else ascii.hyphen ∷ []
 
 -- what a rule finds at an offset, if it is one of those chosen, unless the file passes
 abbrev pub found_unless : List Bool → Rule → Bool → ℕ → Text → List Found

@@ -3,6 +3,7 @@
 ghost use Rattle.std.specs.Prelude.{◌≡◌, ◌==◌, if◌then◌else◌, ◌<◌, ◌∷◌, [], ◌++◌, length, get_or, map, OnOk};
 ghost use Rattle.std.specs.List.{list_all};
 ghost use Rattle.std.specs.Str.{bytes_eq};
+ghost use Rattle.proto_faults.specs.Ascii as ascii;
 ghost use Rattle.proto_case.specs.Cases.{is_lower_snake};
 ghost use Rattle.proto_findings.specs.Views.{found_of};
 ghost use Rattle.proto_rules.specs.declared.rule.Rule.TheVariants as rule;
@@ -47,7 +48,7 @@ fn has_directory_of_package(heads: &Heads, head: &FileHead) -> bool
 }
 
 fn slash_for_dot(byte: u8) -> u8
-    ensures { result ≡ (if byte == 46 then 47 else byte) }
+    ensures { result ≡ (if byte == ascii.dot then ascii.slash else byte) }
 {
     if byte == b'.' { b'/' } else { byte }
 }
