@@ -1,6 +1,7 @@
 -- Descriptors under the name map of a rename, as a function of the old descriptors.
 use Rattle.std.specs.Prelude.{ℕ, Bool, false, ◌==◌, ◌&&◌, not, if◌then◌else◌, List, [], ◌∷◌, ◌++◌, map, flat_map, Option, Some, None, option_map}
 use Rattle.std.specs.Str.{bytes_eq}
+use Rattle.proto_faults.specs.Ascii as ascii
 use Rattle.proto_faults.specs.Texts.{Text}
 use Rattle.proto_meaning.specs.Edits.{Renaming, ren, target, turned}
 use Rattle.proto_meaning.specs.Names.{same_name}
@@ -12,7 +13,7 @@ use Rattle.proto_described.specs.Described.{package_prefix}
 
 -- the name as text, each word behind a dot
 abbrev pub dotted : List Text → Text
-dotted x = flat_map (λ w. 46 ∷ w) x
+dotted x = flat_map (λ w. ascii.dot ∷ w) x
 
 -- one byte more before the first part
 abbrev pub put_first : ℕ → List Text → List Text
@@ -22,7 +23,7 @@ put_first b (w ∷ ws) = (b ∷ w) ∷ ws
 -- what stands before, between and behind the dots
 abbrev pub parts : Text → List Text
 parts [] = [] ∷ []
-parts (b ∷ bs) = if b == 46 then [] ∷ parts bs else put_first b (parts bs)
+parts (b ∷ bs) = if b == ascii.dot then [] ∷ parts bs else put_first b (parts bs)
 
 -- what stands behind the first dot
 abbrev pub behind_first : List Text → List Text
