@@ -2,6 +2,7 @@
 use Rattle.std.specs.Prelude.{◌↔◌, ℕ, ◌+◌, ◌==◌, if◌then◌else◌, List, [], ◌∷◌, ◌++◌, length, flat_map, Option, Some, None, option_to_list}
 use Rattle.std.specs.List.{Contains}
 use Rattle.std.specs.Option.{option_and_then}
+use Rattle.proto_faults.specs.Ascii as ascii
 use Rattle.proto_faults.specs.Texts.{Text}
 use Rattle.proto_tree.specs.References.{dotted}
 use Rattle.proto_files.specs.GivenFiles.{FileOf}
@@ -33,7 +34,7 @@ IsStandingIn files aim file found = (reads : List ReadOf)
 -- how many points a text has
 abbrev pub points : Text → ℕ
 points [] = 0
-points (b ∷ rest) = if b == 46 then 1 + points rest else points rest
+points (b ∷ rest) = if b == ascii.dot then 1 + points rest else points rest
 
 -- what stands behind a front in a text; none where the text begins otherwise
 abbrev pub behind : Text → Text → Option Text
@@ -45,7 +46,7 @@ behind (c ∷ front) (b ∷ text) = if b == c then behind front text else None
 -- where its last word only begins here
 abbrev pub words_in : Text → Option ℕ
 words_in [] = Some 0
-words_in (b ∷ rest) = if b == 46 then Some (points (b ∷ rest)) else None
+words_in (b ∷ rest) = if b == ascii.dot then Some (points (b ∷ rest)) else None
 
 -- how many words a name has behind this front; none where it is not
 -- the front and does not go on from it

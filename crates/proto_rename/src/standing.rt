@@ -2,6 +2,7 @@
 
 ghost use Rattle.std.specs.Prelude.{◌≡◌, ◌==◌, ◌<◌, ◌++◌, length, IfOk, OnOk, option_to_list};
 ghost use Rattle.std.specs.List.{count_by};
+ghost use Rattle.proto_faults.specs.Ascii as ascii;
 ghost use Rattle.proto_tree.specs.References.{dotted};
 ghost use Rattle.proto_files.specs.Faults.{HasNoFault};
 ghost use Rattle.proto_imports.specs.Links.{LinkFaults};
@@ -107,7 +108,7 @@ fn words_in(rest: &[u8]) -> Option<usize>
 }
 
 fn points(text: &[u8]) -> usize
-    ensures { result ≡ count_by (λ b. b == 46) text.now }
+    ensures { result ≡ count_by (λ b. b == ascii.dot) text.now }
 {
     text.iter().filter(|byte| **byte == b'.').count()
 }
