@@ -1,6 +1,7 @@
 -- What is printed of a journal: the choice of this program.
 use Rattle.std.specs.Prelude.{ℕ, ◌+◌, List, [], ◌∷◌, ◌++◌, codes, decimal, map, Option, Some, None}
 use Rattle.std.specs.List.{join_with_byte}
+use Rattle.proto_faults.specs.Ascii as ascii
 use Rattle.proto_faults.specs.Texts.{Text}
 use Rattle.proto_entries.specs.EditsAsked.{Asked, rename, delete_field, add_import, drop_import}
 use Rattle.proto_entries.specs.Entries.{ChangeOf}
@@ -9,7 +10,7 @@ use Rattle.proto_records.specs.Records.{RecordOf}
 
 -- the paths of the changed files, joined by `,`
 abbrev pub joined_paths : List ChangeOf → Text
-joined_paths entry = join_with_byte 44 (map (λ c. c.path) entry)
+joined_paths entry = join_with_byte ascii.comma (map (λ c. c.path) entry)
 
 -- the word of a command and one word behind it, each with a space before it
 abbrev pub one_word : Text → Text → Text
