@@ -1,11 +1,12 @@
 -- The words as they are handed to `clap`: `--` stands before those that are texts.
 use Rattle.std.specs.Prelude.{ℕ, ◌==◌, ◌&&◌, Bool, false, not, List, [], ◌∷◌, ◌++◌, codes, slice_index, if◌then◌else◌}
+use Rattle.proto_faults.specs.Ascii as ascii
 use Rattle.proto_faults.specs.Texts.{Text}
 use Rattle.protoref_words.specs.CommandLines.{asks_help}
 
--- a word begins with `-` (45), and asks for no help
+-- a word begins with `-`, and asks for no help
 abbrev pub is_dashed : Text → Bool
-is_dashed word = slice_index word 0 == 45 && not (asks_help word)
+is_dashed word = slice_index word 0 == ascii.hyphen && not (asks_help word)
 
 -- the word with this index is the first behind the program's name, and begins so
 abbrev pub is_bad_at : ℕ → Text → Bool
