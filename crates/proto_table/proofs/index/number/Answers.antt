@@ -1,11 +1,11 @@
-use Rattle.std.proofs.Common.{◌≡◌, ◌≢◌, ◌⊎◌, ◌++◌, ◌∷◌, [], ℕ, List, length, Some, None, string_bytes, String, refl, sym, ◌∙◌, ap, inr, false}
-use Rattle.std.specs.List.{list_any, position_or_len}
+use Rattle.std.proofs.Common.{◌≡◌, ℕ, List, string_bytes, String, sym, ◌∙◌, ap, inr, false}
+use Rattle.std.specs.List.{list_any}
 use Rattle.std.specs.Str.{bytes_eq}
 use Rattle.std.specs.declared.alloc.Global.{Global}
 use Rattle.std.proofs.lemmas.Bool.{cond-false}
 use Rattle.proto_table.specs.Indexes.{place}
 use Rattle.proto_table.proofs.Positions.{none_end}
-use Rattle.proto_table.proofs.IndexAdded.{word_last, word_other}
+use Rattle.proto_table.proofs.IndexAdded.{word_other}
 use Rattle.proto_table.proofs.index.number.Goals as goal
 
 absent : (words : List (String Global)) (key : String Global) (word : List ℕ) → string_bytes key ≡ word → false ≡ list_any (λ k. bytes_eq word (string_bytes k)) words → list_any (λ k. bytes_eq (string_bytes key) (string_bytes k)) words ≡ false

@@ -1,4 +1,4 @@
-use Rattle.std.proofs.Common.{◌≡◌, ◌<◌, ◌++◌, ◌∷◌, [], ℕ, List, length, Some, None, refl, sym, ◌∙◌, ap, subst, arith, Option, position, map, option_and_then, length-append}
+use Rattle.std.proofs.Common.{◌≡◌, ◌<◌, ◌++◌, ◌∷◌, [], length, sym, ◌∙◌, ap, subst, position, map, option_and_then, length-append}
 use Rattle.std.specs.List.{All}
 use Rattle.proto_table.specs.declared.index.Below.{Below}
 use Rattle.proto_table.specs.Indexes.{is_below, place}

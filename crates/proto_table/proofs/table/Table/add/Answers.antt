@@ -1,4 +1,4 @@
-use Rattle.std.proofs.Common.{◌≡◌, ◌+◌, ◌<◌, [], ◌∷◌, ◌++◌, length, map, refl, sym, ◌∙◌, ap, arith, Some, if◌then◌else◌, is_ok}
+use Rattle.std.proofs.Common.{◌≡◌, [], ◌∷◌, ◌++◌, refl, ◌∙◌, ap, if◌then◌else◌, is_ok}
 use Rattle.proto_table.specs.declared.table.Row.{Row}
 use Rattle.proto_meaning.specs.Forest.{under}
 use Rattle.proto_table.proofs.Tables.{table_added}
