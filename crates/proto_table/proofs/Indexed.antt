@@ -1,8 +1,21 @@
 -- A table with a symbol more is the index of the symbols with it.
-use Rattle.std.proofs.Common.{◌≡◌, ◌≢◌, ℕ, zero, suc, ◌+◌, ◌<◌, ◌≤◌, List, [], ◌∷◌, ◌++◌, length, get_or, map, refl, sym, ◌∙◌, ap, subst, inl, inr, arith, slice_set, string_bytes, length-append, Contains, length-set, get_or-set_same, get_or-set_other}
-use Rattle.proto_faults.proofs.Common.{cases_eq, length-map, get_or_default, Contains-append_left, Contains-append_right, Contains-append_cases, contains_head, contains_cases}
-use Rattle.proto_meaning.proofs.Common.{Symbol, joined, ArePlain, front, IsForest, map_append, get_front, get_last}
-use Rattle.proto_table.specs.Common.{Symbol as Declaration, Row, Table, names_of, aboves_of, look, IsTable, files_of, IsIndexOf, IsDeclared}
+use Rattle.std.proofs.Common.{◌≡◌, ◌≢◌, ℕ, zero, suc, ◌+◌, ◌<◌, ◌≤◌, List, [], ◌∷◌, ◌++◌, length, get_or, map, refl, sym, ◌∙◌, ap, subst, inl, inr, arith, slice_set, string_bytes, length-append}
+use Rattle.std.specs.List.{Contains}
+use Rattle.std.proofs.lemmas.Bool.{cases_eq}
+use Rattle.std.proofs.lemmas.List.{length-map, length-set, get_or-set_same, get_or-set_other, get_or_default}
+use Rattle.std.proofs.lemmas.List.Elements.{Contains-append_left, Contains-append_right, Contains-append_cases}
+use Rattle.proto_meaning.specs.Names.{Symbol}
+use Rattle.proto_meaning.specs.Joined.{joined, ArePlain}
+use Rattle.proto_meaning.specs.Forest.{front, IsForest}
+use Rattle.proto_table.specs.declared.table.Symbol.{Symbol as Declaration}
+use Rattle.proto_table.specs.declared.table.Row.{Row}
+use Rattle.proto_table.specs.declared.table.Table.{Table}
+use Rattle.proto_table.specs.Indexes.{aboves_in, HasWords}
+use Rattle.proto_table.specs.Tables.{names_of, aboves_of, look, IsTable}
+use Rattle.proto_table.specs.Resolved.{files_of, IsIndexOf, IsDeclared}
+use Rattle.proto_faults.proofs.Lists.{contains_head, contains_cases}
+use Rattle.proto_meaning.proofs.Edited.{map_append}
+use Rattle.proto_meaning.proofs.Forest.{get_front, get_last}
 
 last_only : {X : Type 0} (x y : X) → Contains (x ∷ []) y → x ≡ y
 last_only x y c = elim (contains_cases x y [] c) [ inl e ↦ e | inr n ↦ absurd (omega (arith, n.1)) ]
@@ -94,7 +107,9 @@ module _ (t t' : Table) (k : ℕ) (r r' : Row) (file : ℕ) (l : k < length t.ro
   pub file_table : IsTable t → IsTable t'
   file_table ok = record {
     forest = subst (λ z. IsForest z (aboves_of t') (look t')) (sym names_same) (subst (λ z. IsForest (names_of t) z (look t')) (sym aboves_same) (subst (λ z. IsForest (names_of t) (aboves_of t) (look (record { rows = t.rows; below = z }))) (sym below) ok.forest));
-    sized = ap (λ z. length z.items) below ∙ ok.sized ∙ ap (λ n. n + 1) (sym size_same);
+    sized = ap (λ z. length z.rows.keys) below ∙ ok.sized ∙ sym size_same;
+    keyed = ap aboves_in below ∙ ok.keyed ∙ sym aboves_same;
+    words = subst HasWords (sym below) ok.words;
   }
 
   here : (d : Row) → get_or t'.rows.items k d ≡ r'

@@ -1,8 +1,23 @@
 -- The table after a row more.
-use Rattle.std.proofs.Common.{◌≡◌, ◌≢◌, ℕ, zero, suc, ◌+◌, ◌-◌, ◌<◌, ◌≤◌, Bool, true, false, ◌||◌, drop, List, [], ◌∷◌, ◌++◌, length, get_or, map, Option, Some, None, refl, sym, ◌∙◌, ap, subst, inl, inr, ◌⊎◌, arith, slice_get, slice_set, string_bytes, length-append, if◌then◌else◌, Bor, MatchOption, Result, Ok, Err, OnErr, ◌==◌, bytes_eq, eqb-true}
-use Rattle.proto_faults.proofs.Common.{list_any, cases_Bool, cond-true, cond-false, false_from_ne_true, get_or-map, length-map, same_Some, word_from_same, same_from_word}
-use Rattle.proto_table.specs.Common.{Row, Table, found, names_of, aboves_of, look, IsTable}
-use Rattle.proto_meaning.proofs.Common.{IsPlain, under, front, IsForest, map_append, forest_more}
+use Rattle.std.proofs.Common.{◌≡◌, ◌≢◌, ℕ, zero, suc, ◌+◌, ◌-◌, ◌<◌, ◌≤◌, Bool, true, false, ◌||◌, drop, List, [], ◌∷◌, ◌++◌, length, get_or, map, Option, Some, None, refl, sym, ◌∙◌, ap, subst, inl, inr, ◌⊎◌, arith, slice_get, slice_set, string_bytes, length-append, if◌then◌else◌, Bor, MatchOption, Result, Ok, Err, OnErr, option_and_then, position, ◌&&◌}
+use Rattle.std.specs.Prelude.{◌==◌}
+use Rattle.std.specs.List.{list_any}
+use Rattle.std.specs.Str.{bytes_eq}
+use Rattle.std.proofs.lemmas.Bool.{cases_Bool, cond-true, cond-false, false_from_ne_true, eqb-true, eq-eqb}
+use Rattle.std.proofs.lemmas.List.{get_or-map, length-map}
+use Rattle.std.proofs.lemmas.Option.{same_Some}
+use Rattle.proto_table.specs.declared.table.Row.{Row}
+use Rattle.proto_table.specs.declared.table.Table.{Table}
+use Rattle.proto_meaning.specs.Joined.{IsPlain}
+use Rattle.proto_meaning.specs.Forest.{under, front, IsForest}
+use Rattle.proto_table.specs.declared.index.Below.{Below}
+use Rattle.proto_table.specs.Indexes.{aboves_in, HasWords, is_below, place}
+use Rattle.proto_table.specs.Tables.{names_of, aboves_of, look, IsTable}
+use Rattle.proto_table.proofs.Positions.{nowhere}
+use Rattle.proto_table.proofs.IndexAdded.{first_false, second_false, both_true}
+use Rattle.proto_faults.proofs.Lists.{word_from_same, same_from_word}
+use Rattle.proto_meaning.proofs.Edited.{map_append}
+use Rattle.proto_meaning.proofs.Forest.{forest_more}
 
 pub get_set_same : {X : Type 0} (xs : List X) (i : ℕ) (y : X) → i < length xs → slice_get (slice_set xs i y) i ≡ Some y
 get_set_same [] i y l = absurd (omega (arith, l))
@@ -54,13 +69,26 @@ same_word v w = elim (cases_Bool (bytes_eq v w)) [
     differ : false ≡ true → ⊥
     differ e = cc
 
+-- below a number past all rows nothing stands
+none_above : (t : Table) → IsTable t → (above : ℕ) (v : List ℕ) → length t.rows.items < above → look t above v ≡ None
+none_above t ok above v past = go (place t.below.words.keys v)
+  where
+    apart : (w k : ℕ) (d : Below) → k < length t.below.rows.keys → is_below above w (get_or t.below.rows.keys k d) ≡ false
+    apart w k d l = first_false (above == (get_or t.below.rows.keys k d).above) (w == (get_or t.below.rows.keys k d).word) (false_from_ne_true (above == (get_or t.below.rows.keys k d).above) (λ q.
+        let n = length-map t.rows.items (λ z. string_bytes z.name) in
+        let g = ok.forest.grown k (omega (arith, l, ok.sized, n)) in
+        let e : (get_or t.below.rows.keys k d).above ≡ get_or (aboves_of t) k 0 = sym (get_or-map (λ (b : Below). b.above) t.below.rows.keys k d 0 l) ∙ ap (λ z. get_or z k 0) ok.keyed in
+        omega (arith, eqb-true above (get_or t.below.rows.keys k d).above q, e, g.0, l, ok.sized, past)))
+
+    go : (o : Option ℕ) → option_and_then (λ w. position (is_below above w) t.below.rows.keys) o ≡ None
+    go None = refl
+    go (Some w) = nowhere (is_below above w) t.below.rows.keys (apart w)
+
 pub table_added : (t t' : Table) (p : ℕ) (word : List ℕ) (r : Row) → IsTable t → p ≤ length t.rows.items → IsPlain word → look t p word ≡ None
     → t'.rows.items ≡ t.rows.items ++ r ∷ [] → string_bytes r.name ≡ under (front (names_of t) p) word → r.above ≡ p
-    → length t'.below.items ≡ length t.below.items + 1
-    → ((v : List ℕ) → look t' p v ≡ (if bytes_eq word v then Some (length t.rows.items) else look t p v))
-    → ((q : ℕ) → q ≢ p → q < length t.below.items → slice_get t'.below.items q ≡ slice_get t.below.items q)
-    → ((v : List ℕ) → look t' (length t.below.items) v ≡ None) → IsTable t'
-table_added t t' p word r ok lp plain none rows name above len here other fresh =
+    → ((q : ℕ) (v : List ℕ) → look t' q v ≡ (if (p == q) && bytes_eq word v then Some (length t.below.rows.keys) else look t q v))
+    → aboves_in t'.below ≡ aboves_in t.below ++ p ∷ [] → length t'.below.rows.keys ≡ length t.below.rows.keys + 1 → HasWords t'.below → IsTable t'
+table_added t t' p word r ok lp plain none rows name above here keyed long words =
     let names : names_of t' ≡ names_of t ++ under (front (names_of t) p) word ∷ [] =
     ap (map (λ z. string_bytes z.name)) rows ∙ map_append (λ z. string_bytes z.name) t.rows.items (r ∷ []) ∙ ap (λ z. names_of t ++ z ∷ []) name in
     let aboves : aboves_of t' ≡ aboves_of t ++ p ∷ [] =
@@ -69,16 +97,21 @@ table_added t t' p word r ok lp plain none rows name above len here other fresh 
     let la : length (aboves_of t) ≡ length t.rows.items = length-map t.rows.items (λ z. z.above) in
     let lr = length-append t.rows.items (r ∷ []) in
     let size = ok.sized in
-    let next : length t.below.items ≡ suc (length (names_of t)) = omega (arith, ln, size) in
-    let at : look t' p word ≡ Some (length (names_of t)) = here word ∙ cond-true (bytes_eq word word) (Some (length t.rows.items)) (look t p word) (same_from_word word word refl) ∙ ap Some (sym ln) in
+    let at : look t' p word ≡ Some (length (names_of t)) =
+    here p word ∙ cond-true ((p == p) && bytes_eq word word) (Some (length t.below.rows.keys)) (look t p word) (both_true (p == p) (bytes_eq word word) (eq-eqb p p refl) (same_from_word word word refl)) ∙ ap Some (size ∙ sym ln) in
     let forest = forest_more (names_of t) (aboves_of t) (look t) ok.forest p word (omega (arith, lp, ln)) plain none (look t') at
-    (λ v ne. here v ∙ cond-false (bytes_eq word v) (Some (length t.rows.items)) (look t p v) (differs word v ne))
-    (λ q v ne lq. ap (λ z. found z v) (other q ne (omega (arith, lq, next))))
-    (λ v. ap (λ z. look t' z v) (sym next) ∙ fresh v)
+    (λ v ne. here p v ∙ cond-false ((p == p) && bytes_eq word v) (Some (length t.below.rows.keys)) (look t p v) (second_false (p == p) (bytes_eq word v) (differs word v ne)))
+    (λ q v ne lq. here q v ∙ cond-false ((p == q) && bytes_eq word v) (Some (length t.below.rows.keys)) (look t q v) (first_false (p == q) (bytes_eq word v) (false_from_ne_true (p == q) (λ h. ne (sym (eqb-true p q h))))))
+    (λ v. here (suc (length (names_of t))) v
+    ∙ cond-false ((p == suc (length (names_of t))) && bytes_eq word v) (Some (length t.below.rows.keys)) (look t (suc (length (names_of t))) v)
+    (first_false (p == suc (length (names_of t))) (bytes_eq word v) (false_from_ne_true (p == suc (length (names_of t))) (λ h. omega (arith, lp, ln, eqb-true p (suc (length (names_of t))) h))))
+    ∙ none_above t ok (suc (length (names_of t))) v (omega (arith, ln)))
     same_word (la ∙ sym ln) in
     record {
       forest = subst (λ z. IsForest z (aboves_of t') (look t')) (sym names) (subst (λ z. IsForest (names_of t ++ under (front (names_of t) p) word ∷ []) z (look t')) (sym aboves) forest);
-      sized = omega (arith, len, size, lr, ap length rows);
+      sized = omega (arith, long, size, lr, ap length rows);
+      keyed = keyed ∙ ap (λ z. z ++ p ∷ []) ok.keyed ∙ sym aboves;
+      words = words;
     }
   where
     differs : (w v : List ℕ) → v ≢ w → bytes_eq w v ≡ false

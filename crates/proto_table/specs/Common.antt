@@ -3,7 +3,7 @@ pub use Rattle.proto_table.specs.Filling.{AreInFront, AreNamesApart, ArePackageR
 pub use Rattle.proto_table.specs.Resolved.{IsAsked, IsDeclared, IsIndexOf, IsTaken, IsTypeAt, files_of, under_all}
 pub use Rattle.proto_table.specs.Search.{HitsAt, IsHit, NoneAbove, fits_first, is_seen, passes}
 pub use Rattle.proto_table.specs.Spelled.{AreSpelled, ClashFault, Named, all_named, earlier, name_above, named_by, named_in, named_on, of_package, symbol_named}
-pub use Rattle.proto_table.specs.Tables.{IsTable, aboves_of, entries_of, found, look, names_of, row_of}
+pub use Rattle.proto_table.specs.Tables.{IsTable, aboves_of, look, names_of, row_of}
 pub use Rattle.proto_table.specs.declared.filling.NameError.{NameError}
 pub use Rattle.proto_table.specs.declared.filling.NameError.TheVariants.{Clash, NoMemory}
 pub use Rattle.proto_table.specs.declared.spelled.Spelled.{Spelled}

@@ -1,5 +1,6 @@
 pub mod Common
 pub mod Filling
+pub mod Indexes
 pub mod LastWords
 pub mod Naming
 pub mod Resolved

@@ -12,9 +12,10 @@ ghost use Rattle.proto_table.specs.Spelled.{all_named, AreSpelled, ClashFault, N
 ghost use Rattle.proto_table.specs.Tables.{IsTable, names_of};
 ghost use Rattle.proto_table.specs.declared.filling.NameError.TheVariants.{NoMemory};
 
+use crate::index::Index;
 use crate::spelled::Spelled;
 use crate::table::{Symbol, Table};
-use indexmap::IndexMap;
+use indexmap::IndexSet;
 use proto_listing::listing::Above;
 use std::alloc::{AllocError, AllocFailed, Global};
 use std::mem::replace;
@@ -72,23 +73,24 @@ pub fn declare_all(
     ensures fault { IfErr result (IsNameError
         (ClashFault (all_named 0 (map (λ v. v.items) files.now)))) }
 {
-    let table = empty_table(alloc)?;
+    let table = empty_table(alloc);
     let packages = declare_packages(alloc, table, files)?;
     let named = declare_others(alloc, packages.0, files, packages.1)?;
     Ok(named)
 }
 
-/// A table of no names.
-fn empty_table(alloc: Global) -> Result<Table, proto_faults::NoMemory>
-    ensures table { IfOk result IsTable }
-    ensures empty { IfOk result (λ t. t.rows.items ≡ []) }
+/// A table of no names. Takes no memory.
+fn empty_table(alloc: Global) -> Table
+    ensures table { IsTable result }
+    ensures empty { result.rows.items ≡ [] }
 {
-    let mut below = Vec::new(alloc);
-    below.push(IndexMap::new(alloc))?;
-    Ok(Table {
+    Table {
         rows: Vec::new(alloc),
-        below,
-    })
+        below: Index {
+            words: IndexSet::new(alloc),
+            rows: IndexSet::new(alloc),
+        },
+    }
 }
 
 /// Declares the packages of each file in an empty table; answers it and their rows. They do not

@@ -2,6 +2,7 @@
 #![tactic(auto)]
 
 pub mod filling;
+pub mod index;
 pub mod last_words;
 pub mod spelled;
 pub mod table;

@@ -3,7 +3,6 @@
 ghost use Rattle.std.specs.Prelude.{◌≡◌, ◌≢◌, ℕ, List, if◌then◌else◌, slice_get, slice_set, ◌+◌, ◌<◌, ◌≤◌, length, get_or, map, ◌++◌, ◌∷◌, [], OnOk, OnErr, IfOk, IfSome, IfNone, option_map, slice_index_or, true, MatchOption, ◌==◌, false, None, Some, string_bytes};
 ghost use Rattle.std.specs.List.{list_any};
 ghost use Rattle.std.specs.Str.{IsUtf8, bytes_eq};
-ghost use Rattle.std.specs.Vec.{vec_capacity, vec_len};
 ghost use Rattle.proto_faults.specs.Ascii as ascii;
 ghost use Rattle.proto_table.specs.Filling.{IsRowOf};
 ghost use Rattle.proto_meaning.specs.Forest.{under, front};
@@ -12,9 +11,9 @@ ghost use Rattle.proto_meaning.specs.Names.{Reference, Workspace, meaning};
 ghost use Rattle.proto_table.specs.Resolved.{IsAsked, IsDeclared, IsIndexOf, IsTaken, IsTypeAt, under_all};
 ghost use Rattle.proto_meaning.specs.Marks.{MarksSeen};
 ghost use Rattle.proto_table.specs.Search.{is_seen, passes, HitsAt, IsHit};
-ghost use Rattle.proto_table.specs.Tables.{IsTable, IsUnchanged, entries_of, found, names_of, look, row_of};
+ghost use Rattle.proto_table.specs.Tables.{IsTable, IsUnchanged, names_of, look, row_of};
 
-use indexmap::IndexMap;
+use crate::index::Index;
 use proto_faults::NoMemory;
 use proto_meaning::Kind;
 use proto_meaning::marks::is_marked;
@@ -83,8 +82,8 @@ fn sees_any(seen: &[bool], files: &[u32]) -> bool
 pub struct Table {
     /// The names but the empty one, each behind the one that it stands below.
     pub rows: Vec<Row>,
-    /// For each number, the indices of the rows right below it by their last words.
-    pub below: Vec<IndexMap<String, usize>>,
+    /// The same rows by the number of the name above them and their last word.
+    pub below: Index,
 }
 
 impl Table {
@@ -104,10 +103,7 @@ impl Table {
     pub fn find(&self, above: usize, word: &str) -> Option<usize>
         ensures { result ≡ look self.now above word.now }
     {
-        match self.below.get(above) {
-            Some(names) => names.get(word).copied(),
-            None => None,
-        }
+        self.below.find(above, word)
     }
 
     /// The index of the row with this name; none where no row has it.
@@ -302,12 +298,9 @@ impl Table {
         ensures kept { OnErr result (IsUnchanged self.old self.new) }
     {
         let name = full_name(alloc, self.text(above), word)?;
-        let key = String::from_str(alloc, word)?;
         let index = self.rows.len();
         self.rows.reserve(1)?;
-        self.below.reserve(1)?;
-        put_below(&mut self.below, above, key, index)?;
-        push_empty(alloc, &mut self.below);
+        self.below.add(alloc, above, word)?;
         self.rows
             .push(Row {
                 name,
@@ -344,41 +337,6 @@ fn add_file(rows: &mut Vec<Row>, row: usize, file: u32) -> Result<(), NoMemory>
     let row = &mut rows[row];
     row.more.push(file)?;
     Ok(())
-}
-
-/// Puts a word below a number.
-fn put_below(
-    below: &mut Vec<IndexMap<String, usize>>,
-    above: usize,
-    word: String,
-    index: usize,
-) -> Result<(), NoMemory>
-    requires { above < length below.old.items }
-    ensures len { OnOk result (length below.new.items ≡ length below.old.items) }
-    ensures here { OnOk result ((v : List ℕ) → found (slice_get below.new.items above) v ≡
-        (if bytes_eq (string_bytes word) v then Some index else found
-        (slice_get below.old.items above) v)) }
-    ensures other { OnOk result ((q : ℕ) → q ≢ above
-        → slice_get below.new.items q ≡ slice_get below.old.items q) }
-    ensures room { OnOk result ((vec_len below.new ≡ vec_len below.old)
-        × (vec_capacity below.new ≡ vec_capacity below.old)) }
-    ensures kept { OnErr result (map entries_of below.new.items ≡ map entries_of below.old.items) }
-{
-    let names = &mut below[above];
-    names.insert(word, index)?;
-    Ok(())
-}
-
-/// A map below one number more, where there is room for it.
-fn push_empty(alloc: Global, below: &mut Vec<IndexMap<String, usize>>)
-    requires room { vec_len below.old < vec_capacity below.old }
-    ensures len { length below.new.items ≡ length below.old.items + 1 }
-    ensures last { (v : List ℕ) → found (slice_get below.new.items (length below.old.items)) v
-        ≡ None }
-    ensures other { (q : ℕ) → q < length below.old.items
-        → slice_get below.new.items q ≡ slice_get below.old.items q }
-{
-    below.push(IndexMap::new(alloc)).unwrap();
 }
 
 /// A text before and after its first `.`; none where it has no `.`.

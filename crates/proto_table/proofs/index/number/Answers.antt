@@ -1,0 +1,24 @@
+use Rattle.std.proofs.Common.{◌≡◌, ℕ, List, string_bytes, String, sym, ◌∙◌, ap, inr, false}
+use Rattle.std.specs.List.{list_any}
+use Rattle.std.specs.Str.{bytes_eq}
+use Rattle.std.specs.declared.alloc.Global.{Global}
+use Rattle.std.proofs.lemmas.Bool.{cond-false}
+use Rattle.proto_table.specs.Indexes.{place}
+use Rattle.proto_table.proofs.Positions.{none_end}
+use Rattle.proto_table.proofs.IndexAdded.{word_other}
+use Rattle.proto_table.proofs.index.number.Goals as goal
+
+absent : (words : List (String Global)) (key : String Global) (word : List ℕ) → string_bytes key ≡ word → false ≡ list_any (λ k. bytes_eq word (string_bytes k)) words → list_any (λ k. bytes_eq (string_bytes key) (string_bytes k)) words ≡ false
+absent words key word is none = ap (λ z. list_any (λ k. bytes_eq z (string_bytes k)) words) is ∙ sym none
+
+pub returns-in_ok-number-in-None-clause-old_or_new :
+    goal.returns-in_ok-number-in-None-clause-old_or_new
+returns-in_ok-number-in-None-clause-old_or_new c = inr (
+  c.in_ok-number-in-None.ensures.index ∙ none_end (λ k. bytes_eq (string_bytes c.in_ok-key-in-None.key) (string_bytes k)) c.args.words.now.keys (ap (place c.args.words.now.keys) c.in_ok-key-in-None.ensures.ok ∙ sym c.in-None.ensures.index),
+  sym c.in-None.ensures.index,
+)
+
+pub returns-in_ok-number-in-None-clause-other : goal.returns-in_ok-number-in-None-clause-other
+returns-in_ok-number-in-None-clause-other c v ne =
+    ap (λ z. place z v) (c.in_ok-number-in-None.ensures.keys ∙ cond-false _ _ _ (absent c.args.words.now.keys c.in_ok-key-in-None.key c.args.word.now c.in_ok-key-in-None.ensures.ok c.in-None.ensures.found))
+    ∙ word_other c.args.words.now.keys c.in_ok-key-in-None.key c.args.word.now c.in_ok-key-in-None.ensures.ok v ne

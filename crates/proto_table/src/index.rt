@@ -1,0 +1,72 @@
+//! The rows of a table by the name above them and their last word.
+
+ghost use Rattle.std.specs.Prelude.{◌≡◌, ◌≢◌, ◌≤◌, ◌+◌, ◌++◌, ◌∷◌, ◌⊎◌, [], ℕ, List, ◌&&◌, ◌==◌, if◌then◌else◌, Some, None, length, IfOk, OnOk, OnErr};
+ghost use Rattle.std.specs.Str.{bytes_eq};
+ghost use Rattle.proto_table.specs.Indexes.{aboves_in, HasWords, keys_in, look_in, place};
+
+use indexmap::IndexSet;
+use proto_faults::NoMemory;
+use std::alloc::Global;
+
+/// A row by the number of the name above it, and the number of its word.
+#[derive(Clone, Copy, PartialEq, Eq, Hash)]
+pub struct Below {
+    pub above: usize,
+    pub word: usize,
+}
+
+/// Words, each with its number, and rows, each with its index.
+#[derive(Drop)]
+pub struct Index {
+    pub words: IndexSet<String>,
+    pub rows: IndexSet<Below>,
+}
+
+/// The number of a word, which is put behind the others where it is new. Refused for want of memory
+/// alone; then the words stay as they were.
+fn number(alloc: Global, words: &mut IndexSet<String>, word: &str) -> Result<usize, NoMemory>
+    ensures found { IfOk result (λ k. place words.new.keys word.now ≡ Some k) }
+    ensures old_or_new { IfOk result (λ k. (words.new.keys ≡ words.old.keys)
+        ⊎ ((k ≡ length words.old.keys) × (place words.old.keys word.now ≡ None))) }
+    ensures other { OnOk result ((v : List ℕ) → v ≢ word.now
+        → place words.new.keys v ≡ place words.old.keys v) }
+    ensures long { length words.old.keys ≤ length words.new.keys }
+    ensures kept { OnErr result (words.new.keys ≡ words.old.keys) }
+{
+    match words.get_index_of(word) {
+        Some(number) => Ok(number),
+        None => {
+            let key = String::from_str(alloc, word)?;
+            let (number, _) = words.insert_full(key)?;
+            Ok(number)
+        }
+    }
+}
+
+impl Index {
+    /// The index of the row of this word right below the name with this number, if there is one.
+    pub fn find(&self, above: usize, word: &str) -> Option<usize>
+        ensures { result ≡ look_in self.now above word.now }
+    {
+        let word = self.words.get_index_of(word)?;
+        self.rows.get_index_of(&Below { above, word })
+    }
+
+    /// A new row, behind the others. Refused for want of memory alone; then nothing has changed.
+    pub(crate) fn add(&mut self, alloc: Global, above: usize, word: &str) -> Result<(), NoMemory>
+        requires new { look_in self.old above word.now ≡ None }
+        requires words { HasWords self.old }
+        ensures words { HasWords self.new }
+        ensures look { OnOk result ((p : ℕ) (v : List ℕ) → look_in self.new p v
+            ≡ (if (above == p) && bytes_eq word.now v then Some (length self.old.rows.keys)
+            else look_in self.old p v)) }
+        ensures aboves { OnOk result (aboves_in self.new ≡ aboves_in self.old ++ above ∷ []) }
+        ensures len { OnOk result (length self.new.rows.keys ≡ length (self.old.rows.keys) + 1) }
+        ensures kept { OnErr result (keys_in self.new ≡ keys_in self.old) }
+    {
+        self.rows.reserve(1)?;
+        let word = number(alloc, &mut self.words, word)?;
+        self.rows.insert(Below { above, word }).unwrap();
+        Ok(())
+    }
+}
