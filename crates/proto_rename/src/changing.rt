@@ -13,6 +13,7 @@ use proto_files::Files;
 use proto_text::{Source, Splice, Splices, Token};
 use std::alloc::{AllocError, Global};
 
+// No `OrNoMemory`: its fault says nothing more, and it is copied.
 /// Why a file is not changed.
 #[derive(Clone, Copy)]
 pub(crate) enum RewordFault {
