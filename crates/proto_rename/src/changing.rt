@@ -139,7 +139,8 @@ fn len_after(source: &Source, tokens: &[Token], to: &str) -> Option<u32>
         (text_limit + bytes_in tokens.now < length source.now + length tokens.now * length to.now)
         (λ after. (after
         ≡ (length source.now + length tokens.now * length to.now) - bytes_in tokens.now)
-        × (length source.now + length tokens.now * length to.now ≤ text_limit + bytes_in tokens.now)) }
+        × (length source.now + length tokens.now * length to.now
+        ≤ text_limit + bytes_in tokens.now)) }
 {
     // With a word that is longer than a text may be, there is nothing to reckon.
     if to.len() > MAX_LEN {
