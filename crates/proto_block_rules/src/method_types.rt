@@ -30,6 +30,7 @@ fn add_item_messages<'a>(
     }
 }
 
+// The steps of `add_messages` once more, over items of another type.
 fn add_file_messages<'a>(
     all: &mut Vec<&'a str>,
     reading: &Reading<'a>,

@@ -1,4 +1,4 @@
--- A full name is a front and its last word.
+-- A full name is a front and its last word (for the crates above).
 use Rattle.std.proofs.Common.{◌≡◌, ℕ, true, List, [], ◌∷◌, ◌++◌, refl, sym, ◌∙◌, ap, append_assoc}
 use Rattle.proto_text.proofs.Common.{is_run, run_is}
 use Rattle.proto_meaning.specs.Joined.{joined, IsPlain, ArePlain}

@@ -1,4 +1,5 @@
--- What proofs of this crate name of its own definitions, passed on from one place. Declares nothing.
+-- What proofs of this crate name of its own definitions, passed on from one place.
+-- Declares nothing.
 pub use Rattle.proto_captures.specs.Aims.{IsAimOf, IsAimedAt, IsNoTarget, IsNotAllowed}
 pub use Rattle.proto_captures.specs.Capturing.{bytes_before, captures_at, captures_use, captures_words, first_now, is_cons, shown_from, stands_first}
 pub use Rattle.proto_captures.specs.FirstCaptured.{AreNewNames, IsFirstCaptured, IsFirstIn, IsRenameOf, captures_by, first_of}

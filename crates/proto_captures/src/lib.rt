@@ -1,5 +1,5 @@
-//! What a rename aims at, and what stands against it: a word, a name, a reference that it captures. Which reference an added
-//! import overtakes.
+//! What a rename aims at, and what stands against it: a word, a name, a reference that it captures.
+//! Which reference an added import overtakes.
 #![tactic(auto)]
 
 mod aim;

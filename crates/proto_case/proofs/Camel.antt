@@ -1,4 +1,4 @@
--- Entry names, character by character.
+-- Entry names, character by character (for the crates above).
 use Rattle.std.proofs.Common.{◌≡◌, ◌≢◌, ℕ, ◌+◌, ◌-◌, ◌/◌, ◌<◌, ◌≤◌, Bool, true, false, cond, ◌==◌, List, [], ◌∷◌, ◌++◌, refl, sym, ap, ◌∙◌, if◌then◌else◌, ◌⊎◌, inl, inr, arith, append_assoc, nat_lt, eqb-true, le-ltb, ltb-false, ltb-true}
 use Rattle.proto_faults.proofs.Common.{to_ascii_uppercase, cases_Bool, cases_lt, cond-false, false_from_ne_true, encode_ascii}
 use lib.Utf8.{encode, next}

@@ -26,8 +26,8 @@ fn mode_named(word: &str) -> OptimizeMode
     }
 }
 
-// The values of three options that are texts, by their names. Three at a time, since each early exit
-// drops the texts before it, and six in one function take the check long.
+// The values of three options that are texts, by their names. Three at a time, since each early
+// exit drops the texts before it, and six in one function take the check long.
 fn texts(
     alloc: Global,
     scene: &Scene,

@@ -1,4 +1,5 @@
-//! What stands in the descriptors of messages, enums and services, from their trees and what is read of their file.
+//! What stands in the descriptors of messages, enums and services, from their trees and what is
+//! read of their file.
 #![tactic(auto)]
 
 mod described_entry;

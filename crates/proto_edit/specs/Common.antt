@@ -1,4 +1,5 @@
--- What proofs of this crate name of its own definitions, passed on from one place. Declares nothing.
+-- What proofs of this crate name of its own definitions, passed on from one place.
+-- Declares nothing.
 pub use Rattle.proto_edit.specs.Answers.{IsReopened, IsUndoAllRefusal, IsUndoRefusal, LeadsBack, asked}
 pub use Rattle.proto_edit.specs.Compiled.{AreCompiled, at}
 pub use Rattle.proto_edit.specs.Laws.{AcceptedAreNotable, CompiledAreRead, DescribedOnce, EditsAreMade, MappedOnce, RefusedOnce, RunsAreUndone, StepsAreUndone, StepsCompile, StepsOnce, UndoneOnce, WorkspacesAreClean}

@@ -1,4 +1,5 @@
--- What proofs of this crate name of its own definitions, passed on from one place. Declares nothing.
+-- What proofs of this crate name of its own definitions, passed on from one place.
+-- Declares nothing.
 pub use Rattle.proto_files.specs.Faults.{ComesBefore, FaultAt, HasNoFault, IsFilesError, IsLeastFault, fault_at, fault_cmp}
 pub use Rattle.proto_files.specs.FilesRead.{AreRead, Each, ReadOf, read_at}
 pub use Rattle.proto_files.specs.FirstFault.{begins_with, fault_or}

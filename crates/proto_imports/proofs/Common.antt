@@ -4,7 +4,7 @@ pub use Rattle.proto_imports.proofs.FileUses.{use_from, use_in}
 pub use Rattle.proto_imports.proofs.ImportGraph.{IsGraph, all_within, contains_filtered, graph_of, import_in, import_of_file, targets_twice, within_map}
 pub use Rattle.proto_imports.proofs.LeastLinkFault.{least_import, least_name, least_reference, link_error, no_fault}
 pub use Rattle.proto_imports.proofs.PlainNames.{name_in, names_are_plain, plain_join}
-pub use Rattle.proto_imports.proofs.SeenFiles.{imports_within, in_filter, of_filter, pushed}
+pub use Rattle.proto_imports.proofs.SeenFiles.{imports_within, pushed}
 pub use Rattle.proto_imports.proofs.Turned.{contains_within, take_more}
 pub use Rattle.proto_imports.proofs.Walks.{marked_within}
 pub use Rattle.proto_imports.specs.ImportSteps.{IsFileIndex}

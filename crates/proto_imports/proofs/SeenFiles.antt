@@ -1,6 +1,6 @@
 -- What a file sees, as a walk along its own imports and the public ones of the others (for the crates above).
 use Rattle.std.proofs.Common.{◌≡◌, ◌≢◌, ◌⊎◌, ◌↔◌, ℕ, zero, suc, ◌+◌, ◌<◌, Bool, true, false, List, [], ◌∷◌, ◌++◌, length, get_or, map, filter, refl, sym, ◌∙◌, ap, subst, inl, inr, arith, slice_set, All, Contains, get_or-set_same, get_or-set_other}
-use Rattle.proto_faults.proofs.Common.{cases_Bool, cases_eq, both_ways, cond-true, cond-false, get_or-map, length-map, from_map, contains_map, contains_cases, contains_head, contains_later}
+use Rattle.proto_faults.proofs.Common.{cases_eq, both_ways, get_or-map, length-map, from_map, contains_map, contains_filter, from_filter}
 use Rattle.std.proofs.Math.ListN.{get_or-append}
 use Rattle.std.proofs.Math.Seq.{get_or-append_seam}
 use Rattle.proto_meaning.proofs.Common.{Import, Workspace, Reaches, here, along, Sees, itself, by_import, sees, AreFiles, MarksSeen, sees_is}
@@ -14,36 +14,12 @@ own_of is = map (λ i. i.to) is
 abbrev pub public_of : List FileImport → List ℕ
 public_of is = map (λ i. i.to) (filter (λ i. i.is_public) is)
 
--- what passes a test, in a list
-pub in_filter : {X : Type 0} (p : X → Bool) (xs : List X) (x : X) → Contains (filter p xs) x → Contains xs x × (p x ≡ true)
-in_filter p [] x c = absurd (omega (arith, c.1))
-in_filter p (y ∷ xs) x c = elim (cases_Bool (p y)) [
-  | inl pass ↦ elim (contains_cases y x (filter p xs) (subst (λ z. Contains z x) (cond-true (p y) (y ∷ filter p xs) (filter p xs) pass) c)) [
-    | inl e ↦ (subst (Contains (y ∷ xs)) e (contains_head y xs), ap p (sym e) ∙ pass)
-    | inr d ↦ let r = in_filter p xs x d in (contains_later y x xs r.0, r.1)
-  ]
-  | inr fail ↦ let r = in_filter p xs x (subst (λ z. Contains z x) (cond-false (p y) (y ∷ filter p xs) (filter p xs) fail) c) in (contains_later y x xs r.0, r.1)
-]
-
-pub of_filter : {X : Type 0} (p : X → Bool) (xs : List X) (x : X) → Contains xs x → p x ≡ true → Contains (filter p xs) x
-of_filter p [] x c e = absurd (omega (arith, c.1))
-of_filter p (y ∷ xs) x c e = elim (cases_Bool (p y)) [
-  | inl pass ↦ subst (λ z. Contains z x) (sym (cond-true (p y) (y ∷ filter p xs) (filter p xs) pass)) (elim (contains_cases y x xs c) [
-    | inl same ↦ subst (Contains (y ∷ filter p xs)) same (contains_head y (filter p xs))
-    | inr d ↦ contains_later y x (filter p xs) (of_filter p xs x d e)
-  ])
-  | inr fail ↦ subst (λ z. Contains z x) (sym (cond-false (p y) (y ∷ filter p xs) (filter p xs) fail)) (elim (contains_cases y x xs c) [
-    | inl same ↦ absurd (both_ways (p y) fail (ap p same ∙ e))
-    | inr d ↦ of_filter p xs x d e
-  ])
-]
-
 -- the lists of the files that are imported publicly
 public_in : (is : List (List FileImport)) (from to : ℕ) → Contains (get_or (map public_of is) from []) to → (i : Import) × Contains (all_imports 0 is) i × (i.from ≡ from) × (i.to ≡ to) × (i.is_public ≡ true)
 public_in is from to c =
     let l : from < length is = let w = contains_within (map public_of is) from to c in omega (arith, w, length-map is public_of) in
     let r = from_map (λ i. i.to) (filter (λ i. i.is_public) (get_or is from [])) to (subst (λ z. Contains z to) (get_or-map public_of is from [] [] l) c) in
-    let p = in_filter (λ i. i.is_public) (get_or is from []) r.0 r.1 in
+    let p = from_filter (λ i. i.is_public) (get_or is from []) r.0 r.1 in
     let z : 0 + from ≡ from = omega arith in
     (import_from (0 + from) r.0, import_of_file 0 from is r.0 p.0, z, r.2, p.1)
 
@@ -53,7 +29,7 @@ public_of_import is i c p =
     let k : r.0 ≡ i.from = let q = r.2 in omega (arith, q) in
     let t : r.3.0.to ≡ i.to = ap (λ j. j.to) r.3.2 in
     let q : r.3.0.is_public ≡ true = ap (λ j. j.is_public) r.3.2 ∙ p in
-    let d = subst (Contains (public_of (get_or is r.0 []))) t (contains_map (λ i. i.to) (filter (λ i. i.is_public) (get_or is r.0 [])) r.3.0 (of_filter (λ i. i.is_public) (get_or is r.0 []) r.3.0 r.3.1 q)) in
+    let d = subst (Contains (public_of (get_or is r.0 []))) t (contains_map (λ i. i.to) (filter (λ i. i.is_public) (get_or is r.0 [])) r.3.0 (contains_filter (λ i. i.is_public) (get_or is r.0 []) r.3.0 r.3.1 q)) in
     subst (λ z. Contains (get_or (map public_of is) z []) i.to) k (subst (λ z. Contains z i.to) (sym (get_or-map public_of is r.0 [] [] r.1)) d)
 
 -- where a walk from a file goes: along its own imports, and the public ones of the others
@@ -153,7 +129,7 @@ pub public_within : {X : Type 0} (f : X → List FileImport) (n : ℕ) (xs : Lis
 public_within f n [] h k b c = absurd (omega (arith, c.1))
 public_within f n (x ∷ xs) h zero b c =
     let r = from_map (λ i. i.to) (filter (λ i. i.is_public) (f x)) b c in
-    let q = (in_filter (λ i. i.is_public) (f x) r.0 r.1).0 in
+    let q = (from_filter (λ i. i.is_public) (f x) r.0 r.1).0 in
     let s = h 0 x (omega arith) q.0 r.0 q.1 in
     let t : (get_or (f x) q.0 r.0).to ≡ b = ap (λ i. i.to) q.2 ∙ r.2 in
     omega (arith, s, t)

@@ -5,7 +5,7 @@ ghost use Rattle.std.specs.List.{All};
 ghost use Rattle.proto_imports.specs.Walks.{Walks, IsMarked, Visits};
 
 use proto_faults::NoMemory;
-use std::alloc::{AllocError, Global};
+use std::alloc::Global;
 
 /// Marks the files that are reached from this one by steps along the lists, itself among them.
 /// Refused for want of memory alone.
@@ -55,8 +55,9 @@ fn mark(file: u32, seen: &mut Vec<bool>, todo: &mut Vec<u32>) -> Result<(), NoMe
 }
 
 /// As many marks, none of them set. Only want of memory is refused.
-pub fn unmarked(alloc: Global, count: usize) -> Result<Vec<bool>, AllocError>
+pub fn unmarked(alloc: Global, count: usize) -> Result<Vec<bool>, NoMemory>
     ensures { IfOk result (λ marks. marks.items ≡ replicate count false) }
 {
-    vec![in alloc; false; count]
+    let marks = vec![in alloc; false; count]?;
+    Ok(marks)
 }

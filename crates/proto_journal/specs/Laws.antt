@@ -63,8 +63,8 @@ TornUndoIsTorn =
     → IsEntry entry → IsUndo after entry before
     → IsTornBetween version records entry before after held → IsTorn version records entry held
 
--- the store has the files that it had, and its journal, which was of the first version, has the same
--- records in the second
+-- the store has the files that it had, and its journal, which was of the first version, has the
+-- same records in the second
 abbrev pub IsBackInSecond : Held → Option Held → Type 0
 IsBackInSecond old new = (records : List RecordOf) × IsReadyWith First records old
     × (new ≡ Some (with_journal (journal_text Second records) old))

@@ -47,7 +47,9 @@ ReadyOutcome held (Err f) = IsUnready held f
 -- a failed call of the store is counted and answered as Store, and nothing else is
 abbrev pub CountsLoad : {T : Type 0} → ℕ → ℕ → Result T LoadFault → Type 0
 CountsLoad before after (Err load.Store) = after ≡ before + 1
-CountsLoad before after _ = after ≡ before
+CountsLoad before after (Err load.NoMemory) = after ≡ before
+CountsLoad before after (Err (load.Schema f)) = after ≡ before
+CountsLoad before after (Ok value) = after ≡ before
 
 -- the number of a schemas' fault in the table of faults, and 0 of what is no fault of theirs
 abbrev pub fault_number : LoadFault → ℕ

@@ -5,7 +5,7 @@ ghost use Rattle.proto_journal.specs.Loads.{CountsLoad, LoadOutcome, fault_name,
 
 use proto_edit::Workspace;
 use proto_faults::{Fault, SchemaFault};
-use proto_store::{ReadingFault, Store, StoreFault, all_files};
+use proto_store::{ReadingFault, Store, all_files};
 use std::alloc::Global;
 use thiserror::Error;
 
@@ -44,16 +44,6 @@ impl LoadFault {
             LoadFault::Store => "Store",
             LoadFault::NoMemory => "NoMemory",
         }
-    }
-}
-
-impl From<StoreFault> for LoadFault {
-    ghost use Rattle.proto_journal.specs.declared.loading.LoadFault.TheVariants as fault;
-
-    ghost from_gives = { λ _ e. e ≡ fault.Store };
-
-    fn from(_fault: StoreFault) -> LoadFault {
-        LoadFault::Store
     }
 }
 

@@ -250,6 +250,10 @@ valued {k} {v} {w} {old} {new} is puts = subst (λ (o : Option (List ℕ)). Puts
 pub listed : {k : List ℕ} {ts us : List (List ℕ)} {old new : Log} → ts ≡ us → PutsMember (k, array_if_any ts) old new → PutsMember (k, array_if_any us) old new
 listed {k} {ts} {us} {old} {new} is puts = subst (λ (xs : List (List ℕ)). PutsMember (k, array_if_any xs) old new) is puts
 
+-- the list of a slice, by the list that it was made from
+pub sliced : {A : Type 0} (text_of : A → List ℕ) {k : List ℕ} {xs ys : List A} {old new : Log} → xs ≡ ys → PutsMember (k, array_if_any (map text_of xs)) old new → PutsMember (k, array_if_any (map text_of ys)) old new
+sliced text_of is puts = listed (ap (map text_of) is) puts
+
 -- ---- options
 
 rest-none : (b : Bool) (k : List ℕ) (slots : List Slot) (w : Written) → options_put b slots w ≡ options_put b ((k, None) ∷ slots) w

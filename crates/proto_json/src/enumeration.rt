@@ -23,6 +23,7 @@ impl ToJson for EnumDescriptor {
     }
 }
 
+/// The members of an enum, in their order.
 fn put_members<S: Serializer>(out: &mut S, enumeration: &EnumDescriptor) -> Result<(), S::Error>
     ensures { OnOk result (PutsMembers (enum_slots (enum_desc enumeration.now))
         (S.written out.old) (S.written out.new)) }

@@ -7,7 +7,7 @@ ghost use Rattle.proto_json.specs.JsonText.{quoted};
 ghost use Rattle.proto_json.specs.Written.{PutsValue, PutsMember, PutsMembers, EndsOptions, options_slot};
 ghost use Rattle.proto_descriptors.specs.Views.{file_desc, file_options_desc};
 
-use crate::members::{put, put_list, put_optional, put_slice};
+use crate::members::{put, put_list, put_optional};
 use crate::message::put_messages;
 use crate::options::{close, put_option};
 use crate::values::ToJson;
@@ -46,7 +46,7 @@ impl Described for FileList<'_> {
 impl Serialize for FileList<'_> {
     fn serialize<S: Serializer>(&self, out: &mut S) -> Result<(), S::Error> {
         out.begin_map(None)?;
-        put_slice(out, self.key, self.files)?;
+        put_list(out, self.key, self.files)?;
         out.end_map()
     }
 }

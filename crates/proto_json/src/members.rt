@@ -39,18 +39,6 @@ pub(crate) fn put_optional<S: Serializer, T: ToJson>(
 pub(crate) fn put_list<S: Serializer, T: ToJson>(
     out: &mut S,
     key: &'static str,
-    values: &Vec<T>,
-) -> Result<(), S::Error>
-    ensures { OnOk result (PutsMember (key.now, array_if_any (map T.text values.now.items))
-        (S.written out.old) (S.written out.new)) }
-{
-    put_slice(out, key, values)
-}
-
-/// The same of the values of a slice.
-pub(crate) fn put_slice<S: Serializer, T: ToJson>(
-    out: &mut S,
-    key: &'static str,
     values: &[T],
 ) -> Result<(), S::Error>
     ensures { OnOk result (PutsMember (key.now, array_if_any (map T.text values.now))

@@ -18,10 +18,10 @@ use serde::Serializer;
 pub(crate) fn put_messages<S: Serializer>(
     out: &mut S,
     key: &'static str,
-    messages: &Vec<MessageDescriptor>,
+    messages: &[MessageDescriptor],
 ) -> Result<(), S::Error>
     ensures { OnOk result (PutsMember
-        (key.now, array_if_any (message_texts (messages_desc messages.now.items)))
+        (key.now, array_if_any (message_texts (messages_desc messages.now)))
         (S.written out.old) (S.written out.new)) }
 {
     if messages.is_empty() {

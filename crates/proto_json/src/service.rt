@@ -44,6 +44,7 @@ impl ToJson for MethodDescriptor {
     }
 }
 
+/// The members of a method, in their order.
 fn put_members<S: Serializer>(out: &mut S, method: &MethodDescriptor) -> Result<(), S::Error>
     ensures { OnOk result (PutsMembers (method_slots (method_desc method.now))
         (S.written out.old) (S.written out.new)) }

@@ -277,6 +277,7 @@ fn import(item: &Item) -> Option<&Import>
     }
 }
 
+// Beside `imports` of proto_listing, which leaves out the keyword where findings stand.
 /// The import statements of a file.
 fn import_statements<'a>(alloc: Global, file: &'a File) -> Result<Vec<&'a Import>, NoMemory>
     ensures { IfOk result (λ imports. map (λ i. i.now) imports.items

@@ -108,8 +108,8 @@ fn has_lower_snake_file(head: &FileHead) -> bool
 
 // ---- what they find
 
-// These differ in the rule and in what passes alone. Each asks for its rule before it looks, so that
-// a rule that is not chosen costs nothing; a common one would be given what passes.
+// These differ in the rule and in what passes alone. Each asks for its rule before it looks, so
+// that a rule that is not chosen costs nothing; a common one would be given what passes.
 
 /// The package, or `-`.
 fn package_or_dash<'a>(head: &'a FileHead) -> &'a str

@@ -1,4 +1,5 @@
--- What proofs of this crate name of its own definitions, passed on from one place. Declares nothing.
+-- What proofs of this crate name of its own definitions, passed on from one place.
+-- Declares nothing.
 pub use Rattle.proto_meaning.specs.Edits.{Collides, IsAddition, IsCaptured, IsClear, IsNeeded, IsOvertaken, Renaming, any_above, captured_from, collides, collides_with, deleted, import_of, in_domain, is_below, is_captured, is_entry, is_entry_by, moves, moves_by, ren, renamed, renamed_at, renamed_reference, renamed_symbol, rewritten, shows_mapped, target, turn_below, turned, turned_by, with_imports}
 pub use Rattle.proto_meaning.specs.Grown.{At, FileNames, IsGrown, all_declared, all_used, at, declared_of, file_declared, file_used, skeleton_of, skeleton_of_files, used_in}
 pub use Rattle.proto_meaning.specs.Linked.{AreApart, AreFiles, EntryFits, EntryStands, IsDeletion, IsFree, IsLinked, IsNested, IsRenaming, holds, is_leaf, is_package}

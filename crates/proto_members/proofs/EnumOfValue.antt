@@ -1,6 +1,6 @@
 -- The enum that has a value stands beside it.
 use Rattle.std.proofs.Common.{◌≡◌, ℕ, ◌+◌, ◌<◌, ◌==◌, Bool, true, cond, List, [], ◌∷◌, ◌++◌, length, map, find, Option, Some, None, option_map, refl, sym, ap, ap₂, subst, ◌∙◌, inl, inr, arith, Contains, eqb-true, true≢false}
-use Rattle.proto_faults.proofs.Common.{cases_Bool, append_cancel_right, none-some, same_Some, any_to, contains_cases, from_map}
+use Rattle.proto_faults.proofs.Common.{cases_Bool, append_cancel_right, none-some, same_Some, any_to, contains_cases, from_map, contains_filter, from_filter}
 use Rattle.proto_case.specs.Camel.{entry_name}
 use Rattle.proto_text.proofs.Common.{lexeme_at, length_map}
 use Rattle.proto_tree.specs.declared.piece.Header.{Header}
@@ -21,7 +21,7 @@ use Rattle.proto_captures.proofs.Scenes.{find_there, index_map}
 use Rattle.proto_captures.specs.declared.aim.Aim.{Aim}
 use Rattle.proto_members.specs.Common.{holders_in, may_hold, has_value, holds_value, name_token}
 use Rattle.proto_members.proofs.AimedAt.{aim_inside}
-use Rattle.proto_members.proofs.MemberTests.{from_filter, in_filter, value_there}
+use Rattle.proto_members.proofs.MemberTests.{value_there}
 
 -- ---- blocks
 
@@ -70,7 +70,7 @@ module _ (files : List FileOf) (reads : List ReadOf) (are : AreRead files reads)
   enum_is c found enum y =
       let fb = find_there (λ (x : BlockOf). is_enum_at (place_of y.d).token x.header) (blocks_in (read_at reads a.file).tree) y.b y.found in
       let fc = find_there (λ (b : BlockOf). holds_value a.token b.header b.within) (holders_in tree) c found in
-      let there : Contains (blocks_in (read_at reads a.file).tree) c = subst (λ z. Contains (blocks_in z) c) (sym tree_is) (from_filter (λ b. may_hold b.header) (blocks_in tree) c fc.0) in
+      let there : Contains (blocks_in (read_at reads a.file).tree) c = subst (λ z. Contains (blocks_in z) c) (sym tree_is) (from_filter (λ b. may_hold b.header) (blocks_in tree) c fc.0).0 in
       let vb = from_map (λ (v : ValueParts). v.name) (values_in y.b.within) a.token y.within in
       let vc = any_to (λ (v : ValueParts). v.name == a.token) (values_in c.within) (value_of_holder a.token c.header c.within fc.1) in
       let named : vc.0.name ≡ a.token = eqb-true vc.0.name a.token vc.2 in
@@ -137,4 +137,4 @@ module _ (files : List FileOf) (reads : List ReadOf) (are : AreRead files reads)
           let y = subst (λ z. IsEnumOf files reads z enum) (sym h.token) q.1 in
           let fb = find_there (λ (x : BlockOf). is_enum_at (place_of y.d).token x.header) (blocks_in (read_at reads a.file).tree) y.b y.found in
           let k = enum_holder (place_of y.d).token a.token y.b.header y.b.within fb.1 (value_there (values_in y.b.within) a.token y.within) in
-          absurd (find_none (λ (b : BlockOf). holds_value a.token b.header b.within) (holders_in tree) y.b (in_filter (λ b. may_hold b.header) (blocks_in tree) y.b (subst (λ z. Contains (blocks_in z) y.b) tree_is fb.0) k.1) k.0 f)
+          absurd (find_none (λ (b : BlockOf). holds_value a.token b.header b.within) (holders_in tree) y.b (contains_filter (λ b. may_hold b.header) (blocks_in tree) y.b (subst (λ z. Contains (blocks_in z) y.b) tree_is fb.0) k.1) k.0 f)

@@ -1,6 +1,6 @@
 -- Tests of the blocks that have members, and what they say of all blocks (for the crates above).
-use Rattle.std.proofs.Common.{◌≡◌, ℕ, ◌<◌, ◌==◌, Bool, true, false, cond, List, [], ◌∷◌, length, map, refl, sym, ap, subst, ◌∙◌, inl, inr, arith, Contains, filter, eq-eqb, eqb-true}
-use Rattle.proto_faults.proofs.Common.{cond-true, any_from, any_to, contains_cases, contains_head, contains_later, contains_map, from_map}
+use Rattle.std.proofs.Common.{◌≡◌, ℕ, ◌<◌, ◌==◌, true, List, [], length, map, refl, subst, inl, inr, arith, Contains, eq-eqb, eqb-true}
+use Rattle.proto_faults.proofs.Common.{any_from, any_to, contains_map, from_map}
 use Rattle.proto_text.specs.Tokens.{lexeme_at}
 use Rattle.proto_tree.specs.declared.piece.Header.{Header}
 use Rattle.proto_tree.specs.declared.piece.Header.TheVariants as header
@@ -13,30 +13,6 @@ use Rattle.proto_parts.specs.Parts.{BlockOf, FieldOf, blocks_in, fields_in, valu
 use Rattle.proto_checks_laws.proofs.Common.{IsDeclared, blocks_are_declared}
 use Rattle.proto_captures.specs.Cases.{HasMember}
 use Rattle.proto_members.specs.Common.{may_hold, fields_by, has_field, has_member, has_value}
-
--- ---- filtered lists
-
-pub in_filter : {X : Type 0} (p : X → Bool) (xs : List X) (x : X) → Contains xs x → p x ≡ true → Contains (filter p xs) x
-in_filter p [] x c h = absurd (omega (arith, c.1))
-in_filter p (y ∷ xs) x c h = elim (contains_cases y x xs c) [
-  | inl e ↦ subst (λ l. Contains l x) (sym (cond-true (p y) (y ∷ filter p xs) (filter p xs) (ap p e ∙ h))) (subst (λ z. Contains (z ∷ filter p xs) x) (sym e) (contains_head x (filter p xs)))
-  | inr d ↦ go (p y) (in_filter p xs x d h)
-]
-  where
-    go : (b : Bool) → Contains (filter p xs) x → Contains (cond b (y ∷ filter p xs) (filter p xs)) x
-    go true c = contains_later y x (filter p xs) c
-    go false c = c
-
-pub from_filter : {X : Type 0} (p : X → Bool) (xs : List X) (x : X) → Contains (filter p xs) x → Contains xs x
-from_filter p [] x c = absurd (omega (arith, c.1))
-from_filter p (y ∷ xs) x c = go (p y) (from_filter p xs x) c
-  where
-    go : (b : Bool) → (Contains (filter p xs) x → Contains xs x) → Contains (cond b (y ∷ filter p xs) (filter p xs)) x → Contains (y ∷ xs) x
-    go true ih c = elim (contains_cases y x (filter p xs) c) [
-      | inl s ↦ subst (λ z. Contains (z ∷ xs) x) (sym s) (contains_head x xs)
-      | inr d ↦ contains_later y x xs (ih d)
-    ]
-    go false ih c = contains_later y x xs (ih c)
 
 -- ---- members
 

@@ -1,6 +1,6 @@
 -- The test of all blocks for a reserved name is that of the file.
 use Rattle.std.proofs.Common.{◌≡◌, ℕ, ◌<◌, true, None, List, length, map, sym, ap, subst, ◌∙◌, Contains, bytes_eq}
-use Rattle.proto_faults.proofs.Common.{list_any, and_from, and_parts, any_from, any_to, contains_map, from_map, same_from_word, word_from_same}
+use Rattle.proto_faults.proofs.Common.{list_any, and_from, and_parts, any_from, any_to, contains_map, from_map, same_from_word, word_from_same, contains_filter, from_filter}
 use Rattle.proto_text.specs.Tokens.{Lexeme}
 use Rattle.proto_tree.specs.Tree.{Tree}
 use Rattle.proto_files.proofs.Common.{FileOf, file_at, AreRead, ReadOf, read_at, IsTreeOf, same_tree}
@@ -9,7 +9,7 @@ use Rattle.proto_listing.specs.FromTree.{items_in}
 use Rattle.proto_parts.proofs.Common.{blocks_in, reserved_names_in, Scene, value, value_in}
 use Rattle.proto_captures.proofs.Common.{scene_of, Reserves}
 use Rattle.proto_members.specs.Common.{holders_in, may_hold, IsReadAs, has_member, reserves, says}
-use Rattle.proto_members.proofs.MemberTests.{block_declared, from_filter, in_filter, member_from, member_to}
+use Rattle.proto_members.proofs.MemberTests.{block_declared, member_from, member_to}
 
 module _ (files : List FileOf) (reads : List ReadOf) (are : AreRead files reads) (file : ℕ) (within : file < length files) (scene : Scene) (as_read : IsReadAs files reads file scene) (tree : Tree) (of_file : IsTreeOf (file_at files file).bytes tree) (token : ℕ) (word : List ℕ) where
   same_value : (t : ℕ) → value scene t ≡ value (scene_of None files reads file) t
@@ -22,7 +22,7 @@ module _ (files : List FileOf) (reads : List ReadOf) (are : AreRead files reads)
   reserves_to e =
       let x = any_to (reserves scene token word) (holders_in tree) e in
       let names = reserved_names_in x.0.within in
-      let c = from_filter (λ b. may_hold b.header) (blocks_in tree) x.0 x.1 in
+      let c = (from_filter (λ b. may_hold b.header) (blocks_in tree) x.0 x.1).0 in
       let p = and_parts (has_member token x.0.header x.0.within) (says scene word names) x.2 in
       let s = any_to (λ t. bytes_eq (value scene t) word) names p.1 in
       let is : value (scene_of None files reads file) s.0 ≡ word = sym (same_value s.0) ∙ word_from_same (value scene s.0) word s.2 in (
@@ -39,5 +39,5 @@ module _ (files : List FileOf) (reads : List ReadOf) (are : AreRead files reads)
       let h = (member_to r.0.header r.0.within token m).1 in
       let w = from_map (value (scene_of None files reads file)) names word r.3 in
       let said = any_from (λ t. bytes_eq (value scene t) word) names w.0 w.1 (same_from_word (value scene w.0) word (same_value w.0 ∙ w.2)) in
-      any_from (reserves scene token word) (holders_in tree) r.0 (in_filter (λ b. may_hold b.header) (blocks_in tree) r.0 (subst (λ t. Contains (blocks_in t) r.0) tree_is r.1) h)
+      any_from (reserves scene token word) (holders_in tree) r.0 (contains_filter (λ b. may_hold b.header) (blocks_in tree) r.0 (subst (λ t. Contains (blocks_in t) r.0) tree_is r.1) h)
       (and_from (has_member token r.0.header r.0.within) (says scene word names) m said)

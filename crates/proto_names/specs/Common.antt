@@ -1,4 +1,5 @@
--- What proofs of this crate name of its own definitions, passed on from one place. Declares nothing.
+-- What proofs of this crate name of its own definitions, passed on from one place.
+-- Declares nothing.
 pub use Rattle.proto_names.specs.FileReferences.{AreFileMeant, AreLinked, IsFileError, IsFileLinked, IsFirstFlawed, IsLeastBad, declared_names, flaw_number, uses_of}
 pub use Rattle.proto_names.specs.LinkOfFiles.{AreNamesOf, HasNoImportFault, HasNoNameFault, HoldsNames, IsDeclaredIn, IsLinkBy, IsLinkRead, has_text, meant_by_link, meant_by_use, reference_at}
 pub use Rattle.proto_names.specs.Linking.{LinkOf, MeantBy, NameOf, all_meant, is_visible, meant_at, meant_by, name_at, name_of_row, references_to, row_at, sees_one}

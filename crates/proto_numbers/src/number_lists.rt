@@ -78,7 +78,7 @@ pub fn field_ranges(
     Ok(found)
 }
 
-// ---- of enums, as of fields, over signed numbers, which have a first token and a limit of their own
+// ---- of enums, as of fields, over signed numbers, with a first token and a limit of their own
 
 fn first_token(signed: Signed) -> u32
     ensures { result ≡ first_of_signed signed }

@@ -1,5 +1,4 @@
-//! What is read of a file: its texts, strings and numbers, its version, and what its references
-//! mean.
+//! What is read of a file: texts, strings, numbers, its version, and what its references mean.
 
 ghost use Rattle.std.specs.Prelude.{◌≡◌, ◌<◌, ◌==◌, AllPairs, Some, map, find, option_map, IfOk};
 ghost use Rattle.std.specs.String.{string_bytes};
@@ -23,8 +22,7 @@ pub struct EnumAt<'a> {
     pub values: &'a [&'a str],
 }
 
-/// What a reference means, by its first token: a full name, and the enum of that name, if it is
-/// one.
+/// What a reference means, by its first token: a full name, and the enum of that name, if any.
 #[derive(Clone, Copy)]
 pub struct MeantAt<'a> {
     pub token: u32,

@@ -47,8 +47,7 @@ fn item_says_proto3(words: &Words, item: &Item) -> bool
     }
 }
 
-/// Whether a file is proto3, by the texts of its tokens and its tree. One without a syntax
-/// statement is proto2.
+/// Whether a file is proto3, by its texts and its tree. Without a syntax statement it is proto2.
 pub fn is_proto3(words: &Words, file: &File) -> bool
     ensures { result ≡ is_proto3 (value_in words.now) (tree_of_file file.now) }
 {

@@ -5,16 +5,13 @@ use Rattle.std.specs.Global.{Vec}
 use Rattle.proto_records.specs.Common.{JournalFault, Version, First, Second, RecordOf, IsJournal, IsJournalIn, is_last_open, journal_text, CountsFault, IsSettled, IsReadInOneWay, IsMigrant, IsMigrated, IsOpenFirst, IsSecond, IsTooLong, MigrateOutcome, MigrationsAreOne, SecondOutcome}
 use Rattle.proto_records.specs.declared.fault.JournalFault.TheVariants as fault
 use Rattle.proto_store.specs.Stores.{Held, HoldsJournal, with_journal}
-use Rattle.proto_records.proofs.Outcomes.{over_journal}
+use Rattle.proto_records.proofs.Outcomes.{over_journal, unread}
 
 -- ---- what is answered
 
 pub not_read : (journal : List ℕ) (f : JournalFault) → (f ≡ fault.BadJournal) ⊎ (f ≡ fault.NoMemory)
     → (f ≡ fault.BadJournal → (records : List RecordOf) → IsJournal journal records → ⊥) → SecondOutcome journal (Err f)
-not_read journal f which bad = elim which [
-  | inl is ↦ subst (λ (z : JournalFault). SecondOutcome journal (Err z)) (sym is) (bad is)
-  | inr is ↦ subst (λ (z : JournalFault). SecondOutcome journal (Err z)) (sym is) tt
-]
+not_read journal f which bad = unread (λ (z : JournalFault). SecondOutcome journal (Err z)) f which bad tt
 
 pub not_migrated : (old new : Option Held) (journal : List ℕ) (f : JournalFault) → new ≡ old → HoldsJournal old journal → SecondOutcome journal (Err f) → MigrateOutcome old new (Err f)
 not_migrated old new journal fault.BadJournal same there o = (same, over_journal old journal (λ (t : List ℕ). (records : List RecordOf) → IsJournal t records → ⊥) there o)

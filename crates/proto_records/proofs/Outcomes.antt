@@ -15,12 +15,13 @@ use Rattle.proto_entries.specs.declared.refusal.Refusal.TheVariants as refusal
 
 -- ---- the open entry
 
+-- what isn't read is no journal, or wants memory
+pub unread : (P : JournalFault → Type 0) (f : JournalFault) → (f ≡ fault.BadJournal) ⊎ (f ≡ fault.NoMemory) → (f ≡ fault.BadJournal → P fault.BadJournal) → P fault.NoMemory → P f
+unread P f which bad none = elim which [ inl is ↦ subst P (sym is) (bad is) | inr is ↦ subst P (sym is) none ]
+
 pub no_open : (bytes : List ℕ) (f : JournalFault) → (f ≡ fault.BadJournal) ⊎ (f ≡ fault.NoMemory)
     → (f ≡ fault.BadJournal → (records : List RecordOf) → IsJournal bytes records → ⊥) → OpenOutcome bytes (Err f)
-no_open bytes f which bad = elim which [
-  | inl is ↦ subst (λ (z : JournalFault). OpenOutcome bytes (Err z)) (sym is) (bad is)
-  | inr is ↦ subst (λ (z : JournalFault). OpenOutcome bytes (Err z)) (sym is) tt
-]
+no_open bytes f which bad = unread (λ (z : JournalFault). OpenOutcome bytes (Err z)) f which bad tt
 
 open_state : (s : State) → is_open s ≡ true → s ≡ state.Open
 open_state state.Open e = refl

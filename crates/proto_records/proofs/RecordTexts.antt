@@ -57,15 +57,15 @@ ascii_part (b ∷ part) h =
 utf8_part : (part : List ℕ) → is_path_part part ≡ true → IsUtf8 part
 utf8_part part h = IsUtf8-are_ascii part (ascii_part part (and_parts _ (list_all is_path_byte part) h).1)
 
-utf8_joined : (parts : List (List ℕ)) → AllPass is_path_part parts → IsUtf8 (join_with_byte 47 parts)
-utf8_joined [] h = IsUtf8-nil
-utf8_joined (part ∷ []) h = utf8_part part (All-head (λ p. is_path_part p ≡ true) part [] h)
-utf8_joined (part ∷ next ∷ parts) h =
-    IsUtf8-append part _ (utf8_part part (All-head (λ p. is_path_part p ≡ true) part (next ∷ parts) h))
-    (IsUtf8-append (47 ∷ []) _ (IsUtf8-are_ascii (47 ∷ []) refl) (utf8_joined (next ∷ parts) (All-tail (λ p. is_path_part p ≡ true) part (next ∷ parts) h)))
+utf8_joined : (byte : ℕ) (p : List ℕ → Bool) → IsUtf8 (byte ∷ []) → ((part : List ℕ) → p part ≡ true → IsUtf8 part) → (parts : List (List ℕ)) → AllPass p parts → IsUtf8 (join_with_byte byte parts)
+utf8_joined byte p one each [] h = IsUtf8-nil
+utf8_joined byte p one each (part ∷ []) h = each part (All-head (λ x. p x ≡ true) part [] h)
+utf8_joined byte p one each (part ∷ next ∷ parts) h =
+    IsUtf8-append part _ (each part (All-head (λ x. p x ≡ true) part (next ∷ parts) h))
+    (IsUtf8-append (byte ∷ []) _ one (utf8_joined byte p one each (next ∷ parts) (All-tail (λ x. p x ≡ true) part (next ∷ parts) h)))
 
 utf8_path : (path : List ℕ) → IsWorkspacePath path → IsUtf8 path
-utf8_path path h = subst IsUtf8 (sym h.parted.1) (utf8_joined h.parted.0 h.parted.2)
+utf8_path path h = subst IsUtf8 (sym h.parted.1) (utf8_joined 47 is_path_part (IsUtf8-are_ascii (47 ∷ []) refl) utf8_part h.parted.0 h.parted.2)
 
 -- ---- the words of an edit are texts
 
@@ -105,15 +105,8 @@ run_utf8 (b ∷ bytes) h = IsUtf8-are_ascii (b ∷ bytes) (ascii_letters (b ∷ 
 utf8_word : (word : List ℕ) → is_run word ≡ true → IsUtf8 word
 utf8_word word h = run_utf8 word (run_is word h)
 
-utf8_words : (words : List (List ℕ)) → AllPass is_run words → IsUtf8 (join_with_byte 46 words)
-utf8_words [] h = IsUtf8-nil
-utf8_words (word ∷ []) h = utf8_word word (All-head (λ p. is_run p ≡ true) word [] h)
-utf8_words (word ∷ next ∷ words) h =
-    IsUtf8-append word _ (utf8_word word (All-head (λ p. is_run p ≡ true) word (next ∷ words) h))
-    (IsUtf8-append (46 ∷ []) _ (IsUtf8-are_ascii (46 ∷ []) refl) (utf8_words (next ∷ words) (All-tail (λ p. is_run p ≡ true) word (next ∷ words) h)))
-
 utf8_name : (name : List ℕ) → IsDotted name → IsUtf8 name
-utf8_name name h = subst IsUtf8 (sym h.parted.1) (utf8_words h.parted.0 h.parted.2)
+utf8_name name h = subst IsUtf8 (sym h.parted.1) (utf8_joined 46 is_run (IsUtf8-are_ascii (46 ∷ []) refl) utf8_word h.parted.0 h.parted.2)
 
 -- ---- the data is simple
 

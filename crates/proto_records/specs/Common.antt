@@ -1,4 +1,5 @@
--- What proofs of this crate name of its own definitions, passed on from one place. Declares nothing.
+-- What proofs of this crate name of its own definitions, passed on from one place.
+-- Declares nothing.
 pub use Rattle.proto_records.specs.Journals.{AreInOrder, AreTextual, HasNoFeed, IsFirstLine, IsJournal, IsJournalIn, IsRecord, IsTextual, IsTold, is_last_open, is_open, journal_limit, journal_text}
 pub use Rattle.proto_records.specs.Known.{CountsFault, CountsStore, IsSettled, Over}
 pub use Rattle.proto_records.specs.Laws.{IsReadInOneWay, JournalsShrink}

@@ -40,7 +40,8 @@ impl Model for Record {
 
     ghost Value = { RecordOf };
 
-    ghost view = { λ r. record { state = r.state; entry = r.entry; edit = option_map asked r.edit } };
+    ghost view = { λ r. record
+        { state = r.state; entry = r.entry; edit = option_map asked r.edit } };
 
     ghost invariant = { λ r. IsNoted (option_map asked r.edit) };
 }

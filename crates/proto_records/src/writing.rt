@@ -49,9 +49,9 @@ fn change_value(alloc: Global, change: &Change) -> Result<Value, NoMemory>
     ensures texts { All IsTextual change.now.splices }
 {
     let splices = Value::Array(splices_value(alloc, &change.splices)?);
-    Ok(
-        json!(in alloc; {"after": change.after, "before": change.before, "path": &change.path, "splices": splices})?,
-    )
+    Ok(json!(in alloc; {
+        "after": change.after, "before": change.before, "path": &change.path, "splices": splices
+    })?)
 }
 
 fn change_values(alloc: Global, changes: &[Change]) -> Result<Vec<Value>, NoMemory>
@@ -139,9 +139,9 @@ fn told_value(
         (member (codes "version") (number (unsigned 2)) no_members))))) }
 {
     let files = Value::Array(files);
-    Ok(
-        json!(in alloc; {"edit": edit, "files": files, "state": state_text(state), "version": 2u64})?,
-    )
+    Ok(json!(in alloc; {
+        "edit": edit, "files": files, "state": state_text(state), "version": 2u64
+    })?)
 }
 
 fn second_value(

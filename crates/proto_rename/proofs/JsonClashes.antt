@@ -1,6 +1,6 @@
 -- The test of all blocks for a clash of JSON names is that of the file.
 use Rattle.std.proofs.Common.{◌≡◌, ℕ, ◌<◌, ◌==◌, true, not, None, Some, Option, is_none, List, length, refl, sym, ap, subst, ◌∙◌, codes, Contains, bytes_eq, eq-eqb, eqb-true, true≢false}
-use Rattle.proto_faults.proofs.Common.{list_any, and_from, and_parts, false_from_ne_true, not_from_false, not_from_true, any_from, any_to, same_from_word, word_from_same}
+use Rattle.proto_faults.proofs.Common.{list_any, and_from, and_parts, false_from_ne_true, not_from_false, not_from_true, any_from, any_to, same_from_word, word_from_same, contains_filter, from_filter}
 use Rattle.proto_text.proofs.Common.{word_at, Lexeme}
 use Rattle.proto_tree.specs.Tree.{Tree}
 use Rattle.proto_files.proofs.Common.{FileOf, file_at, AreRead, ReadOf, read_at, IsTreeOf, same_tree}
@@ -9,7 +9,7 @@ use Rattle.proto_listing.specs.FromTree.{items_in}
 use Rattle.proto_parts.proofs.Common.{json_name_of, json_word, written_or, text_option, FieldOf, blocks_in, Scene, text, value, value_in}
 use Rattle.proto_rename_laws.proofs.Common.{scene_of, Clashes}
 use Rattle.proto_members.proofs.Common.{holders_in, may_hold, IsReadAs, clash_in, fields_by, is_made, is_other, is_unwritten}
-use Rattle.proto_members.proofs.MemberTests.{block_declared, field_from, field_to, from_filter, in_filter}
+use Rattle.proto_members.proofs.MemberTests.{block_declared, field_from, field_to}
 
 none_is : (o : Option (List ℕ)) → is_none o ≡ true → o ≡ None
 none_is None e = refl
@@ -33,7 +33,7 @@ module _ (files : List FileOf) (reads : List ReadOf) (are : AreRead files reads)
   clash_to version e =
       let x = any_to (clash_in scene token name) (holders_in tree) e in
       let fs = fields_by x.0.header x.0.within in
-      let c = from_filter (λ b. may_hold b.header) (blocks_in tree) x.0 x.1 in
+      let c = (from_filter (λ b. may_hold b.header) (blocks_in tree) x.0 x.1).0 in
       let p = and_parts (list_any (is_made scene token) fs) (list_any (is_other scene token name) fs) x.2 in
       let f = any_to (is_made scene token) fs p.0 in
       let o = any_to (is_other scene token name) fs p.1 in
@@ -66,5 +66,5 @@ module _ (files : List FileOf) (reads : List ReadOf) (are : AreRead files reads)
       let other : is_other scene token name r.other ≡ true =
       and_from (not (r.other.name == token)) (bytes_eq (json_name_of scene r.other) name) (not_from_false (r.other.name == token) (false_from_ne_true (r.other.name == token) apart))
       (same_from_word (json_name_of scene r.other) name (same_name r.other ∙ sym r.same ∙ sym named)) in
-      any_from (clash_in scene token name) (holders_in tree) r.b (in_filter (λ b. may_hold b.header) (blocks_in tree) r.b (subst (λ t. Contains (blocks_in t) r.b) tree_is r.field.block) f.1)
+      any_from (clash_in scene token name) (holders_in tree) r.b (contains_filter (λ b. may_hold b.header) (blocks_in tree) r.b (subst (λ t. Contains (blocks_in t) r.b) tree_is r.field.block) f.1)
       (and_from (list_any (is_made scene token) fs) (list_any (is_other scene token name) fs) (any_from (is_made scene token) fs r.f f.0 made) (any_from (is_other scene token name) fs r.other o.0 other))

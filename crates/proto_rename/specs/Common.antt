@@ -1,4 +1,5 @@
--- What proofs of this crate name of its own definitions, passed on from one place. Declares nothing.
+-- What proofs of this crate name of its own definitions, passed on from one place.
+-- Declares nothing.
 pub use Rattle.proto_rename.specs.Cases.{IsFreeBefore}
 pub use Rattle.proto_rename.specs.Changes.{AreChangesOf, ArePlacesIn, AreWholeChanges, HasDefaultsIn, IsChangeIn, IsChangesFault, IsFaultIn, IsValueOf, changes_up_to, or_own, places_of}
 pub use Rattle.proto_rename.specs.MadeChanges.{IsChangeAt, IsMade, IsRewordFault, PutsAt, StandInOrder, bytes_in, marked_from, marked_tokens, word_put}

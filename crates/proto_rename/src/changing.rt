@@ -13,6 +13,7 @@ use proto_files::Files;
 use proto_text::{Source, Splice, Splices, Token};
 use std::alloc::{AllocError, Global};
 
+// No `OrNoMemory`: its fault says nothing more, and it is copied.
 /// Why a file is not changed.
 #[derive(Clone, Copy)]
 pub(crate) enum RewordFault {
@@ -138,7 +139,8 @@ fn len_after(source: &Source, tokens: &[Token], to: &str) -> Option<u32>
         (text_limit + bytes_in tokens.now < length source.now + length tokens.now * length to.now)
         (λ after. (after
         ≡ (length source.now + length tokens.now * length to.now) - bytes_in tokens.now)
-        × (length source.now + length tokens.now * length to.now ≤ text_limit + bytes_in tokens.now)) }
+        × (length source.now + length tokens.now * length to.now
+        ≤ text_limit + bytes_in tokens.now)) }
 {
     // With a word that is longer than a text may be, there is nothing to reckon.
     if to.len() > MAX_LEN {

@@ -1,4 +1,5 @@
--- What proofs of this crate name of its own definitions, passed on from one place. Declares nothing.
+-- What proofs of this crate name of its own definitions, passed on from one place.
+-- Declares nothing.
 pub use Rattle.proto_rename_laws.specs.Cases.{StandsBefore, is_keyword_of, is_value_keyword, kind_not_allowed, same_name, too_large, unknown_target}
 pub use Rattle.proto_rename_laws.specs.Changes.{change_by, changes_from, spliced_length}
 pub use Rattle.proto_rename_laws.specs.ChangesEntry.{ChangesAreEntry, IsPutIn, OldTextsAreNames, TextsAfter}

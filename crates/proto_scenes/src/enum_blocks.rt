@@ -48,6 +48,7 @@ fn push_item<'a>(found: &mut Vec<&'a Enum>, item: &'a Item) -> Result<(), NoMemo
     Ok(())
 }
 
+// Beside `blocks_of` of proto_members, above: to its lists messages and oneofs belong too.
 /// The enums of a file, in order.
 pub(crate) fn enums_of<'a>(alloc: Global, file: &'a File) -> Result<Vec<&'a Enum>, NoMemory>
     ensures { IfOk result (λ found. map (λ e. enum_block e.now) found.items

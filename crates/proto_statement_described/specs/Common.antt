@@ -1,4 +1,5 @@
--- What proofs of this crate name of its own definitions, passed on from one place. Declares nothing.
+-- What proofs of this crate name of its own definitions, passed on from one place.
+-- Declares nothing.
 pub use Rattle.proto_statement_described.specs.Deletions.{AtField, AtOneof, BehindBlock, BehindLeaf, Deeper, Found, FurtherOn, InMessage, IsAmong, IsDeletedIn, IsDeletedRight, OfMap, PastBlock, PastLeaf, Plain, Reservation, Reserves, WrittenField, field_of, name_of, reserved, statement_of}
 pub use Rattle.proto_statement_described.specs.Imports.{AdditionsAreMapped, DropsAreMapped, HasImport, lowered, with_dependency, with_imports, without_dependency}
 pub use Rattle.proto_statement_described.specs.Lists.{at_place, changed_at, places_before, with_more, without_place}

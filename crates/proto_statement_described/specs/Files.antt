@@ -90,11 +90,11 @@ DeletionsMapDescriptors =
 -- ---- an import more, and one less
 
 -- a change of the imports of the file at the place by the path
-abbrev pub ImportChange : Type 1
-ImportChange = List FileOf → List ReadOf → List FileOf → List ReadOf → ℕ → Path → Type 0
+abbrev pub ImportChangeAt : Type 1
+ImportChangeAt = List FileOf → List ReadOf → List FileOf → List ReadOf → ℕ → Path → Type 0
 
 -- Such a change brings no fault of the checks,
-abbrev pub LeaveNoFault : ImportChange → Type 0
+abbrev pub LeaveNoFault : ImportChangeAt → Type 0
 LeaveNoFault IsChange =
     (files : List FileOf) (reads : List ReadOf) (after : List FileOf) (seen : List ReadOf)
     (place : ℕ) (path : Path)
@@ -103,7 +103,7 @@ LeaveNoFault IsChange =
     → HasNoFault (CheckFaults after)
 
 -- and the descriptors are the old ones, of which that of the file is mapped.
-abbrev pub MapDescriptors : ImportChange → (Path → FileDesc → FileDesc) → Type 0
+abbrev pub MapDescriptors : ImportChangeAt → (Path → FileDesc → FileDesc) → Type 0
 MapDescriptors IsChange mapped =
     (files : List FileOf) (reads : List ReadOf) (after : List FileOf) (seen : List ReadOf)
     (place : ℕ) (path : Path)

@@ -1,9 +1,9 @@
 -- The imports of files with one import more, and without the import of a path.
 use Rattle.std.proofs.Common.{◌≡◌, ◌↔◌, ℕ, ◌<◌, Bool, true, false, ◌==◌, not, List, [], ◌∷◌, ◌++◌, length, get_or, filter, refl, sym, ◌∙◌, ap, subst, inl, inr, arith, slice_set, Option, Some, None, option_map, Contains, bytes_eq, eqb-true, eq-eqb}
-use Rattle.proto_faults.proofs.Common.{and_from, and_parts, both_ways, cases_eq, length-map, Contains-append_cases, Contains-append_left, Contains-append_right, position-Some, none-some, same_Some, contains_cases, contains_head, same_from_word, word_from_same}
+use Rattle.proto_faults.proofs.Common.{and_from, and_parts, both_ways, cases_eq, length-map, Contains-append_cases, Contains-append_left, Contains-append_right, position-Some, none-some, same_Some, contains_cases, contains_head, same_from_word, word_from_same, contains_filter, from_filter}
 use Rattle.proto_files.proofs.Common.{ReadOf, FileOf, paths_of}
 use Rattle.proto_meaning.proofs.Common.{Asked, file_of, import_at, imports_of, Import}
-use Rattle.proto_imports.proofs.Common.{all_imports, import_from, link_imports, in_filter, of_filter}
+use Rattle.proto_imports.proofs.Common.{all_imports, import_from, link_imports}
 use Rattle.proto_imports.specs.declared.import.FileImport.{FileImport}
 use Rattle.proto_statement_names.proofs.Common.{IsPlaceOf, asked_in, is_import_of, import_own, own_import, set_imports}
 use Rattle.proto_statement_names.proofs.Imports.{asked_import, import_asked}
@@ -102,23 +102,23 @@ module _ (files : List FileOf) (reads : List ReadOf) (k to : ℕ) (path : List �
     λ c. elim ((set_imports is k (filter is_left (get_or is k [])) l i).0 c) [
       | inl o ↦
           let a = import_asked paths asked i (subst (λ z. Contains z i) same o.1) in
-          asked_import paths (filter is_kept asked) a.0 i (of_filter is_kept asked a.0 a.1 (not_from (is_import_of k path a.0) (λ e. o.0 ((dropped a.0 i a.2).0 e).0))) a.2
+          asked_import paths (filter is_kept asked) a.0 i (contains_filter is_kept asked a.0 a.1 (not_from (is_import_of k path a.0) (λ e. o.0 ((dropped a.0 i a.2).0 e).0))) a.2
       | inr o ↦
-          let f = in_filter is_left (get_or is k []) o.0 o.1 in
+          let f = from_filter is_left (get_or is k []) o.0 o.1 in
           let d : Contains (all_imports 0 is) i = subst (Contains (all_imports 0 is)) o.2 (import_own is k o.0 f.0) in
           let a = import_asked paths asked i (subst (λ z. Contains z i) same d) in
           let passes = not_from (is_import_of k path a.0) (λ e. not_true (o.0.to == to) f.1 (eq-eqb o.0.to to (ap (λ (x : Import). x.to) o.2 ∙ ((dropped a.0 i a.2).0 e).1))) in
-          asked_import paths (filter is_kept asked) a.0 i (of_filter is_kept asked a.0 a.1 passes) a.2
+          asked_import paths (filter is_kept asked) a.0 i (contains_filter is_kept asked a.0 a.1 passes) a.2
     ],
     λ c. (
         let a = import_asked paths (filter is_kept asked) i c in
-        let f = in_filter is_kept asked a.0 a.1 in
+        let f = from_filter is_kept asked a.0 a.1 in
         let d : Contains (all_imports 0 is) i = subst (λ z. Contains z i) (sym same) (asked_import paths asked a.0 i f.0 a.2) in
         (set_imports is k (filter is_left (get_or is k [])) l i).1 (elim (cases_eq i.from k) [
           | inl e ↦
               let x = own_import is k i d e in
               let passes = not_from (x.0.to == to) (λ t. not_true (is_import_of k path a.0) f.1 ((dropped a.0 i a.2).1 (e, sym (ap (λ (z : Import). z.to) x.2) ∙ eqb-true x.0.to to t))) in
-              inr (x.0, of_filter is_left (get_or is k []) x.0 x.1 passes, x.2)
+              inr (x.0, contains_filter is_left (get_or is k []) x.0 x.1 passes, x.2)
           | inr ne ↦ inl (ne, d)
         ])),
   )

@@ -1,4 +1,5 @@
--- What proofs of this crate name of its own definitions, passed on from one place. Declares nothing.
+-- What proofs of this crate name of its own definitions, passed on from one place.
+-- Declares nothing.
 pub use Rattle.proto_statement_edits.specs.Edits.{IsDeletionCase, IsDeletionRefusal, IsFieldNamed, RefusesDeletion, by_name, too_large}
 pub use Rattle.proto_statement_edits.specs.FieldPlaces.{FieldAt, alone_in, field_among, field_if, field_in, last_token, number_token, or_else, place_of}
 pub use Rattle.proto_statement_edits.specs.Fields.{IsFieldToken, StandsInOrder, is_field, is_field_kind, last_by, last_of, text_by, text_if}

@@ -1,8 +1,8 @@
 -- With the same imports, in whatever order, the same is seen; and the imports of files with those of one file changed (for the crates above).
 use Rattle.std.proofs.Common.{◌≡◌, ◌≢◌, ◌⊎◌, ◌↔◌, ℕ, zero, suc, ◌+◌, ◌<◌, Bool, true, false, ◌&&◌, ◌||◌, ◌==◌, List, [], length, get_or, filter, refl, sym, ◌∙◌, ap, subst, inl, inr, arith, slice_set, All, Contains, get_or-set_same, get_or-set_other}
-use Rattle.proto_faults.proofs.Common.{list_any, cases_eq, get_or_default, Contains-get_or, any_from, any_to}
+use Rattle.proto_faults.proofs.Common.{list_any, cases_eq, get_or_default, Contains-get_or, any_from, any_to, from_filter}
 use Rattle.proto_meaning.proofs.Common.{with_imports, MarksSeen, Import, Workspace, reaches, sees}
-use Rattle.proto_imports.proofs.Common.{all_imports, import_from, import_in, import_of_file, in_filter}
+use Rattle.proto_imports.proofs.Common.{all_imports, import_from, import_in, import_of_file}
 use Rattle.proto_imports.specs.declared.import.FileImport.{FileImport}
 
 -- ---- what is seen
@@ -89,5 +89,5 @@ import_own is k x c = let z : 0 + k ≡ k = omega arith in subst (λ j. Contains
 pub all_filtered : {X : Type 0} (P : X → Type 0) (p : X → Bool) (xs : List X) → All P xs → All P (filter p xs)
 all_filtered P p xs h = λ k d l. (
     let c : Contains (filter p xs) (get_or (filter p xs) k d) = Contains-get_or (filter p xs) k d l in
-    let i = (in_filter p xs (get_or (filter p xs) k d) c).0 in
+    let i = (from_filter p xs (get_or (filter p xs) k d) c).0 in
     subst P (get_or_default xs i.0 (get_or (filter p xs) k d) (get_or (filter p xs) k d) i.1 ∙ i.2) (h i.0 (get_or (filter p xs) k d) i.1))

@@ -9,6 +9,7 @@ use crate::store::{Store, StoreFault};
 use std::alloc::{AllocFailed, Global};
 use thiserror::Error;
 
+// No `OrNoMemory`: its fault says nothing more, and each case has a text for people.
 /// Why not all files of a store are read.
 #[derive(Clone, Copy, Debug, PartialEq, Eq, Error)]
 pub enum ReadingFault {

@@ -429,9 +429,9 @@ impl<R: Files + AllocGlobal> Store for FolderStore<'_, R> {
     }
 
     /// Writes a second file, gives it the owner, the group and the mode of the first, brings it to
-    /// the disk, and gives it the name of the first. Fails, with the first as it was, where a second
-    /// file is there already, where the first may not be written, and where it is not as this store
-    /// has last read or written it.
+    /// the disk, and gives it the name of the first. Fails, with the first as it was, where a
+    /// second file is there already, where the first may not be written, and where it is not as
+    /// this store has last read or written it.
     fn replace(&mut self, path: &str, bytes: &[u8]) -> Result<(), StoreFault>
         requires { self.old.failures < 2 ^ 64 - 1 }
         ensures ok { OnOk result (unknown ≡ option_map (with_file path.now bytes.now) unknown) }

@@ -1,33 +1,11 @@
 -- The first clash of names, where packages are declared before all else.
 use Rattle.std.proofs.Common.{◌≡◌, ◌≢◌, ◌⊎◌, ℕ, zero, suc, ◌+◌, ◌<◌, ◌≤◌, Bool, true, List, [], ◌∷◌, ◌++◌, length, get_or, take, refl, sym, ◌∙◌, ap, subst, inl, inr, arith, length-append, not, AllPairs, Contains, filter, get_or-take, length-take-le, get_or-append-add, length-take}
-use Rattle.proto_faults.proofs.Common.{cases_Bool, cases_lt, cond-true, cond-false, get_or_default, Contains-append_cases, contains_head, contains_later, contains_cases}
+use Rattle.proto_faults.proofs.Common.{cases_Bool, cases_lt, cond-true, cond-false, get_or_default, Contains-append_cases, contains_filter, from_filter}
 use Rattle.proto_meaning.specs.declared.kind.Kind.{Kind}
 use Rattle.proto_meaning.specs.declared.kind.Kind.TheVariants.{Package}
 use Rattle.proto_meaning.proofs.Common.{is_package, Fault, fault, IsBefore, IsLeast, get_front, package_from, package_or}
 use Rattle.proto_table.specs.Common.{Named, ClashFault, earlier, of_package, AreNamesApart, Clashes, packages_in, others_in}
 use Rattle.proto_table.proofs.Naming.{contains_at, IsOrdered}
-
--- ---- what a filter keeps
-
-pub kept_in : {X : Type 0} (p : X → Bool) (xs : List X) (x : X) → Contains xs x → p x ≡ true → Contains (filter p xs) x
-kept_in p [] x c h = absurd (omega (arith, c.1))
-kept_in p (y ∷ xs) x c h = elim (contains_cases y x xs c) [
-  | inl e ↦ subst (λ z. Contains z x) (sym (cond-true (p y) (y ∷ filter p xs) (filter p xs) (ap p e ∙ h))) (subst (Contains (y ∷ filter p xs)) e (contains_head y (filter p xs)))
-  | inr r ↦ elim (cases_Bool (p y)) [
-    | inl t ↦ subst (λ z. Contains z x) (sym (cond-true (p y) (y ∷ filter p xs) (filter p xs) t)) (contains_later y x (filter p xs) (kept_in p xs x r h))
-    | inr f ↦ subst (λ z. Contains z x) (sym (cond-false (p y) (y ∷ filter p xs) (filter p xs) f)) (kept_in p xs x r h)
-  ]
-]
-
-pub kept_from : {X : Type 0} (p : X → Bool) (xs : List X) (x : X) → Contains (filter p xs) x → Contains xs x × (p x ≡ true)
-kept_from p [] x c = absurd (omega (arith, c.1))
-kept_from p (y ∷ xs) x c = elim (cases_Bool (p y)) [
-  | inl t ↦ elim (contains_cases y x (filter p xs) (subst (λ z. Contains z x) (cond-true (p y) (y ∷ filter p xs) (filter p xs) t) c)) [
-    | inl e ↦ (subst (Contains (y ∷ xs)) e (contains_head y xs), ap p (sym e) ∙ t)
-    | inr r ↦ let k = kept_from p xs x r in (contains_later y x xs k.0, k.1)
-  ]
-  | inr f ↦ let k = kept_from p xs x (subst (λ z. Contains z x) (cond-false (p y) (y ∷ filter p xs) (filter p xs) f) c) in (contains_later y x xs k.0, k.1)
-]
 
 -- one element of a list, and a later one
 abbrev Follow : {X : Type 0} → List X → X → X → Type 0
@@ -45,7 +23,7 @@ follow_kept p (x ∷ xs) zero zero d l lj pi pj = absurd (omega (arith, l))
 follow_kept p (x ∷ xs) (suc i) zero d l lj pi pj = absurd (omega (arith, l))
 follow_kept p (x ∷ xs) zero (suc j) d l lj pi pj =
     subst (λ z. Follow z x (get_or xs j d)) (sym (cond-true (p x) (x ∷ filter p xs) (filter p xs) pi))
-    (follow_first x (filter p xs) (get_or xs j d) (kept_in p xs (get_or xs j d) (contains_at xs j d (omega (arith, lj))) pj))
+    (follow_first x (filter p xs) (get_or xs j d) (contains_filter p xs (get_or xs j d) (contains_at xs j d (omega (arith, lj))) pj))
 follow_kept p (x ∷ xs) (suc i) (suc j) d l lj pi pj =
     let r = follow_kept p xs i j d (omega (arith, l)) (omega (arith, lj)) pi pj in
     elim (cases_Bool (p x)) [
@@ -89,11 +67,11 @@ before_clean : (all : List Named) (p i j : ℕ) (d : Named) → AreNamesApart (h
 before_clean all p i j d apart lp lj none where_is same =
     let lt = length_take all p j lp lj in
     let tj : get_or (take p all) j d ≡ get_or all j d = get_or-take p all j d lp in
-    let held : Contains (others_in (take p all)) (get_or all j d) = subst (Contains (others_in (take p all))) tj (kept_in (λ x. not (is_package x.kind)) (take p all) (get_or (take p all) j d) (contains_at (take p all) j d lt) (ap (λ z. not (is_package z.kind)) tj ∙ is_other (get_or all j d).kind none)) in
+    let held : Contains (others_in (take p all)) (get_or all j d) = subst (Contains (others_in (take p all))) tj (contains_filter (λ x. not (is_package x.kind)) (take p all) (get_or (take p all) j d) (contains_at (take p all) j d lt) (ap (λ z. not (is_package z.kind)) tj ∙ is_other (get_or all j d).kind none)) in
     elim (package_or (get_or all i d).kind) [
       | inl e ↦
           let li : i < length all = elim where_is [ inl a ↦ omega (arith, a, lj) | inr b ↦ b.0 ] in
-          let front : Contains (packages_in all) (get_or all i d) = kept_in (λ x. is_package x.kind) all (get_or all i d) (contains_at all i d li) (ap is_package e) in
+          let front : Contains (packages_in all) (get_or all i d) = contains_filter (λ x. is_package x.kind) all (get_or all i d) (contains_at all i d li) (ap is_package e) in
           none (pair_apart (held_at all p) (get_or all i d) (get_or all j d) apart (follow_across (packages_in all) (others_in (take p all)) (get_or all i d) (get_or all j d) front held) same).1
       | inr ne ↦ elim where_is [
         | inr b ↦ ne b.1
@@ -135,10 +113,10 @@ clash_is : (all : List Named) (p : ℕ) (d : Named) → p < length all → (get_
 clash_is all p d l none c =
     elim (Contains-append_cases (packages_in all) (others_in (take p all)) c.other c.within) [
       | inl a ↦
-          let r = kept_from (λ x. is_package x.kind) all c.other a in
+          let r = from_filter (λ x. is_package x.kind) all c.other a in
           of_package (get_or all p d) c.other (contains_at all p d l) r.0 none (package_from c.other.kind r.1) (sym c.name)
       | inr b ↦
-          let r = (kept_from (λ x. not (is_package x.kind)) (take p all) c.other b).0 in
+          let r = (from_filter (λ x. not (is_package x.kind)) (take p all) c.other b).0 in
           let lp : r.0 < p = let n = length-take-le p all (omega (arith, l)) in omega (arith, r.1, n) in
           let is : get_or all r.0 d ≡ c.other = sym (get_or-take p all r.0 d lp) ∙ get_or_default (take p all) r.0 d c.other r.1 ∙ r.2 in
           earlier (get_or all p d) (r.0, p, d, lp, l, refl, ap (λ z. z.name) is ∙ c.name) none

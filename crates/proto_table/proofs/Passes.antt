@@ -1,10 +1,10 @@
 -- Packages of all files in the table, and then all else.
 use Rattle.std.proofs.Common.{◌≡◌, ◌≢◌, ℕ, zero, suc, ◌+◌, ◌<◌, ◌≤◌, List, [], ◌∷◌, ◌++◌, length, get_or, map, take, drop, refl, sym, ◌∙◌, ap, subst, inl, inr, arith, slice_set, length-append, append_assoc, not, All, Contains, take_all, length-take-le, get_or-take, get_or-append-add, get_or-drop, get_or-set_same, get_or-set_other, length-set, length-drop}
-use Rattle.proto_faults.proofs.Common.{cases_eq, cases_Bool, cond-true, cond-false, take_more, length-map, get_or-map, take-append-le, Contains-append_cases, Contains-append_left, Contains-append_right, filter-append, contains_map, from_map}
+use Rattle.proto_faults.proofs.Common.{cases_eq, cases_Bool, cond-true, cond-false, take_more, length-map, get_or-map, take-append-le, Contains-append_cases, Contains-append_left, Contains-append_right, filter-append, contains_map, from_map, contains_filter, from_filter}
 use Rattle.proto_meaning.specs.declared.kind.Kind.TheVariants.{Package}
 use Rattle.proto_meaning.proofs.Common.{Symbol, is_package, Fault, fault, IsLeast, get_front, get_last, package_from, package_or}
 use Rattle.proto_table.specs.Common.{Spelled, Table, NameError, Clash, NoMemory, IsIndexOf, Named, named_in, all_named, symbol_named, AreSpelled, ClashFault, AreInFront, AreNamesApart, ArePackageRows, AreRows, AreRowsOf, Clashes, Holds, IsKept, IsNameError, StopsIn, packages_in, others_in}
-use Rattle.proto_table.proofs.Clashing.{clash_least, clash_none, held_at, is_other, kept_from, kept_in}
+use Rattle.proto_table.proofs.Clashing.{clash_least, clash_none, held_at, is_other}
 use Rattle.proto_table.proofs.Filled.{rows_kept}
 use Rattle.proto_table.proofs.Held.{index_same}
 use Rattle.proto_table.proofs.Naming.{all_more, all_ordered, all_split, named_kind, named_length}
@@ -89,7 +89,7 @@ packages_pass ds file c start ss (Clash f token) ok front s =
     let c' = (s.3 d).1 in
     let split = split_of c file ss ok front in
     absurd (c'.not_packages (split.front s.0 d s.2 lk) (elim (Contains-append_cases (packages_in ds) (drop start (take s.0 (named_in file ss))) c'.other c'.within) [
-      | inl a ↦ package_from c'.other.kind (kept_from (λ x. is_package x.kind) ds c'.other a).1
+      | inl a ↦ package_from c'.other.kind (from_filter (λ x. is_package x.kind) ds c'.other a).1
       | inr b ↦
           let m = length-drop start (take s.0 (named_in file ss)) in
           let lb : start + b.0 < length (take s.0 (named_in file ss)) = let l = b.1 in omega (arith, l, m) in
@@ -243,8 +243,8 @@ held_index t all h = index_same t (map symbol_named (packages_in all ++ others_i
     to s c =
         let r = from_map symbol_named (packages_in all ++ others_in all) s c in
         let w : Contains all r.0 = elim (Contains-append_cases (packages_in all) (others_in all) r.0 r.1) [
-          | inl a ↦ (kept_from (λ x. is_package x.kind) all r.0 a).0
-          | inr b ↦ (kept_from (λ x. not (is_package x.kind)) all r.0 b).0
+          | inl a ↦ (from_filter (λ x. is_package x.kind) all r.0 a).0
+          | inr b ↦ (from_filter (λ x. not (is_package x.kind)) all r.0 b).0
         ] in
         subst (Contains (map symbol_named all)) r.2 (contains_map symbol_named all r.0 w)
 
@@ -252,8 +252,8 @@ held_index t all h = index_same t (map symbol_named (packages_in all ++ others_i
     from s c =
         let r = from_map symbol_named all s c in
         let w : Contains (packages_in all ++ others_in all) r.0 = elim (package_or r.0.kind) [
-          | inl e ↦ Contains-append_left (packages_in all) (others_in all) r.0 (kept_in (λ x. is_package x.kind) all r.0 r.1 (ap is_package e))
-          | inr ne ↦ Contains-append_right (packages_in all) (others_in all) r.0 (kept_in (λ x. not (is_package x.kind)) all r.0 r.1 (is_other r.0.kind ne))
+          | inl e ↦ Contains-append_left (packages_in all) (others_in all) r.0 (contains_filter (λ x. is_package x.kind) all r.0 r.1 (ap is_package e))
+          | inr ne ↦ Contains-append_right (packages_in all) (others_in all) r.0 (contains_filter (λ x. not (is_package x.kind)) all r.0 r.1 (is_other r.0.kind ne))
         ] in
         subst (Contains (map symbol_named (packages_in all ++ others_in all))) r.2 (contains_map symbol_named (packages_in all ++ others_in all) r.0 w)
 

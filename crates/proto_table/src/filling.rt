@@ -20,6 +20,7 @@ use proto_listing::listing::Above;
 use std::alloc::{AllocError, AllocFailed, Global};
 use std::mem::replace;
 
+// No `OrNoMemory`: a struct of the two fields of a clash would have no other use.
 /// Why names are not declared: the first clash, or want of memory.
 #[derive(Drop)]
 pub enum NameError {

@@ -1,4 +1,5 @@
--- What proofs of this crate name of its own definitions, passed on from one place. Declares nothing.
+-- What proofs of this crate name of its own definitions, passed on from one place.
+-- Declares nothing.
 pub use Rattle.proto_text.specs.Bytes.{Each, Stops, is_backslash, is_hex, is_octal}
 pub use Rattle.proto_text.specs.Classes.{extends_word, is_digit, is_identifier, is_letter, is_mark, is_space}
 unfoldable pub use Rattle.proto_text.specs.Classes.{class_of}

@@ -1,4 +1,5 @@
--- What proofs of this crate name of its own definitions, passed on from one place. Declares nothing.
+-- What proofs of this crate name of its own definitions, passed on from one place.
+-- Declares nothing.
 pub use Rattle.proto_tree.specs.Answer.{FaultOf, IsBody, IsClose, IsItem, IsItemBefore, IsItemOf, IsMet, IsOuter, IsRead}
 pub use Rattle.proto_tree.specs.Classes.{code, fits, is_brace, is_word}
 pub use Rattle.proto_tree.specs.File.{enum_tree, item_tree, member_layer, member_tree, message_tree, oneof_tree, service_item_tree, tree_of_file, trees}

@@ -9,6 +9,7 @@ use crate::tree::{Behind, Separated};
 use proto_faults::NoMemory;
 use std::alloc::Global;
 
+// No `OrNoMemory`: its fault says nothing more, and it is copied.
 /// Why a statement was not read.
 #[derive(Clone, Copy)]
 pub enum Stop {

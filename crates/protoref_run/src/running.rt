@@ -21,8 +21,8 @@ use std::io::Write;
 /// of the store that fails, with `NoMemory` where memory runs out, and with `Output` where a write
 /// fails or takes no byte. An edit, an undo, a recovery and a move of the journal are made before
 /// anything is written of them: after `Output` they stand. After `Store` the store is as before, or
-/// it is as an edit, an undo, a recovery or a move that was cut leaves it; after `NoMemory` it is as
-/// before.
+/// it is as an edit, an undo, a recovery or a move that was cut leaves it; after `NoMemory` it is
+/// as before.
 pub fn run<S: Store, W: Write>(
     alloc: Global,
     command: Command,

@@ -1,4 +1,5 @@
--- What proofs of this crate name of its own definitions, passed on from one place. Declares nothing.
+-- What proofs of this crate name of its own definitions, passed on from one place.
+-- Declares nothing.
 pub use Rattle.protoref_words.specs.CommandLines.{Asked, Command, add_import, asked, asked_by, asks_help, bad_line, command_named, commands, compile, delete_field, drop_import, help, lint, log, migrate, name_of, names_rule, recover, rename, rules, taken, undo}
 pub use Rattle.protoref_words.specs.Marked.{begins_dashed, is_bad_at, is_dashed, mark, marked, marks}
 pub use Rattle.protoref_words.specs.Matched.{asked_of}

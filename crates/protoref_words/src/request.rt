@@ -62,6 +62,7 @@ pub enum Request {
     },
 }
 
+// No `OrNoMemory`: its fault says nothing more, and each case has a text for people.
 /// Why the words ask for nothing. Want of memory is never told as a bad command line.
 #[derive(Clone, Copy, Debug, PartialEq, Eq, Error)]
 pub enum WordsFault {

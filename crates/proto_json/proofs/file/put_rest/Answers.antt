@@ -1,5 +1,5 @@
 use Rattle.proto_descriptors.proofs.Common.{map_both, service_desc}
-use Rattle.proto_json.proofs.Sending.{last, listed, more, option_map-option_map, valued}
+use Rattle.proto_json.proofs.Sending.{last, listed, sliced, more, option_map-option_map, valued}
 use Rattle.proto_json.specs.Common.{service_text, quoted}
 use Rattle.std.proofs.Common.{string_bytes}
 use Rattle.std.proofs.lemmas.Result.{on_ok_weaker}
@@ -11,7 +11,7 @@ returns g c =
     on_ok_weaker c.put_syntax.result (λ sent.
     (more c.in_ok-put_options.ensures
     (more (valued (option_map-option_map quoted string_bytes file.package) c.in_ok-put_optional.ensures)
-    (more c.in_ok-put_list.ensures
-    (more (listed (map_both service_text service_desc file.service.items) c.in_ok-put_list-2.ensures)
+    (more (sliced _ c.deref.ensures.value c.in_ok-put_list.ensures)
+    (more (listed (map_both service_text service_desc file.service.items) (sliced _ c.deref-2.ensures.value c.in_ok-put_list-2.ensures))
     (last sent))))))
     c.put_syntax.ensures

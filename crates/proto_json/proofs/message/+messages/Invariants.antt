@@ -5,4 +5,4 @@ use Rattle.proto_json.proofs.message.+messages.Given as goal
 
 abbrev pub invariant-put_messages-loop-message : goal.invariant-put_messages-loop-message
 invariant-put_messages-loop-message g l =
-    PutsValues (message_texts (messages_desc (take l.message-index l.message-items))) (g.S.Serializer.written l.initial.out) (g.S.Serializer.written l.out)
+    PutsValues (message_texts (messages_desc (take l.message-index l.messages))) (g.S.Serializer.written l.initial.out) (g.S.Serializer.written l.out)

@@ -143,7 +143,7 @@ pub(crate) fn is_left<R: AllocGlobal + Abort>(
     rt: &R,
     store: &mut MemoryStore,
     (text, journal): Left,
-) -> Result<bool, LoadFault> {
+) -> Result<bool, ReadingFault> {
     assert!(rt; store.failures() < u64::MAX);
     let held = store.read_journal()?;
     assert!(rt; store.failures() < u64::MAX);

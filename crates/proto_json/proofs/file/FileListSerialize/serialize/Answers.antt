@@ -7,5 +7,5 @@ use Rattle.proto_json.proofs.file.FileListSerialize.serialize.Goals as goal
 pub returns : goal.returns
 returns g c =
     on_ok_weaker c.end_map.result (object_sent _ c.in_ok-begin_map.ensures
-    (last (listed (map_both file_text file_desc c.args.self.now.files.now) c.in_ok-put_slice.ensures)))
+    (last (listed (map_both file_text file_desc c.args.self.now.files.now) c.in_ok-put_list.ensures)))
     c.end_map.ensures

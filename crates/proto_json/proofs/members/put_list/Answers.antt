@@ -1,7 +1,7 @@
 use Rattle.std.proofs.Common.{◌≡◌, List, [], map, length, refl, sym, ap, ◌∙◌, true≢false, eqb-true, eq-eqb}
 use Rattle.proto_faults.proofs.Common.{nil_from_length, on_ok_weaker}
 use Rattle.proto_json.proofs.Sending.{listed, list_absent, any_sent, map_some}
-use Rattle.proto_json.proofs.members.put_slice.Goals as goal
+use Rattle.proto_json.proofs.members.put_list.Goals as goal
 
 pub returns : goal.returns
 returns g c =
