@@ -12,7 +12,7 @@ use std::alloc::Global;
 pub fn camel_from(alloc: Global, is_up: bool, word: &str) -> Result<String, NoMemory>
     ensures { IfOk result (λ name. string_bytes name ≡ camel_from is_up word.now) }
 {
-    let mut name = String::new(alloc);
+    let mut name = String::with_capacity(alloc, word.len())?;
     let mut up = is_up;
     for c in word.chars() {
         if c == '_' {

@@ -169,7 +169,7 @@ fn field_descriptors(
         ≡ map (field_described scene.now full.now) (fields_in (trees member_tree members.now))) }
 {
     let fields = fields_of(alloc, members)?;
-    let mut descriptors = Vec::new(alloc);
+    let mut descriptors = Vec::with_capacity(alloc, fields.len())?;
     for field in &fields {
         descriptors.push(field_descriptor(alloc, scene, full, *field)?)?;
     }

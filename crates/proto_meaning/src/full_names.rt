@@ -10,7 +10,9 @@ use std::alloc::Global;
 pub fn below(alloc: Global, scope: &str, word: &str) -> Result<String, NoMemory>
     ensures { IfOk result (λ name. string_bytes name ≡ below scope.now word.now) }
 {
-    let mut name = String::from_str(alloc, scope)?;
+    let len = scope.len().saturating_add(word.len()).saturating_add(1);
+    let mut name = String::with_capacity(alloc, len)?;
+    name.push_str(scope)?;
     name.push('.')?;
     name.push_str(word)?;
     Ok(name)

@@ -317,7 +317,9 @@ impl Table {
 fn full_name(alloc: Global, above: &str, word: &str) -> Result<String, NoMemory>
     ensures { IfOk result (λ name. string_bytes name ≡ under above.now word.now) }
 {
-    let mut name = String::from_str(alloc, above)?;
+    let len = above.len().saturating_add(word.len()).saturating_add(1);
+    let mut name = String::with_capacity(alloc, len)?;
+    name.push_str(above)?;
     if !name.is_empty() {
         name.push_str(".")?;
     }

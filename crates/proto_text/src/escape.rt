@@ -169,7 +169,7 @@ pub fn decoded(alloc: Global, body: &[u8]) -> Result<Option<Vec<u8>>, NoMemory>
         ((all : List ℕ) → Means body.now all → ⊥)
         (λ values. Means body.now values.items)) }
 {
-    let mut values = Vec::new(alloc);
+    let mut values = Vec::with_capacity(alloc, body.len())?;
     let mut rest = body;
     while !rest.is_empty() {
         let (value, len) = match unit(rest) {

@@ -68,6 +68,7 @@ fn tokens_of(alloc: Global, source: &Source) -> Result<Vec<Token>, TextFault>
         rest = after;
         at += len as u32;
     }
+    tokens.shrink_to_fit();
     Ok(tokens)
 }
 

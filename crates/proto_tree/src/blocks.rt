@@ -103,7 +103,10 @@ pub fn singles<T: Single>(
     loop {
         let (found, after) = single(alloc, rest)?;
         match found {
-            Found::Close(close) => return Ok((items, close, after)),
+            Found::Close(close) => {
+                items.shrink_to_fit();
+                return Ok((items, close, after));
+            }
             Found::Item(item) => push(&mut items, item)?,
         }
         rest = after;
@@ -147,7 +150,10 @@ pub fn service_items(
     loop {
         let (found, after) = service_item(alloc, rest)?;
         match found {
-            Found::Close(close) => return Ok((items, close, after)),
+            Found::Close(close) => {
+                items.shrink_to_fit();
+                return Ok((items, close, after));
+            }
             Found::Item(item) => push(&mut items, item)?,
         }
         rest = after;
@@ -202,7 +208,10 @@ pub fn members(alloc: Global, tokens: &[Lexeme]) -> Result<(Vec<Member>, u32, &[
     loop {
         let (found, after) = member(alloc, rest)?;
         match found {
-            Found::Close(close) => return Ok((items, close, after)),
+            Found::Close(close) => {
+                items.shrink_to_fit();
+                return Ok((items, close, after));
+            }
             Found::Item(item) => push(&mut items, item)?,
         }
         rest = after;
