@@ -5,7 +5,7 @@ use Rattle.proto_case.proofs.Common.{entry_name, entry_differs}
 use Rattle.proto_text.specs.Texts.{words}
 use Rattle.proto_files.proofs.Common.{ReadOf, read_at, FileOf, file_at}
 use Rattle.proto_imports.proofs.Common.{link_skeleton, names_of_files, text_of, uses_of, name_in, used_named}
-use Rattle.proto_listing.proofs.Common.{path_of, read, used_by, uses_plain}
+use Rattle.proto_listing.proofs.Common.{path_at, read, used_by, uses_plain}
 use Rattle.proto_listing.specs.declared.listing.Listed.{Listed}
 use Rattle.proto_listing.specs.declared.listing.Use.{Use}
 use Rattle.proto_meaning.proofs.Common.{Renaming, IsCaptured, target, At, at, used_in, ArePlain, IsPlain, joined, IsLinked, EntryFits, IsRenaming, Reference, Workspace, meaning, Source, Token, EntryOf, IsAimEntry, Used, name_of, reference_of, spell, symbol_of, map_append, map_map}
@@ -100,8 +100,8 @@ module _ (files : List FileOf) (reads : List ReadOf) (t : Target) (to : List ℕ
       words_are : q.words ≡ p ∷ rest
       words_are = ap (λ (z : List (List ℕ)). p ∷ z) (map_map (at file) T (map (λ b. b.item) u.reference.now.words.rest) ∙ map_map (λ b. b.item) own u.reference.now.words.rest)
 
-      scope_is : q.scope ≡ name_of own entry_name (path_of (read declared) u.scope)
-      scope_is = name_in T file (path_of (read declared) u.scope)
+      scope_is : q.scope ≡ name_of own entry_name (path_at (read declared) u.scope)
+      scope_is = name_in T file (path_at (read declared) u.scope)
 
       scoped : HasScope w q
       scoped = has_scope T entry_name (link_skeleton files reads) (files_are_woven files reads r.read) (used_in file v) (there v c)

@@ -5,7 +5,7 @@ use Rattle.proto_case.specs.Camel.{entry_name}
 use Rattle.proto_text.specs.Texts.{words}
 use Rattle.proto_files.proofs.Common.{HasNoFault, ReadOf, AreRead, read_at, FileOf, file_at}
 use Rattle.proto_imports.proofs.Common.{LinkFaults, link_skeleton, names_of_files, text_of, uses_of, name_in, used_named}
-use Rattle.proto_listing.proofs.Common.{path_of, read, used_by, uses_plain}
+use Rattle.proto_listing.proofs.Common.{path_at, read, used_by, uses_plain}
 use Rattle.proto_listing.specs.declared.listing.Listed.{Listed}
 use Rattle.proto_listing.specs.declared.listing.Use.{Use}
 use Rattle.proto_meaning.proofs.Common.{IsOvertaken, At, at, used_in, ArePlain, IsPlain, joined, IsLinked, Reference, Workspace, meaning, Used, name_of, reference_of, map_map}
@@ -63,8 +63,8 @@ module _ (files : List FileOf) (reads : List ReadOf) (are : AreRead files reads)
     words_are : q.words ≡ p ∷ rest
     words_are = ap (λ (z : List (List ℕ)). p ∷ z) (map_map (at file) T (map (λ b. b.item) u.reference.now.words.rest) ∙ map_map (λ b. b.item) own u.reference.now.words.rest)
 
-    scope_is : q.scope ≡ name_of own entry_name (path_of (read declared) u.scope)
-    scope_is = name_in T file (path_of (read declared) u.scope)
+    scope_is : q.scope ≡ name_of own entry_name (path_at (read declared) u.scope)
+    scope_is = name_in T file (path_at (read declared) u.scope)
 
     scoped : HasScope w q
     scoped = has_scope T entry_name (link_skeleton files reads) (files_are_woven files reads are) (used_in file x) (there x c)

@@ -1,7 +1,7 @@
 -- The parts of the code's answer for one reference, put together.
 use Rattle.std.proofs.Common.{◌≡◌, ℕ, ◌+◌, ◌-◌, ◌<◌, Bool, true, false, not, ◌&&◌, ◌||◌, nat_le, List, [], ◌∷◌, length, get_or, drop, map, sym, ap, ◌∙◌, arith, ◌==◌, is_some, ne_eqb}
 use Rattle.proto_case.specs.Camel.{entry_name}
-use Rattle.proto_listing.specs.Listing.{path_of, read}
+use Rattle.proto_listing.specs.Listing.{path_at, read}
 use Rattle.proto_listing.specs.declared.listing.Listed.{Listed}
 use Rattle.proto_listing.specs.declared.listing.Use.{Use}
 use Rattle.proto_meaning.proofs.Common.{under, name_of, below}
@@ -37,12 +37,12 @@ module _ (l : LinkOf) (file : ℕ) (n : NewTexts) (text : ℕ → List ℕ) (dec
   shown is_long word least scope = shown_from (λ front. shown_below l file is_long n front word) least [] scope
 
   pub captures_is : (len least : ℕ) (word first : List ℕ) (is_long : Bool) (scope : List (List ℕ)) → is_some u.reference.now.dot ≡ false → first ≡ text u.reference.now.words.first
-      → len ≡ bytes_before (length meaning) rest → word ≡ first_now n meaning len first → is_new_word n word ≡ true → is_long ≡ is_cons rest → least ≡ len - length first → scope ≡ name_of text entry_name (path_of (read declared) u.scope)
+      → len ≡ bytes_before (length meaning) rest → word ≡ first_now n meaning len first → is_new_word n word ≡ true → is_long ≡ is_cons rest → least ≡ len - length first → scope ≡ name_of text entry_name (path_at (read declared) u.scope)
       → shown is_long word least scope ≡ captures_use l file n text declared u meaning
   captures_is len least word first is_long scope relative f b w new long ll s =
       let start = text u.reference.now.words.first in
       let size = bytes_before (length meaning) rest in
-      let names = name_of text entry_name (path_of (read declared) u.scope) in
+      let names = name_of text entry_name (path_at (read declared) u.scope) in
       let word_is : word ≡ first_now n meaning size start = w ∙ ap (λ z. first_now n meaning z first) b ∙ ap (first_now n meaning size) f in
       let least_is : least ≡ size - length start = ll ∙ ap (λ z. z - length first) b ∙ ap (λ z. size - length z) f in
       ap (λ z. shown z word least scope) long
@@ -61,12 +61,12 @@ module _ (l : LinkOf) (marks : List Bool) (packages : List ℕ → Bool) (text :
   seen is_long word least scope = shown_from (λ front. sees_text l marks packages is_long (below front word)) least [] scope
 
   pub overtakes_is : (len least : ℕ) (first : List ℕ) (is_long : Bool) (scope : List (List ℕ)) → is_some u.reference.now.dot ≡ false → first ≡ text u.reference.now.words.first
-      → len ≡ bytes_before (length meaning) behind → is_long ≡ is_cons behind → least ≡ len - length first → scope ≡ name_of text entry_name (path_of (read declared) u.scope)
+      → len ≡ bytes_before (length meaning) behind → is_long ≡ is_cons behind → least ≡ len - length first → scope ≡ name_of text entry_name (path_at (read declared) u.scope)
       → seen is_long first least scope ≡ overtakes_use l marks packages text declared u meaning
   overtakes_is len least first is_long scope relative f b long ll s =
       let start = text u.reference.now.words.first in
       let size = bytes_before (length meaning) behind in
-      let names = name_of text entry_name (path_of (read declared) u.scope) in
+      let names = name_of text entry_name (path_at (read declared) u.scope) in
       ap (λ z. seen z first least scope) long
       ∙ ap (λ z. seen (is_cons behind) z least scope) f
       ∙ ap (λ z. seen (is_cons behind) start z scope) (ll ∙ ap (λ z. z - length first) b ∙ ap (λ z. size - length z) f)

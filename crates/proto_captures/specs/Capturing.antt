@@ -3,7 +3,7 @@ use Rattle.std.specs.Prelude.{ℕ, ◌+◌, ◌-◌, Bool, true, false, not, ◌
 use Rattle.std.specs.List.{starts_with}
 use Rattle.proto_faults.specs.Texts.{Text}
 use Rattle.proto_case.specs.Camel.{entry_name}
-use Rattle.proto_listing.specs.Listing.{path_of, read}
+use Rattle.proto_listing.specs.Listing.{path_at, read}
 use Rattle.proto_listing.specs.declared.listing.Listed.{Listed}
 use Rattle.proto_listing.specs.declared.listing.Use.{Use}
 use Rattle.proto_meaning.specs.Forest.{under}
@@ -50,8 +50,8 @@ captures_words l file n scope first rest meaning =
     captures_at l file n scope (is_cons rest) first (bytes_before (length meaning) rest)
     (first_now n meaning (bytes_before (length meaning) rest) first)
 
--- of a reference of a file, in a scope that the file declares
+-- of a reference of a file, in its scope among what the file declares
 abbrev pub captures_use : LinkOf → ℕ → NewTexts → (ℕ → Text) → List Listed → Use → Text → Bool
 captures_use l file n text declared u meaning = not (is_some u.reference.now.dot)
-    && captures_words l file n (name_of text entry_name (path_of (read declared) u.scope))
+    && captures_words l file n (name_of text entry_name (path_at (read declared) u.scope))
     (text u.reference.now.words.first) (map (λ b. text b.item) u.reference.now.words.rest) meaning

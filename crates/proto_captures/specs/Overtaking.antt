@@ -9,7 +9,7 @@ use Rattle.proto_files.specs.FilesRead.{ReadOf, AreRead, read_at}
 use Rattle.proto_files.specs.GivenFiles.{FileOf}
 use Rattle.proto_imports.specs.Links.{names_of_files, text_of}
 use Rattle.proto_listing.specs.FromTree.{items_in}
-use Rattle.proto_listing.specs.Listing.{path_of, read}
+use Rattle.proto_listing.specs.Listing.{path_at, read}
 use Rattle.proto_listing.specs.declared.listing.Listed.{Listed}
 use Rattle.proto_listing.specs.declared.listing.Use.{Use}
 use Rattle.proto_meaning.specs.Edits.{IsOvertaken, with_imports}
@@ -104,11 +104,11 @@ overtakes_words l marks packages scope first rest meaning =
     shown_from (λ front. sees_text l marks packages (is_cons rest) (below front first))
     (bytes_before (length meaning) rest - length first) [] scope
 
--- of a reference of a file, in a scope that the file declares
+-- of a reference of a file, in its scope among what the file declares
 abbrev pub overtakes_use : LinkOf → List Bool → (Text → Bool) → (ℕ → Text) → List Listed → Use
     → Text → Bool
 overtakes_use l marks packages text declared u meaning = not (is_some u.reference.now.dot)
-    && overtakes_words l marks packages (name_of text entry_name (path_of (read declared) u.scope))
+    && overtakes_words l marks packages (name_of text entry_name (path_at (read declared) u.scope))
     (text u.reference.now.words.first) (map (λ b. text b.item) u.reference.now.words.rest) meaning
 
 -- by what the link says that it means

@@ -130,7 +130,7 @@ pub(crate) fn is_captured<'a>(
 ) -> Result<bool, NoMemory>
     requires ordered { (k : ℕ) (d : ListedOf)
         → k < length declared.now → needs (get_or declared.now k d).above ≤ k }
-    requires within { used.now.scope < length declared.now }
+    requires within { needs used.now.scope ≤ length declared.now }
     ensures { IfOk result (λ b. b ≡ captures_use link.now file
         (texts_of names.now) (word_at words.now) declared.now used.now meaning.now) }
 {

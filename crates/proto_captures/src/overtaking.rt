@@ -158,7 +158,7 @@ fn is_overtaken(
 ) -> Result<bool, NoMemory>
     requires ordered { (k : ℕ) (d : ListedOf)
         → k < length declared.now → needs (get_or declared.now k d).above ≤ k }
-    requires within { used.now.scope < length declared.now }
+    requires within { needs used.now.scope ≤ length declared.now }
     ensures { IfOk result (λ b. b ≡ overtakes_use link.now seen.now.marks.now
         (contains_text seen.now.packages) (word_at words.now) declared.now used.now meaning.now) }
 {

@@ -1,9 +1,8 @@
-//! The words of a declaration's full name, from the outermost.
+//! The words of a scope, from the outermost.
 
 ghost use Rattle.std.specs.Prelude.{◌≡◌, ◌<◌, ◌≤◌, ℕ, length, get_or, map, IfOk, string_bytes};
 ghost use Rattle.proto_case.specs.Camel.{entry_name};
-ghost use Rattle.proto_listing.specs.Listing.{needs, path_of, read, source_of};
-ghost use Rattle.proto_listing.specs.declared.listing.Above.TheVariants.{Below};
+ghost use Rattle.proto_listing.specs.Listing.{needs, path_at, read, source_of};
 ghost use Rattle.proto_listing.specs.declared.listing.Listed.{Listed as ListedOf};
 ghost use Rattle.proto_meaning.specs.Skeleton.{name_of, spell};
 ghost use Rattle.proto_text.specs.Texts.{word_at};
@@ -27,21 +26,22 @@ fn last_word(alloc: Global, words: &Words, entry: &Listed) -> Result<String, NoM
     }
 }
 
-/// The words of the full name of the declaration with this index, from the outermost.
+/// The words of the full name of what stands right above, from the outermost; none for what is
+/// outermost.
 pub(crate) fn scope_words(
     alloc: Global,
     words: &Words,
     declared: &[Listed],
-    index: usize,
+    scope: Above,
 ) -> Result<Vec<String>, NoMemory>
     requires ordered { (k : ℕ) (d : ListedOf)
         → k < length declared.now → needs (get_or declared.now k d).above ≤ k }
-    requires within { index < length declared.now }
+    requires within { needs scope ≤ length declared.now }
     ensures { IfOk result (λ ws. map string_bytes ws.items
-        ≡ name_of (word_at words.now) entry_name (path_of (read declared.now) index)) }
+        ≡ name_of (word_at words.now) entry_name (path_at (read declared.now) scope)) }
 {
     let mut outward = Vec::new(alloc);
-    let mut above = Above::Below(index);
+    let mut above = scope;
     while let Above::Below(next) = above {
         let entry = &declared[next];
         outward.push(last_word(alloc, words, entry)?)?;

@@ -39,10 +39,10 @@ path_of-last ds d k e =
     ∙ ap (λ n. get_or (map whole ds ++ whole d ∷ []) n []) (e ∙ sym (length-map ds whole))
     ∙ get_or-append_seam (map whole ds) (whole d) [] []
 
-uses-more : (ds more : List Placed) (us : List Use) → All (λ u. u.scope < length ds) us → map (used_by (ds ++ more)) us ≡ map (used_by ds) us
+uses-more : (ds more : List Placed) (us : List Use) → All (λ u. needs u.scope ≤ length ds) us → map (used_by (ds ++ more)) us ≡ map (used_by ds) us
 uses-more ds more [] a = refl
 uses-more ds more (u ∷ us) a =
-    let e : path_of (ds ++ more) u.scope ≡ path_of ds u.scope = path_of-more ds more u.scope (a 0 u (omega arith)) in
+    let e : path_at (ds ++ more) u.scope ≡ path_at ds u.scope = path_at-more ds more u.scope (a 0 u (omega arith)) in
     ap (λ (path : List (Source ℕ)). used_as path u.is_method u.reference.now ∷ map (used_by (ds ++ more)) us) e
     ∙ ap (λ (rest : List (Used ℕ)). used_by ds u ∷ rest) (uses-more ds more us (λ k d l. a (suc k) d (omega arith)))
 
@@ -164,7 +164,7 @@ adds_entry {old = old} {new = new} e d u l t =
       sound = λ s. record {
         ordered = subst (λ (es : List Listed). (k : ℕ) (x : Listed) → k < length es → needs (get_or es k x).above ≤ k) (sym d) (ordered_push old.declared.items e s.ordered l);
         tokens = ap (map (λ x. Some x.token)) d ∙ tokens_push old.declared.items e more s.tokens t ∙ sym (ap (map (λ x. last_token (whole x))) reads);
-        scopes = subst (λ (us : List Use). All (λ u. u.scope < length new.declared.items) us) (sym u) (λ k x b. omega (arith, s.scopes k x b, len));
+        scopes = subst (λ (us : List Use). All (λ u. needs u.scope ≤ length new.declared.items) us) (sym u) (λ k x b. omega (arith, s.scopes k x b, len));
       };
       declared = reads;
       used = λ s.
@@ -185,8 +185,8 @@ adds_entry {old = old} {new = new} e d u l t =
     ]
 
 -- one reference more
-pub adds_use : {old new : Listing} (u : Use) → new.declared.items ≡ old.declared.items → new.used.items ≡ old.used.items ++ u ∷ [] → u.scope < length old.declared.items
-    → Adds old new (Below u.scope) (λ path. []) (λ path. used_as path u.is_method u.reference.now ∷ [])
+pub adds_use : {old new : Listing} (u : Use) → new.declared.items ≡ old.declared.items → new.used.items ≡ old.used.items ++ u ∷ [] → needs u.scope ≤ length old.declared.items
+    → Adds old new u.scope (λ path. []) (λ path. used_as path u.is_method u.reference.now ∷ [])
 adds_use {old = old} {new = new} u d e l =
     let len : length new.declared.items ≡ length old.declared.items = ap length d in
     record {
@@ -194,7 +194,7 @@ adds_use {old = old} {new = new} u d e l =
       sound = λ s. record {
         ordered = subst (λ (es : List Listed). (k : ℕ) (x : Listed) → k < length es → needs (get_or es k x).above ≤ k) (sym d) s.ordered;
         tokens = subst (λ (es : List Listed). map (λ x. Some x.token) es ≡ map (λ x. last_token (whole x)) (read es)) (sym d) s.tokens;
-        scopes = subst (λ (us : List Use). All (λ x. x.scope < length new.declared.items) us) (sym e) (scopes_push (length new.declared.items) old.used.items u (λ k x b. omega (arith, s.scopes k x b, len)) (omega (arith, l, len)));
+        scopes = subst (λ (us : List Use). All (λ x. needs x.scope ≤ length new.declared.items) us) (sym e) (scopes_push (length new.declared.items) old.used.items u (λ k x b. omega (arith, s.scopes k x b, len)) (omega (arith, l, len)));
       };
       declared = ap read d ∙ sym (append-nil (read old.declared.items));
       used = λ s.
@@ -203,13 +203,13 @@ adds_use {old = old} {new = new} u d e l =
           ∙ map-append (used_by (read old.declared.items)) old.used.items (u ∷ []);
     }
   where
-    scopes_push : (n : ℕ) (us : List Use) (u : Use) → All (λ x. x.scope < n) us → u.scope < n → All (λ x. x.scope < n) (us ++ u ∷ [])
+    scopes_push : (n : ℕ) (us : List Use) (u : Use) → All (λ x. needs x.scope ≤ n) us → needs u.scope ≤ n → All (λ x. needs x.scope ≤ n) (us ++ u ∷ [])
     scopes_push n us u h l k x b = elim (cases_lt k (length us)) [
-      | inl within ↦ subst (λ (y : Use). y.scope < n) (sym (get_or_append_left us (u ∷ []) x k within)) (h k x within)
+      | inl within ↦ subst (λ (y : Use). needs y.scope ≤ n) (sym (get_or_append_left us (u ∷ []) x k within)) (h k x within)
       | inr beyond ↦
           let at : k ≡ length us = omega (arith, b, beyond, length-append us (u ∷ [])) in
           let same : get_or (us ++ u ∷ []) k x ≡ u = ap (λ i. get_or (us ++ u ∷ []) i x) at ∙ get_or-append_seam us u [] x in
-          subst (λ (y : Use). y.scope < n) (sym same) l
+          subst (λ (y : Use). needs y.scope ≤ n) (sym same) l
     ]
 
 -- what trees behind one another add, in parts

@@ -1,5 +1,5 @@
 -- The name of an entry is a plain word where that of its field is (for the crates above).
-use Rattle.std.proofs.Common.{◌≡◌, ◌≢◌, ℕ, ◌-◌, Bool, true, false, ◌||◌, List, [], ◌∷◌, ◌++◌, refl, sym, ◌∙◌, ap, inl, inr, arith, if◌then◌else◌, ◌==◌, codes}
+use Rattle.std.proofs.Common.{◌≡◌, ◌≢◌, ℕ, Bool, true, false, ◌||◌, List, [], ◌∷◌, ◌++◌, refl, ◌∙◌, ap, inl, inr, arith, if◌then◌else◌, ◌==◌, codes}
 use Rattle.proto_faults.proofs.Common.{to_ascii_uppercase, list_any, cases_Bool, cond-true, cond-false, or_parts, list_any-append}
 use Rattle.proto_case.specs.Camel.{camel_from, entry_name}
 use Rattle.proto_case.proofs.Camel.{no_upper}

@@ -89,22 +89,22 @@ package_first items =
 
 -- ---- references
 
--- a use as listed: its scope is the path of the declaration with this index
+-- a use as listed: its scope is the path of what stands right above it
 abbrev pub used_by : List Placed → Use → Used ℕ
-used_by declared u = used_as (path_of declared u.scope) u.is_method u.reference.now
+used_by declared u = used_as (path_at declared u.scope) u.is_method u.reference.now
 
 -- the references of a file as its lists say them
 abbrev pub uses_in : Listing → List (Used ℕ)
 uses_in l = map (used_by (read l.declared.items)) l.used.items
 
--- each index is that of an entry, each entry stands behind the one right above it, and its token is
--- the last of its path
+-- each entry stands behind the one right above it, its token is the last of its path, and each
+-- reference stands below an entry or below nothing
 pub record IsSound (l : Listing) : Type 0 where
   pub ordered : (k : ℕ) (d : Listed) → k < length l.declared.items
       → needs (get_or l.declared.items k d).above ≤ k
   pub tokens : map (λ e. Some e.token) l.declared.items
       ≡ map (λ p. last_token (whole p)) (read l.declared.items)
-  pub scopes : All (λ u. u.scope < length l.declared.items) l.used.items
+  pub scopes : All (λ u. needs u.scope ≤ length l.declared.items) l.used.items
 
 -- the new entries and references are these, below the path
 pub record Adds (old new : Listing) (above : Above)

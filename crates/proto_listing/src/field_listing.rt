@@ -1,9 +1,9 @@
 //! Listing the fields of a message, and its oneofs.
 
-ghost use Rattle.std.specs.Prelude.{◌<◌, ◌++◌, length, [], ◌∷◌, map, OnOk};
+ghost use Rattle.std.specs.Prelude.{◌<◌, ◌≤◌, ◌++◌, length, [], ◌∷◌, map, OnOk};
 ghost use Rattle.proto_tree.specs.File.{trees, field_tree};
 ghost use Rattle.proto_listing.specs.FromTree.{field_names, no_names, picked, type_uses, flat_uses};
-ghost use Rattle.proto_listing.specs.Listing.{Adds};
+ghost use Rattle.proto_listing.specs.Listing.{Adds, needs};
 ghost use Rattle.proto_listing.specs.declared.listing.Above.TheVariants.{Below};
 ghost use Rattle.proto_meaning.specs.Skeleton.{Token, EntryOf, Given};
 ghost use Rattle.proto_meaning.specs.Tree.{place, placed, beside, key_word, value_word, map_field};
@@ -15,12 +15,12 @@ use proto_tree::{Field, FieldType, MapField, Oneof};
 
 fn list_type<'a>(
     listing: &mut Listing<'a>,
-    scope: usize,
+    scope: Above,
     kind: &'a FieldType,
 ) -> Result<(), NoMemory>
-    requires { scope < length listing.old.declared.items }
+    requires { needs scope ≤ length listing.old.declared.items }
     ensures { OnOk result (Adds listing.old listing.new
-        (Below scope) (λ path. []) (λ path. type_uses path kind.now)) }
+        scope (λ path. []) (λ path. type_uses path kind.now)) }
 {
     match kind {
         FieldType::Scalar(_) => Ok(()),
@@ -39,7 +39,7 @@ pub(crate) fn list_field<'a>(
         (λ path. type_uses path field.now.kind)) }
 {
     listing.name(Above::Below(scope), field.name, Kind::Field)?;
-    list_type(listing, scope, &field.kind)
+    list_type(listing, Above::Below(scope), &field.kind)
 }
 
 /// A map field, its entry and the entry's fields.
@@ -54,7 +54,7 @@ pub(crate) fn list_map_field<'a>(
 {
     listing.name(Above::Below(scope), field.name, Kind::Field)?;
     list_entry(listing, scope, field.name)?;
-    list_type(listing, scope, &field.value)
+    list_type(listing, Above::Below(scope), &field.value)
 }
 
 fn list_entry(listing: &mut Listing, scope: usize, token: u32) -> Result<(), NoMemory>

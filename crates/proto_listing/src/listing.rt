@@ -3,7 +3,6 @@
 ghost use Rattle.std.specs.Prelude.{◌≡◌, ◌<◌, ◌≤◌, length, [], ◌∷◌, IfOk, OnOk, Some};
 ghost use Rattle.proto_listing.specs.FromTree.{used_as};
 ghost use Rattle.proto_listing.specs.Listing.{Adds, last_token, needs, path_at, read, seen, whole};
-ghost use Rattle.proto_listing.specs.declared.listing.Above.TheVariants.{Below};
 ghost use Rattle.proto_meaning.specs.Skeleton.{Token};
 ghost use Rattle.proto_meaning.specs.Tree.{place};
 
@@ -41,10 +40,10 @@ pub struct Listed {
     pub kind: Kind,
 }
 
-/// A reference in the message or service with an index.
+/// A reference right below an entry, or below nothing.
 #[derive(Clone, Copy)]
 pub struct Use<'a> {
-    pub scope: usize,
+    pub scope: Above,
     pub is_method: bool,
     pub reference: &'a Reference,
 }
@@ -103,13 +102,13 @@ impl<'a> Listing<'a> {
     /// Adds a reference.
     pub(crate) fn refer(
         &mut self,
-        scope: usize,
+        scope: Above,
         is_method: bool,
         reference: &'a Reference,
     ) -> Result<(), NoMemory>
-        requires { scope < length self.old.declared.items }
+        requires { needs scope ≤ length self.old.declared.items }
         ensures { OnOk result (Adds self.old self.new
-            (Below scope) (λ path. []) (λ path. used_as path is_method reference.now ∷ [])) }
+            scope (λ path. []) (λ path. used_as path is_method reference.now ∷ [])) }
     {
         self.used.push(Use {
             scope,

@@ -76,6 +76,6 @@ fn list_method<'a>(
 {
     let signature = &method.signature;
     listing.name(Above::Below(scope), signature.name, Kind::Method)?;
-    listing.refer(scope, true, &signature.input.reference)?;
-    listing.refer(scope, true, &signature.output.reference)
+    listing.refer(Above::Below(scope), true, &signature.input.reference)?;
+    listing.refer(Above::Below(scope), true, &signature.output.reference)
 }

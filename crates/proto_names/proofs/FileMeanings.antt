@@ -1,5 +1,5 @@
 -- The references of a file by its listing are those of its tree.
-use Rattle.std.proofs.Common.{◌≡◌, ℕ, ◌<◌, Bool, List, [], ◌∷◌, length, get_or, map, sym, ◌∙◌, ap, subst, arith, All, Contains}
+use Rattle.std.proofs.Common.{◌≡◌, ℕ, ◌<◌, Bool, List, [], ◌∷◌, length, get_or, map, refl, sym, ◌∙◌, ap, subst, arith, All, Contains}
 use Rattle.proto_faults.proofs.Common.{Vec, map-append, get_or-map as get_or-map_within, All-map, Contains-get_or, contains_map}
 use Rattle.std.proofs.Math.ListN.{get_or-map}
 use Rattle.proto_text.proofs.Common.{one_token_list, words, word_at, Lexeme, lexeme_at, AreTokens}
@@ -7,11 +7,13 @@ use Rattle.proto_tree.proofs.Common.{Reads, dotted}
 use Rattle.proto_text.specs.declared.lexer.Token.{Token}
 use Rattle.proto_files.proofs.Common.{FileOf, file_at, ReadOf, AreRead, read_at, one_reading}
 use Rattle.proto_case.specs.Camel.{entry_name}
-use Rattle.proto_names.specs.Common.{declared_names, uses_of, AreFileMeant, AreLinked, IsFileLinked, IsFirstFlawed, IsFileError, reference_by, first_token, IsFaultless, IsFlawed, IsFirstBad, IsReferenceError, AreMeant, BadReference, Meant}
+use Rattle.proto_names.specs.Common.{declared_names, uses_of, AreFileMeant, AreLinked, IsFileLinked, IsFirstFlawed, IsFileError, reference_by, scope_above, first_token, IsFaultless, IsFlawed, IsFirstBad, IsReferenceError, AreMeant, BadReference, Meant}
 use Rattle.proto_meaning.proofs.Common.{At, at, ArePlain, Reference, Workspace, Source, Used, name_of, shifted_source, Placed, map_agree, map_map}
 use Rattle.proto_imports.proofs.Common.{text_of, names_of_files, IsListing, name_in}
-use Rattle.proto_listing.proofs.Common.{read, whole, path_of, used_by, uses_plain}
+use Rattle.proto_listing.proofs.Common.{read, whole, path_at, path_of, used_by, uses_plain}
 use Rattle.proto_table.specs.Naming.{used_named}
+use Rattle.proto_listing.specs.declared.listing.Above.{Above}
+use Rattle.proto_listing.specs.declared.listing.Above.TheVariants.{Outermost, Below}
 use Rattle.proto_listing.specs.declared.listing.Listing.{Listing}
 use Rattle.proto_listing.specs.declared.listing.Use.{Use}
 use Rattle.proto_faults.specs.declared.or_no_memory.OrNoMemory.{OrNoMemory}
@@ -32,8 +34,9 @@ module _ (text : At → List ℕ) (file : ℕ) (ds : List Placed) where
   abbrev full : List (Source ℕ) → List (List ℕ)
   full path = name_of own entry_name path
 
-  scope_is : (k : ℕ) → get_or (map (λ p. full (whole p)) ds) k [] ≡ name_of text entry_name (map (shifted_source (at file)) (path_of ds k))
-  scope_is k =
+  scope_is : (a : Above) → scope_above (map (λ p. full (whole p)) ds) a ≡ name_of text entry_name (map (shifted_source (at file)) (path_at ds a))
+  scope_is Outermost = refl
+  scope_is (Below k) =
       ap (λ (z : List (List (List ℕ))). get_or z k []) (sym (map_map whole full ds))
       ∙ get_or-map full (map whole ds) k []
       ∙ sym (name_in text file (path_of ds k))

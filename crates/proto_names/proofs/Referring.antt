@@ -1,15 +1,19 @@
 -- What a reference means by its row, and what is wrong with it.
-use Rattle.std.proofs.Common.{◌≡◌, ◌⊎◌, ℕ, suc, ◌+◌, ◌<◌, Bool, true, false, List, [], ◌∷◌, ◌++◌, length, get_or, slice_get, take, drop, map, Option, Some, None, option_map, Result, Ok, Err, Bor, refl, sym, ◌∙◌, ap, subst, inl, inr, arith, string_bytes, ok_or, All, Contains, take-append-drop}
+use Rattle.std.proofs.Common.{◌≡◌, ◌⊎◌, ℕ, suc, ◌+◌, ◌<◌, ◌≤◌, Bool, true, false, List, [], ◌∷◌, ◌++◌, length, get_or, slice_get, take, drop, map, Option, Some, None, option_map, Result, Ok, Err, Bor, refl, sym, ◌∙◌, ap, subst, inl, inr, arith, string_bytes, ok_or, All, Contains, take-append-drop}
 use Rattle.std.specs.Slice.{IsItemAt}
 use Rattle.proto_faults.proofs.Common.{cases_Bool, cases_lt, cond-true, cond-false, none-some, same_Some, slice_get_cases, slice_get_past, slice_get_read, length-map, map-append, get_or_past, get_or-map, All-append, All-cons, All-nil}
 use Rattle.std.proofs.Math.Seq.{drop-cons}
 use Rattle.proto_meaning.specs.declared.kind.Kind.{Kind}
 use Rattle.proto_meaning.specs.declared.kind.Kind.TheVariants.{Package, Message, Entry, Enum, Service, Field, EntryField, Oneof, Value, Method}
-use Rattle.proto_meaning.proofs.Common.{Symbol, Reference, Workspace, is_type, meaning, meaning_at, hit, typed, joined, names_apart, name_some, typed_is, shown}
+use Rattle.proto_meaning.proofs.Common.{Symbol, Reference, Workspace, is_type, meaning, meaning_at, hit, typed, joined, ArePlain, front, names_apart, name_some, typed_is, shown}
 use Rattle.proto_table.specs.declared.table.Row.{Row}
 use Rattle.proto_table.specs.declared.table.Table.{Table}
 use Rattle.proto_table.proofs.Common.{names_of, aboves_of, look, IsTable, IsIndexOf, IsAsked}
-use Rattle.proto_names.specs.Common.{reference_by, first_token, IsReadBy, IsFlawed, IsFaultless, AreMeant, IsFirstBad, kind_flaw, found_flaw, row_flaw, BadReference, Meant, ReferenceFlaw, Unresolved, WrongKind, MapEntry}
+use Rattle.proto_names.specs.Common.{reference_by, first_token, IsReadBy, IsFlawed, IsFaultless, AreMeant, IsFirstBad, kind_flaw, found_flaw, row_flaw, scope_above, BadReference, Meant, ReferenceFlaw, Unresolved, WrongKind, MapEntry}
+use Rattle.proto_table.specs.Filling.{number_above}
+use Rattle.proto_listing.proofs.Common.{needs}
+use Rattle.proto_listing.specs.declared.listing.Above.{Above}
+use Rattle.proto_listing.specs.declared.listing.Above.TheVariants.{Outermost, Below}
 use Rattle.proto_listing.specs.declared.listing.Use.{Use}
 use Rattle.proto_imports.proofs.Turned.{take_more}
 
@@ -116,8 +120,16 @@ module _ (t : Table) (ok : IsTable t) (w : Workspace) (index : IsIndexOf t w.sym
       go MapEntry h = none-some MapEntry (sym (none h.0 h.1 h.2) ∙ ap (λ z. kind_flaw z r.is_method) h.3)
 
 -- a reference of the file is one that the table can be asked for
-pub asked_in : (t : Table) (seen : List Bool) (rows : List ℕ) (names : List (List (List ℕ))) (file : ℕ) (w : Workspace) → IsReadBy t seen rows names file w → (text : ℕ → List ℕ) (u : Use) → u.scope < length rows → IsAsked t seen (get_or rows u.scope 0 + 1) w (reference_by file names text u)
-asked_in t seen rows names file w read text u l = record { index = read.index; marks = read.marks; scope_plain = read.plain u.scope [] (omega (arith, l, read.paired)); scope_is = read.named u.scope l }
+pub asked_in : (t : Table) (seen : List Bool) (rows : List ℕ) (names : List (List (List ℕ))) (file : ℕ) (w : Workspace) → IsReadBy t seen rows names file w → (text : ℕ → List ℕ) (u : Use) → needs u.scope ≤ length rows → (scope : ℕ) → scope ≡ number_above rows u.scope → IsAsked t seen scope w (reference_by file names text u)
+asked_in t seen rows names file w read text u l scope is = record { index = read.index; marks = read.marks; scope_plain = plain u.scope l; scope_is = ap (front (names_of t)) is ∙ named u.scope l }
+  where
+    plain : (a : Above) → needs a ≤ length rows → ArePlain (scope_above names a)
+    plain Outermost l = tt
+    plain (Below k) l = read.plain k [] (omega (arith, l, read.paired))
+
+    named : (a : Above) → needs a ≤ length rows → front (names_of t) (number_above rows a) ≡ joined (scope_above names a)
+    named Outermost l = refl
+    named (Below k) l = read.named k (omega (arith, l))
 
 module _ (t : Table) (w : Workspace) (f : Use → Reference) where
   abbrev said : Meant → Option (List ℕ)

@@ -11,6 +11,8 @@ use Rattle.proto_tree.specs.References.{dotted, first_of}
 use Rattle.proto_table.specs.Tables.{names_of}
 use Rattle.proto_table.specs.Resolved.{IsIndexOf}
 use Rattle.proto_meaning.specs.Marks.{MarksSeen}
+use Rattle.proto_listing.specs.declared.listing.Above.{Above}
+use Rattle.proto_listing.specs.declared.listing.Above.TheVariants.{Outermost, Below}
 use Rattle.proto_listing.specs.declared.listing.Use.{Use}
 use Rattle.proto_table.specs.declared.table.Row.{Row}
 use Rattle.proto_table.specs.declared.table.Table.{Table}
@@ -21,11 +23,16 @@ use Rattle.proto_names.specs.declared.references.ReferenceFlaw.TheVariants.{Unre
 use Rattle.proto_faults.specs.declared.or_no_memory.OrNoMemory.{OrNoMemory}
 use Rattle.proto_faults.specs.declared.or_no_memory.OrNoMemory.TheVariants as or
 
+-- the name of what stands right above, among these: none for what is outermost
+abbrev pub scope_above : List (List Text) → Above → List Text
+scope_above names Outermost = []
+scope_above names (Below k) = get_or names k []
+
 -- a reference of a file by the words of its tokens, in its scope among these names
 abbrev pub reference_by : ℕ → List (List Text) → (ℕ → Text) → Use → Reference
 reference_by file names text u = record {
   file = file;
-  scope = get_or names u.scope [];
+  scope = scope_above names u.scope;
   is_absolute = is_some u.reference.now.dot;
   is_method = u.is_method;
   words = map text (dotted u.reference.now.words);

@@ -2,6 +2,7 @@
 
 ghost use Rattle.std.specs.Prelude.{◌≡◌, ◌<◌, ◌≤◌, ℕ, List, [], length, get_or, map, option_map, is_some, Some, None, IfOk, IfErr};
 ghost use Rattle.std.specs.List.{All};
+ghost use Rattle.proto_listing.specs.Listing.{needs};
 ghost use Rattle.proto_text.specs.Texts.{word_at};
 ghost use Rattle.proto_tree.specs.References.{dotted, first_of};
 ghost use Rattle.proto_meaning.specs.Joined.{joined, ArePlain};
@@ -12,7 +13,7 @@ ghost use Rattle.proto_table.specs.Tables.{names_of, IsTable};
 
 use proto_faults::{NoMemory, OrNoMemory};
 use proto_files::Words;
-use proto_listing::listing::Use;
+use proto_listing::listing::{Above, Use};
 use proto_meaning::Kind;
 use proto_table::table::Table;
 use proto_tree::{Dotted, Reference};
@@ -48,7 +49,7 @@ pub struct Meant {
 }
 
 /// What the references of a file mean, in order; else the first that is faulty, or want of memory.
-/// The scopes are indices of the file's declarations, and `rows` has the row of each.
+/// The scopes are by index among the file's declarations, and `rows` has the row of each.
 pub(crate) fn meanings(
     alloc: Global,
     table: &Table,
@@ -60,7 +61,7 @@ pub(crate) fn meanings(
 ) -> Result<Vec<Meant>, ReferenceError>
     requires table { IsTable table.now }
     requires rows { All (λ r. r < length table.now.rows.items) rows.now }
-    requires scopes { All (λ u. u.scope < length rows.now) uses.now }
+    requires scopes { All (λ u. needs u.scope ≤ length rows.now) uses.now }
     requires plain { All
         (λ u. ArePlain (map (word_at words.now) (dotted u.reference.now.words))) uses.now }
     ensures meant { IfOk result (λ ms. (w : Workspace)
@@ -73,7 +74,10 @@ pub(crate) fn meanings(
 {
     let mut meant = Vec::new(alloc);
     for used in uses {
-        let scope = rows[used.scope] + 1;
+        let scope = match used.scope {
+            Above::Outermost => 0,
+            Above::Below(k) => rows[k] + 1,
+        };
         let row = row_meant(alloc, table, seen, words, scope, used.reference)?;
         let token = token_of(used.reference);
         match sound_row(table, row, used.is_method) {
