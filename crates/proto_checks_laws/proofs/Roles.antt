@@ -1,5 +1,5 @@
 -- What sentences and options read besides names stands at tokens of other roles (for the crates above).
-use Rattle.std.proofs.Common.{◌≡◌, ◌⊎◌, ℕ, suc, ◌+◌, Bool, true, false, List, [], ◌∷◌, ◌++◌, map, flat_map, Option, Some, None, codes, refl, sym, ap, subst, ◌∙◌, inl, inr, arith, if◌then◌else◌, option_to_list, Contains, bytes_eq}
+use Rattle.std.proofs.Common.{◌≡◌, ◌⊎◌, ℕ, suc, Bool, true, false, List, [], ◌∷◌, ◌++◌, map, flat_map, Option, Some, None, codes, refl, sym, ap, subst, ◌∙◌, inl, inr, arith, if◌then◌else◌, option_to_list, Contains, bytes_eq}
 use Rattle.proto_faults.proofs.Common.{AllByRecursion, All-contains, All-from_recursion, contains_head, contains_later}
 use Rattle.proto_text.specs.Tokens.{Lexeme}
 use Rattle.proto_tree.specs.declared.class.Class.{Class}

@@ -1,5 +1,5 @@
 -- What the rules read of a file.
-use Rattle.std.specs.Prelude.{ℕ, ◌==◌, List, [], map, find, get_or, Option, Some, None}
+use Rattle.std.specs.Prelude.{ℕ, ◌==◌, List, [], map, find, get_or}
 use Rattle.std.specs.Option.{option_and_then}
 use Rattle.proto_faults.specs.Texts.{Text, or_nothing}
 use Rattle.proto_text.specs.declared.lexer.Token.{Token}

@@ -1,6 +1,6 @@
 -- The link of files: what they declare, see and refer to, as the texts of their tokens spell it;
 -- and the faults of imports, names and references.
-use Rattle.std.specs.Prelude.{◌≡◌, ℕ, suc, List, [], ◌∷◌, ◌++◌, length, map, Option, Some, None}
+use Rattle.std.specs.Prelude.{◌≡◌, ℕ, suc, List, [], ◌∷◌, ◌++◌, length, map}
 use Rattle.proto_text.specs.Values.{value_of}
 use Rattle.proto_text.specs.Texts.{words, offset_at}
 use Rattle.proto_files.specs.Faults.{FaultAt}

@@ -7,7 +7,7 @@ use Rattle.proto_files.proofs.Common.{HasNoFault, FileOf, file_at, ReadOf, AreRe
 use Rattle.proto_listing.proofs.Common.{file_names, used_by}
 use Rattle.proto_listing.specs.declared.listing.Use.{Use}
 use Rattle.proto_meaning.proofs.Common.{Renaming, target, At, at, used_in, ArePlain, joined, IsLinked, Workspace, meaning, same_name, Token, Skeleton, Used, name_of, reference_of, spell, symbol_of, Placed, name_from_same, same_from_name, map_append, has_meaning, meant}
-use Rattle.proto_imports.proofs.Common.{LinkFaults, link_skeleton, names_in, names_of_files, text_of, used_named, uses_of, use_from, use_in, names_are_plain}
+use Rattle.proto_imports.proofs.Common.{LinkFaults, link_skeleton, names_in, names_of_files, text_of, used_named, uses_of, names_are_plain}
 use Rattle.proto_names.proofs.Common.{from_use, use_there, IsLinkRead, TextMeant, meant_by_link, meant_by_use, LinkOf, text_at}
 use Rattle.proto_names.specs.declared.references.Meant.{Meant}
 use Rattle.proto_rename_laws.proofs.Common.{front_of, standing, stands, Target, IsNamed, name_map, files_are_linked, from_flat_map, stands_at, to_flat_map, meaning_parts}

@@ -1,7 +1,7 @@
 -- What a link has of references, with the enums that they mean.
-use Rattle.std.specs.Prelude.{ℕ, [], Option, Some, None}
+use Rattle.std.specs.Prelude.{ℕ, Option}
 use Rattle.std.specs.Option.{option_and_then}
-use Rattle.proto_faults.specs.Texts.{Text, or_nothing}
+use Rattle.proto_faults.specs.Texts.{or_nothing}
 use Rattle.proto_meaning.specs.Grown.{At, at}
 use Rattle.proto_names.specs.Linking.{LinkOf, file_at, text_at, token_at}
 use Rattle.proto_names.specs.declared.references.Meant.{Meant}
