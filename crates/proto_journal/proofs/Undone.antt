@@ -21,7 +21,7 @@ EndsSo entry held = (version : Version) × (records : List RecordOf) × EndsIn v
 pub ends_there : (old : Option Held) (journal : List ℕ) (version : Version) (last : RecordOf) → HoldsJournal old journal → LastOutcome journal (Ok (version, last)) → Over old (EndsSo last.entry)
 ends_there None journal version last there l = tt
 ends_there (Some then) journal version last there l =
-    (version, l.0, last.edit, subst (λ (t : List ℕ). IsJournalIn version t (l.0 ++ done last.edit last.entry ∷ [])) there l.1)
+    (version, l.0, (last.edit, subst (λ (t : List ℕ). IsJournalIn version t (l.0 ++ done last.edit last.entry ∷ [])) there l.1))
 
 -- ---- refused
 
@@ -35,10 +35,11 @@ no_entry from old new journal fault.NoMemory same there l = stays from old new s
 no_entry from old new journal (fault.Refused r) same there l = absurd l
 
 pub stale : (from : List FileOf) (old new : Option Held) (journal : List ℕ) (version : Version) (last : RecordOf) (r : Refusal) → new ≡ old → HoldsJournal old journal → LastOutcome journal (Ok (version, last))
-    → IsUndoRefusal from last.entry r → UndoOutcome from from old new (Err (fault_of r))
-stale from old new journal version last refusal.Stale same there l u = (stays from old new same, (last.entry, u, ends_there old journal version last there l))
-stale from old new journal version last refusal.NoMemory same there l u = stays from old new same
-stale from old new journal version last r same there l u = absurd u
+    → (entry : List ChangeOf) → entry ≡ last.entry → IsUndoRefusal from entry r → UndoOutcome from from old new (Err (fault_of r))
+stale from old new journal version last refusal.Stale same there l entry is u =
+    (stays from old new same, (last.entry, subst (λ (e : List ChangeOf). IsUndoRefusal from e refusal.Stale) is u, ends_there old journal version last there l))
+stale from old new journal version last refusal.NoMemory same there l entry is u = stays from old new same
+stale from old new journal version last r same there l entry is u = absurd u
 
 pub counts_no_entry : (before after : ℕ) (journal : List ℕ) (f : JournalFault) → after ≡ before → LastOutcome journal (Err f) → CountsFault before after f
 counts_no_entry before after journal fault.BadJournal same l = same

@@ -1,7 +1,5 @@
 use Rattle.std.proofs.lemmas.Result.{err_from_is_err_and}
-use Rattle.std.proofs.Common.{subst}
 use Rattle.proto_edit.specs.Answers.{asked}
-use Rattle.proto_edit.specs.Compiled.{AreCompiled}
 use Rattle.proto_journal.proofs.Committed.{refused, unwritten}
 use Rattle.proto_journal.proofs.committing.prepare.Goals as goal
 
@@ -16,4 +14,4 @@ returns-in-Err-clause-err c =
 
 pub with_entry-requires : goal.with_entry-requires
 with_entry-requires c =
-    c.accepted_are_notable.ensures c.args.workspace.now (asked c.args.edit.now) c.in_ok-next.entry c.in_ok-next.next (subst AreCompiled c.files.ensures.files c.files.ensures.compiled) c.in_ok-next.ensures.ok
+    c.accepted_are_notable.ensures c.args.workspace.now (asked c.args.edit.now) c.in_ok-next.entry c.in_ok-next.next c.files.ensures.compiled c.in_ok-next.ensures.ok

@@ -10,7 +10,7 @@ returns-in_err-read-clause-outcome g c =
     let p = err_from_is_err_and c.from_residual.result c.from_residual.ensures.1 in
     let there : HoldsJournal (g.S.Store.holds c.args.store.now) c.as_slice.result.now =
     subst (λ (t : List ℕ). HoldsJournal (g.S.Store.holds c.args.store.now) t) (sym c.as_slice.ensures.value) c.in-Ok.ensures.bytes in
-    rw (p.1, p.2) (not_read (g.S.Store.holds c.args.store.now) c.as_slice.result.now _ there c.in_err-read.ensures.err (λ e. c.read_journal-read.ensures.bad (c.in_err-read.was ∙ ap Err e)))
+    rw (p.1, p.2) (not_read (g.S.Store.holds c.args.store.now) c.as_slice.result.now _ there c.in_err-read.ensures.err (λ e. c.read_journal-2.ensures.bad (c.in_err-read.was ∙ ap Err e)))
 
 pub returns-then-last_is_open-clause-outcome : goal.returns-then-last_is_open-clause-outcome
 returns-then-last_is_open-clause-outcome g c =

@@ -22,7 +22,7 @@ returns-in-Some c =
     let is : is_last_open records ≡ false = ap is_last_open (sym c.as_slice.ensures.value) ∙ sym c.last_is_open.ensures ∙ c.if-last_is_open.false in
     last_there c.args.journal.now c.in_ok-read.read.0 records c.pop.new.self.items c.in-Some.last c.in_ok-read.ensures.ok is c.in-Some.ensures.items
 
-pub returns-in-None : goal.returns-in-None
-returns-in-None c =
+pub returns : goal.returns
+returns c =
     let none : length c.in_ok-read.read.1.items ≡ 0 = omega (arith, c.in_ok-read.read.1.ok.0, c.in-None.ensures.cases.0) in
     nothing_there c.args.journal.now c.in_ok-read.read.0 c.in_ok-read.read.1.items c.in_ok-read.ensures.ok none

@@ -2,10 +2,12 @@ use Rattle.std.proofs.Common.{ℕ, List, refl, sym, ap, ◌∙◌, subst, Option
 use Rattle.std.proofs.lemmas.Result.{err_from_is_err_and}
 use Rattle.proto_files.specs.GivenFiles.{FileOf, paths_of}
 use Rattle.proto_entries.proofs.Common.{Asked, ChangeOf}
+use Rattle.proto_edit.specs.Workspaces.{IsUndo}
 use Rattle.proto_records.specs.declared.record.Version.{Version}
 use Rattle.proto_records.proofs.Common.{done}
 use Rattle.proto_journal.proofs.Grown.{last_record}
 use Rattle.proto_store.specs.Stores.{Held, HoldsFiles, HoldsJournal}
+use Rattle.proto_journal.specs.Undoing.{IsUndone}
 use Rattle.proto_journal.specs.Written.{Passes, Reopens}
 use Rattle.proto_journal.proofs.Holdings.{passes_from, through_from}
 use Rattle.proto_journal.proofs.PutPaths.{undo_paths}
@@ -25,7 +27,7 @@ returns-in_err-next-clause-outcome g c =
     let there : HoldsJournal old c.as_slice-text.result.now = subst (λ (t : List ℕ). HoldsJournal old t) (sym c.as_slice-text.ensures.value) c.in-Ok.ensures.bytes in
     let p = err_from_is_err_and c.from_residual-in_err-next.result c.from_residual-in_err-next.ensures.1 in
     rw (p.1, p.2) (stale c.args.workspace.now old (g.S.Store.holds c.read_journal.new.self) c.as_slice-text.result.now c.in_ok-found.found.0 c.in_ok-found.found.1 _ c.read_journal.ensures.same there c.in_ok-found.ensures
-    c.in_err-next.ensures.err)
+    c.entry.result.now c.entry.ensures c.in_err-next.ensures.err)
 
 pub reopened-requires : goal.reopened-requires
 reopened-requires g c =
@@ -33,7 +35,7 @@ reopened-requires g c =
 
 pub write_through-requires-clause-paths : goal.write_through-requires-clause-paths
 write_through-requires-clause-paths g c =
-    ap paths_of c.files-2.ensures.files ∙ undo_paths c.args.workspace.now c.in_ok-next.next c.in_ok-found.found.1.entry c.in_ok-next.ensures.ok ∙ sym (ap paths_of c.files.ensures.files)
+    ap paths_of c.files-2.ensures.files ∙ undo_paths c.args.workspace.now c.in_ok-next.next c.in_ok-found.found.1.entry (subst (λ (e : List ChangeOf). IsUndo c.args.workspace.now e c.in_ok-next.next) c.entry.ensures c.in_ok-next.ensures.ok) ∙ sym (ap paths_of c.files.ensures.files)
 
 pub write_through-requires-clause-files : goal.write_through-requires-clause-files
 write_through-requires-clause-files g c =
@@ -47,6 +49,7 @@ returns-clause-outcome g c =
     let version : Version = c.in_ok-found.found.0 in
     let edit : Option Asked = c.in_ok-found.found.1.edit in
     let entry : List ChangeOf = c.in_ok-found.found.1.entry in
+    let is : IsUndo c.args.workspace.now entry c.in_ok-next.next = subst (λ (e : List ChangeOf). IsUndo c.args.workspace.now e c.in_ok-next.next) c.entry.ensures c.in_ok-next.ensures.ok in
     let there : HoldsJournal old journal = subst (λ (t : List ℕ). HoldsJournal old t) (sym c.as_slice-text.ensures.value) c.in-Ok.ensures.bytes in
     let first : Reopens version journal edit entry c.as_slice.result.now = subst (λ (t : List ℕ). Reopens version journal edit entry t) (sym c.as_slice.ensures.value) c.in_ok-first.ensures in
     let passes : Passes c.args.workspace.now c.in_ok-next.next c.as_slice.result.now c.shortened-last.result.now old (g.S.Store.holds c.write_through.new.store) =
@@ -54,7 +57,7 @@ returns-clause-outcome g c =
     (g.S.Store.holds c.write_through.new.store) c.files.ensures.files c.files-2.ensures.files c.read_journal.ensures.same c.in-Err-Failed-write_through.ensures.err in (
       refl,
       undo_cut journal c.as_slice.result.now c.shortened-last.result.now version edit entry first c.shortened-last.ensures c.args.workspace.now c.in_ok-next.next
-          (undo_paths c.args.workspace.now c.in_ok-next.next entry c.in_ok-next.ensures.ok) c.in_ok-next.ensures.ok old (g.S.Store.holds c.write_through.new.store) c.in_ok-found.ensures there passes,
+          (undo_paths c.args.workspace.now c.in_ok-next.next entry is) is old (g.S.Store.holds c.write_through.new.store) c.in_ok-found.ensures there passes,
     )
 
 pub returns-in-Ok-write_through-clause-outcome : goal.returns-in-Ok-write_through-clause-outcome
@@ -64,12 +67,14 @@ returns-in-Ok-write_through-clause-outcome g c =
     let version : Version = c.in_ok-found.found.0 in
     let edit : Option Asked = c.in_ok-found.found.1.edit in
     let entry : List ChangeOf = c.in_ok-found.found.1.entry in
+    let is : IsUndo c.args.workspace.now entry c.in_ok-next.next = subst (λ (e : List ChangeOf). IsUndo c.args.workspace.now e c.in_ok-next.next) c.entry.ensures c.in_ok-next.ensures.ok in
     let there : HoldsJournal old journal = subst (λ (t : List ℕ). HoldsJournal old t) (sym c.as_slice-text.ensures.value) c.in-Ok.ensures.bytes in
     let first : Reopens version journal edit entry c.as_slice.result.now = subst (λ (t : List ℕ). Reopens version journal edit entry t) (sym c.as_slice.ensures.value) c.in_ok-first.ensures in
-    rw c.replace.ensures.after (undone journal c.as_slice.result.now c.shortened-last.result.now version edit entry first c.shortened-last.ensures c.args.workspace.now c.in_ok-next.next
-    (undo_paths c.args.workspace.now c.in_ok-next.next entry c.in_ok-next.ensures.ok) c.in_ok-next.ensures.ok old (g.S.Store.holds c.write_through.new.store) c.in_ok-found.ensures there
+    rw c.replace.ensures.after (subst (λ (e : List ChangeOf). IsUndone e c.args.workspace.now c.in_ok-next.next old (g.S.Store.holds c.write_through.new.store)) (sym c.into_entry.ensures)
+    (undone journal c.as_slice.result.now c.shortened-last.result.now version edit entry first c.shortened-last.ensures c.args.workspace.now c.in_ok-next.next
+    (undo_paths c.args.workspace.now c.in_ok-next.next entry is) is old (g.S.Store.holds c.write_through.new.store) c.in_ok-found.ensures there
     (through_from c.files-2.result.now c.in_ok-next.next c.shortened-last.result.now (g.S.Store.holds c.read_journal.new.self) old (g.S.Store.holds c.write_through.new.store)
-    c.files-2.ensures.files c.read_journal.ensures.same c.in-Ok-write_through.ensures.ok))
+    c.files-2.ensures.files c.read_journal.ensures.same c.in-Ok-write_through.ensures.ok)))
 
 pub returns-in_err-found-clause-count : goal.returns-in_err-found-clause-count
 returns-in_err-found-clause-count g c =
