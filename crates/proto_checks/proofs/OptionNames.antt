@@ -1,15 +1,7 @@
--- Names among others: an equal one, and those that an earlier option has (for the crates above).
+-- Names among others: those that an earlier option has (for the crates above).
 use Rattle.std.proofs.Common.{◌≡◌, ℕ, Bool, ◌||◌, List, [], ◌∷◌, ◌++◌, length, map, refl, sym, ap, ◌∙◌, Bor, arith, bytes_eq}
 use Rattle.proto_faults.proofs.Common.{list_any, same_from_decides, Decides-like, map-append, length-map, bytes_eq-Decides, any_map}
 use Rattle.proto_numbers.proofs.Common.{earlier, after_earlier, repeats_length}
-
-flip : (a b : List ℕ) → bytes_eq a b ≡ bytes_eq b a
-flip a b = same_from_decides {P = a ≡ b} (bytes_eq a b) (bytes_eq b a) (bytes_eq-Decides a b) (Decides-like {P = b ≡ a} {Q = a ≡ b} (bytes_eq b a) (λ e. sym e) (λ e. sym e) (bytes_eq-Decides b a))
-
--- a slice has a word where one of its texts is the word
-pub contained : (values : List (Bor (List ℕ))) (w : List ℕ) → list_any (λ v. bytes_eq v.now w) values ≡ list_any (bytes_eq w) (map (λ v. v.now) values)
-contained [] w = refl
-contained (v ∷ values) w = ap (λ (b : Bool). b || list_any (λ v. bytes_eq v.now w) values) (flip v.now w) ∙ ap (λ (b : Bool). bytes_eq w v.now || b) (contained values w)
 
 -- keys are equal where what they map to is
 pub earlier_map : {A B : Type 0} (f : A → B) (eq : B → B → Bool) (front xs : List A) → earlier (λ x y. eq (f x) (f y)) front xs ≡ earlier eq (map f front) (map f xs)

@@ -1,7 +1,6 @@
 //! What is wrong with the default of a field.
 
 ghost use Rattle.std.specs.Prelude.{◌≡◌, ◌++◌, map, option_map, OnOk};
-ghost use Rattle.proto_parts.specs.Options.{is_one_of};
 ghost use Rattle.proto_parts.specs.Views.{enum_of, field_of, option_of};
 ghost use Rattle.proto_checks.specs.FieldFlaws.{holds_number, is_scalar_default, is_value_of, is_default_of, may_default, wrong_default, default_flaws, proto3_defaults};
 
@@ -32,18 +31,12 @@ fn is_scalar_default(scene: &Scene, scalar: &str, value: &Constant) -> bool
     }
 }
 
-fn has_value(enumeration: EnumAt, word: &str) -> bool
-    ensures { result ≡ is_one_of (enum_of enumeration.entry).values word.now }
-{
-    enumeration.values.contains(&word)
-}
-
 fn is_value_of(enumeration: Option<EnumAt>, word: Option<&str>) -> bool
     ensures { result ≡ is_value_of (option_map enum_of enumeration.entry)
         (option_map (λ w. w.now) word.entry) }
 {
     match (enumeration, word) {
-        (Some(enumeration), Some(word)) => has_value(enumeration, word),
+        (Some(enumeration), Some(word)) => enumeration.values.has(word),
         _ => false,
     }
 }

@@ -1,5 +1,5 @@
 -- What the declared types of parts say, as the plain records of `Parts` and `Scenes`.
-use Rattle.std.specs.Prelude.{map, option_map}
+use Rattle.std.specs.Prelude.{option_map}
 use Rattle.proto_parts.specs.declared.fields.OptionAt.{OptionAt}
 use Rattle.proto_parts.specs.declared.fields.FieldAt.{FieldAt}
 use Rattle.proto_parts.specs.declared.scene.EnumAt.{EnumAt}
@@ -28,7 +28,7 @@ abbrev pub enum_of : EnumAt → EnumOf
 enum_of e = record {
   is_proto3 = e.is_proto3;
   starts_past_zero = e.starts_past_zero;
-  values = map (λ v. v.now) e.values.now;
+  values = e.values.now;
 }
 
 -- a reference, by what it means

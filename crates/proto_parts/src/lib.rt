@@ -14,6 +14,7 @@ mod ranges;
 mod reserved;
 mod scene;
 mod separated;
+mod value_names;
 mod version;
 
 pub use enum_values::values;
@@ -33,4 +34,5 @@ pub use ranges::{
 };
 pub use reserved::{enum_reserved_names, reserved_names};
 pub use scene::{EnumAt, MeantAt, Scene};
+pub use value_names::ValueNames;
 pub use version::{is_proto3, syntax_text};

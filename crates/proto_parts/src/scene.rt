@@ -7,6 +7,7 @@ ghost use Rattle.proto_parts.specs.Scenes.{number_at, signed_at, meant_by, enum_
 ghost use Rattle.proto_parts.specs.Views.{enum_of, meant_of};
 
 use crate::numbers::number_of;
+use crate::value_names::ValueNames;
 use proto_faults::NoMemory;
 use proto_files::Words;
 use proto_tree::{Reference, Signed};
@@ -19,7 +20,7 @@ use std::marker::Model;
 pub struct EnumAt<'a> {
     pub is_proto3: bool,
     pub starts_past_zero: bool,
-    pub values: &'a [&'a str],
+    pub values: &'a ValueNames<'a>,
 }
 
 /// What a reference means, by its first token: a full name, and the enum of that name, if any.

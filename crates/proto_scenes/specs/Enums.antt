@@ -1,5 +1,5 @@
 -- The enums of files, found by the tokens of their names.
-use Rattle.std.specs.Prelude.{◌≡◌, ℕ, Bool, true, false, nat_eq, List, map, filter, find, slice_get, Option, option_map}
+use Rattle.std.specs.Prelude.{◌≡◌, ℕ, Bool, true, false, nat_eq, List, filter, find, slice_get, Option, option_map}
 use Rattle.std.specs.Option.{option_and_then}
 use Rattle.indexmap.specs.IndexMap.{IndexMap, get}
 use Rattle.proto_text.specs.Tokens.{Lexeme}
@@ -51,7 +51,7 @@ abbrev pub enum_of_row : EnumRow → EnumOf
 enum_of_row r = record {
   is_proto3 = r.is_proto3;
   starts_past_zero = r.starts_past_zero;
-  values = map (λ v. v.now) r.values.items;
+  values = r.values;
 }
 
 -- the enum that the rows of one file have for a token, if they have one

@@ -13,7 +13,7 @@ use crate::enum_blocks::enums_of;
 use indexmap::IndexMap;
 use proto_faults::NoMemory;
 use proto_files::{Files, Words};
-use proto_parts::{EnumAt, is_proto3, number_of, values};
+use proto_parts::{EnumAt, ValueNames, is_proto3, number_of, values};
 use proto_tree::{Enum, EnumItem, File, Value};
 use std::alloc::Global;
 
@@ -25,7 +25,7 @@ pub struct EnumRow<'a> {
     /// Whether it has a first value, and that is not 0.
     pub starts_past_zero: bool,
     /// The names of its values, in order.
-    pub values: Vec<&'a str>,
+    pub values: ValueNames<'a>,
 }
 
 /// Whether the number of a value is not 0.
@@ -70,7 +70,8 @@ fn row<'a>(
 {
     let values = values(alloc, items)?;
     let starts_past_zero = starts_past_zero(words, &values);
-    let values = names(alloc, words, &values)?;
+    let names = names(alloc, words, &values)?;
+    let values = ValueNames::new(alloc, names)?;
     Ok(EnumRow {
         is_proto3,
         starts_past_zero,
@@ -146,6 +147,6 @@ pub(crate) fn enum_at<'a>(
     Some(EnumAt {
         is_proto3: row.is_proto3,
         starts_past_zero: row.starts_past_zero,
-        values: row.values.as_slice(),
+        values: &row.values,
     })
 }
