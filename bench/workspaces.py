@@ -1,7 +1,7 @@
 """Workspaces to time programs on, and the time and memory of a run.
 
 A workspace has hundreds to thousands of files in eight packages: messages with scalar fields, references within and across
-files, maps, oneofs and enums.
+files, maps, oneofs and enums. Another has its files in hundreds of packages.
 """
 
 import os
@@ -44,6 +44,30 @@ def write(folder, size):
     while total < size:
         path = f"f{len(paths):05}.proto"
         text = schema(len(paths))
+        with open(os.path.join(folder, path), "w") as stream:
+            stream.write(text)
+        paths.append(path)
+        total += len(text)
+    return paths, total
+
+
+def write_packages(folder, files, packages):
+    """Writes so many files over so many packages, each with a message that refers to those of the files before it; answers
+    their paths and how many bytes they are."""
+    paths, total = [], 0
+    for file in range(files):
+        name = f"team{file % packages}.api.v1"
+        path = f"team{file % packages}/api/v1/f{file:04}.proto"
+        text = f'syntax = "proto3";\npackage {name};\n'
+        others = [other for other in (file - 1, file - packages, file - 7) if other >= 0]
+        for other in others:
+            text += f'import "{paths[other]}";\n'
+        text += f"message Message{file} {{\n"
+        text += "".join(f"  string field_number_{number} = {number};\n" for number in range(1, 11))
+        for number, other in enumerate(others, 20):
+            text += f"  .team{other % packages}.api.v1.Message{other} other_{number} = {number};\n"
+        text += f"}}\nenum Kind{file} {{\n  KIND_{file}_ZERO = 0;\n  KIND_{file}_ONE = 1;\n}}\n"
+        os.makedirs(os.path.dirname(os.path.join(folder, path)), exist_ok=True)
         with open(os.path.join(folder, path), "w") as stream:
             stream.write(text)
         paths.append(path)
