@@ -54,7 +54,7 @@ fn entry_fields(
 {
     let key_type = scalar_type(scene.text(field.key));
     let value_type = type_of(scene, &field.value);
-    let mut fields = Vec::new(alloc);
+    let mut fields = Vec::with_capacity(alloc, 2)?;
     fields.push(entry_field(alloc, "key", 1, key_type, None)?)?;
     let value_name = type_name(alloc, scene, &field.value)?;
     fields.push(entry_field(alloc, "value", 2, value_type, value_name)?)?;

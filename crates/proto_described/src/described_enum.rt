@@ -47,7 +47,7 @@ fn value_descriptors(
     ensures { IfOk result (λ ds. map enum_value_desc ds.items
         ≡ map (value_described scene.now) (map (λ v. v.now) values.now)) }
 {
-    let mut descriptors = Vec::new(alloc);
+    let mut descriptors = Vec::with_capacity(alloc, values.len())?;
     for value in values {
         descriptors.push(value_descriptor(alloc, scene, value)?)?;
     }

@@ -277,7 +277,9 @@ impl<'a, R: Files + AllocGlobal> FolderStore<'a, R> {
         limit: usize,
     ) -> io::Result<(Vec<u8>, Stamp)> {
         let (mut file, stamp) = open_found(self.rt, path, found)?;
-        let mut bytes = Vec::new(self.rt.alloc());
+        // No more than a schema may have, whatever length is told.
+        let told = found.size().min(MAX_LEN as u64 + 1) as usize;
+        let mut bytes = Vec::with_capacity(self.rt.alloc(), told)?;
         read_up_to(&mut file, limit, &mut bytes)?;
         Ok((bytes, stamp))
     }

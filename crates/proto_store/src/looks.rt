@@ -72,7 +72,8 @@ pub(crate) fn read_up_to<S: Read>(
     limit: usize,
     bytes: &mut Vec<u8>,
 ) -> io::Result<()> {
-    let mut buffer = [0u8; 65536];
+    // Most schemas are shorter, and each call fills it with zeros. A folder's names want 4,096.
+    let mut buffer = [0u8; 16384];
     for _ in 0..u64::MAX {
         let room = limit.saturating_sub(bytes.len()).min(buffer.len());
         match source.read(&mut buffer[..room]) {

@@ -162,6 +162,12 @@ pub fn unit(bytes: &[u8]) -> Option<(u8, usize)>
     unit_of(bytes)
 }
 
+fn has_backslash(bytes: &[u8]) -> bool
+    ensures { result ≡ list_any is_backslash bytes.now }
+{
+    bytes.iter().any(|b| *b == b'\\')
+}
+
 /// The bytes that the text between the quotes stands for, if each escape is allowed. Refused for
 /// want of memory alone.
 pub fn decoded(alloc: Global, body: &[u8]) -> Result<Option<Vec<u8>>, NoMemory>
@@ -169,7 +175,11 @@ pub fn decoded(alloc: Global, body: &[u8]) -> Result<Option<Vec<u8>>, NoMemory>
         ((all : List ℕ) → Means body.now all → ⊥)
         (λ values. Means body.now values.items)) }
 {
-    let mut values = Vec::with_capacity(alloc, body.len())?;
+    if !has_backslash(body) {
+        // It stands for itself, so one copy does.
+        return Ok(Some(Vec::from_slice(alloc, body)?));
+    }
+    let mut values = Vec::new(alloc);
     let mut rest = body;
     while !rest.is_empty() {
         let (value, len) = match unit(rest) {
@@ -190,12 +200,6 @@ fn is_utf8(bytes: &[u8]) -> bool
         Ok(_) => true,
         Err(_) => false,
     }
-}
-
-fn has_backslash(bytes: &[u8]) -> bool
-    ensures { result ≡ list_any is_backslash bytes.now }
-{
-    bytes.iter().any(|b| *b == b'\\')
 }
 
 /// Whether each escape is allowed, and what the text stands for is UTF-8. Refused for want of
