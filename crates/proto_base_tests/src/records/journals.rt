@@ -84,11 +84,17 @@ fn is_exact_second<R: AllocGlobal + Abort>(rt: &R, place: usize, byte: u8) -> bo
 
 #[test]
 fn every_change_of_one_byte_of_the_second_version(rt: HostRuntime) {
+    let mut spelled: usize = 0;
     for place in 0..178usize {
         for byte in 0..=255u8 {
             assert!(rt; is_exact_second(&rt, place, byte), "{byte} at {place}");
+            if is_spelled_second(place, byte) {
+                spelled = spelled.saturating_add(1);
+            }
         }
     }
+    // The line itself at each place, and 1,101 others.
+    assert!(rt; spelled == 178 + 1_101);
 }
 
 // Two texts one behind the other of the second version, and whether they are a journal.
@@ -98,6 +104,11 @@ const SECOND_PAIRS: &[(&str, &str, bool)] = &[
     (NULL_LINE, OPEN_SECOND_LINE, true),
     (OPEN_SECOND_LINE, "", true),
     (OPEN_SECOND_LINE, SECOND_LINE, false),
+    (OPEN_SECOND_LINE, OPEN_SECOND_LINE, false),
+    (SECOND_LINE, "\n", false),
+    ("\n", SECOND_LINE, false),
+    (SECOND_LINE, "x", false),
+    (SECOND_LINE, " ", false),
     (SECOND_LINE, LINE, false),
     (NULL_LINE, LINE, false),
     (NULL_LINE, OPEN_LINE, false),
@@ -166,23 +177,40 @@ fn one_record_more(rt: HostRuntime) {
     expect_longer_second(&rt, "", State::Done, SECOND_LINE).expect(&rt, "memory");
 }
 
-// So many copies of the line.
-fn copies<R: AllocGlobal + Abort>(rt: &R, count: usize) -> Vec<u8> {
+// So many copies of a line.
+fn copies<R: AllocGlobal + Abort>(rt: &R, line: &str, count: usize) -> Vec<u8> {
     let mut bytes = Vec::new(rt.alloc());
     for _ in 0..count {
         bytes
-            .extend_from_slice(LINE.as_bytes())
+            .extend_from_slice(line.as_bytes())
             .expect(rt, "memory");
     }
     bytes
 }
 
+// So many copies of a line are a journal of so many bytes, and one more are none.
+fn expect_largest<R: AllocGlobal + Abort>(rt: &R, line: &str, count: usize, length: usize) {
+    let bytes = copies(rt, line, count);
+    assert!(rt; bytes.len() == length);
+    let records = read_records(rt.alloc(), bytes.as_slice()).expect(rt, "a journal");
+    assert!(rt; records.len() == count);
+    let mut longer = bytes;
+    longer
+        .extend_from_slice(line.as_bytes())
+        .expect(rt, "memory");
+    match read_records(rt.alloc(), longer.as_slice()) {
+        Ok(_) => panic!(rt; "{line}"),
+        Err(fault) => expect_fault(rt, fault, 1, "BadJournal"),
+    }
+}
+
 #[test]
 fn the_largest_journal(rt: HostRuntime) {
-    let bytes = copies(&rt, 132_104);
-    assert!(rt; bytes.len() == 16_777_208);
-    let records = read_records(rt.alloc(), bytes.as_slice()).expect(&rt, "a journal");
-    assert!(rt; records.len() == 132_104);
-    let longer = copies(&rt, 132_105);
-    assert!(rt; !is_first_journal(&rt, longer.as_slice()));
+    expect_largest(&rt, LINE, 132_104, 16_777_208);
+}
+
+#[test]
+fn the_largest_journals_of_the_second_version(rt: HostRuntime) {
+    expect_largest(&rt, SECOND_LINE, 94_254, 16_777_212);
+    expect_largest(&rt, NULL_LINE, 120_699, 16_777_161);
 }

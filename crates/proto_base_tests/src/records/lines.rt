@@ -334,6 +334,9 @@ const EDITS: &[&str] = &[
     r#"{"kind":"delete-field","name":"a"}"#,
     r#"{"file":"a.proto","kind":"add-import","path":"p/b.proto"}"#,
     r#"{"file":"a.proto","kind":"drop-import","path":"a.proto"}"#,
+    r#"{"kind":"rename","name":"message.enum","to":"string"}"#,
+    r#"{"kind":"delete-field","name":"_.a9._"}"#,
+    r#"{"file":"a/b-1/_.x.proto","kind":"add-import","path":"b.proto"}"#,
 ];
 
 // Edits that none tells.
@@ -360,10 +363,33 @@ const NO_EDITS: &[&str] = &[
     r#"{"file":"a.proto","kind":"drop-import"}"#,
     r#"{"kind":"add-import","file":"a.proto","path":"a.proto"}"#,
     r#"{"file":"a.proto","kind":"delete-field","path":"a.proto"}"#,
+    r#"{"kind":"rename","name":"A.b_c","to":"d_e","x":0}"#,
+    r#"{"file":"a.proto","kind":"rename","name":"A.b_c","to":"d_e"}"#,
+    r#"{"kind":"rename","kind":"rename","name":"A.b_c","to":"d_e"}"#,
+    r#"{"kind":"rename","name":"A.b_c","name":"A.b_c","to":"d_e"}"#,
+    r#"{"kind":"rename","name":"A.b_c","to": "d_e"}"#,
+    r#"{"kind":"rename","name":"A b_c","to":"d_e"}"#,
+    r#"{"kind":"rename","name":"A.b_c","to":"9e"}"#,
+    r#"{"kind":"rename","name":["A","b_c"],"to":"d_e"}"#,
+    r#"{"kind":"\u0072ename","name":"A.b_c","to":"d_e"}"#,
+    r#"{"\u006bind":"rename","name":"A.b_c","to":"d_e"}"#,
+    r#"{"name":"A.b_c","to":"d_e"}"#,
+    r#"{"kind":"delete_field","name":"A.b_c"}"#,
+    r#"{"kind":"undo"}"#,
+    r#"{"file":"a.proto","kind":"add-import","path":"a\u002eproto"}"#,
+    r#"{"file":"a.proto","kind":"add-import","path":"a/../b.proto"}"#,
+    r#"{"file":"","kind":"drop-import","path":"a.proto"}"#,
+    r#"{"file":"a.proto","kind":"add-import","name":"A.b_c"}"#,
     r#"{}"#,
     r#"[]"#,
+    r#"[null]"#,
     r#""rename""#,
+    r#""null""#,
+    r#""""#,
+    r#"0"#,
     r#"false"#,
+    r#" null"#,
+    r#"Null"#,
 ];
 
 // The line of the second version with another edit.
@@ -382,14 +408,42 @@ fn edits_are_told(rt: HostRuntime) {
     }
 }
 
-// Whether there is a record of this rename.
-fn is_told<R: AllocGlobal + Abort>(rt: &R, name: &str, to: &str) -> bool {
+fn text<R: AllocGlobal + Abort>(rt: &R, text: &str) -> String {
+    String::from_str(rt.alloc(), text).expect(rt, "memory")
+}
+
+// Whether there is a record of this edit.
+fn has_record<R: AllocGlobal + Abort>(rt: &R, edit: Edit) -> bool {
     let entry = entry_of(rt, "d_e", 48).expect(rt, "memory");
-    let edit = Edit::Rename {
-        name: String::from_str(rt.alloc(), name).expect(rt, "memory"),
-        to: String::from_str(rt.alloc(), to).expect(rt, "memory"),
-    };
     Record::new(State::Done, entry, Some(edit)).is_some()
+}
+
+// Whether there is one of this rename.
+fn is_told<R: AllocGlobal + Abort>(rt: &R, name: &str, to: &str) -> bool {
+    let name = text(rt, name);
+    let to = text(rt, to);
+    has_record(rt, Edit::Rename { name, to })
+}
+
+// Of this deleted field.
+fn is_deletion_told<R: AllocGlobal + Abort>(rt: &R, name: &str) -> bool {
+    let name = text(rt, name);
+    has_record(rt, Edit::DeleteField { name })
+}
+
+// Of this import, added and dropped.
+fn is_import_told<R: AllocGlobal + Abort>(rt: &R, file: &str, path: &str) -> bool {
+    let added = Edit::AddImport {
+        file: text(rt, file),
+        path: text(rt, path),
+    };
+    let dropped = Edit::DropImport {
+        file: text(rt, file),
+        path: text(rt, path),
+    };
+    let is_added = has_record(rt, added);
+    assert!(rt; has_record(rt, dropped) == is_added);
+    is_added
 }
 
 #[test]
@@ -397,4 +451,9 @@ fn records_of_edits(rt: HostRuntime) {
     assert!(rt; is_told(&rt, "A.b_c", "d_e") && is_told(&rt, "X.y", "message"));
     assert!(rt; !is_told(&rt, ".A.b_c", "d_e") && !is_told(&rt, "", "d_e"));
     assert!(rt; !is_told(&rt, "A.b_c", "a.b") && !is_told(&rt, "1Entry.b", "d_e"));
+    assert!(rt; is_deletion_told(&rt, "A.b_c") && is_deletion_told(&rt, "b_c"));
+    assert!(rt; !is_deletion_told(&rt, "A.") && !is_deletion_told(&rt, "A..b_c"));
+    assert!(rt; is_import_told(&rt, "a.proto", "p/b.proto"));
+    assert!(rt; !is_import_told(&rt, "a.proto", "b") && !is_import_told(&rt, "", "b.proto"));
+    assert!(rt; !is_import_told(&rt, "../a.proto", "b.proto"));
 }

@@ -3,6 +3,7 @@
 mod allocations;
 mod calls;
 mod failing;
+mod full;
 mod journals;
 mod rows;
 mod three_files;

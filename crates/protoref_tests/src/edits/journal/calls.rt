@@ -78,7 +78,10 @@ pub(crate) fn said<T: Drop>(answer: Result<T, JournalFault>) -> Said {
 }
 
 /// A store of `a.proto` with this text, and of this journal.
-pub(crate) fn store_of(alloc: Global, (text, journal): Left) -> Result<MemoryStore, NoMemory> {
+pub(crate) fn store_of(
+    alloc: Global,
+    (text, journal): (&str, &str),
+) -> Result<MemoryStore, NoMemory> {
     let mut files = Vec::new(alloc);
     let path = String::from_str(alloc, "a.proto")?;
     files.push((path, text.as_bytes().to_vec(alloc)?))?;
@@ -142,7 +145,7 @@ pub(crate) fn called<R: AllocGlobal + Abort>(
 pub(crate) fn is_left<R: AllocGlobal + Abort>(
     rt: &R,
     store: &mut MemoryStore,
-    (text, journal): Left,
+    (text, journal): (&str, &str),
 ) -> Result<bool, ReadingFault> {
     assert!(rt; store.failures() < u64::MAX);
     let held = store.read_journal()?;

@@ -31,7 +31,14 @@ const OPEN: &str =
 const DONE: &str =
     "{\"edit\":{\"kind\":\"rename\",\"name\":\"M\",\"to\":\"N\"},\"files\":[{\"after\":31,\"before\":31,\"path\":\"a.proto\",\"splices\":[{\"at\":27,\"new\":\"N\",\"old\":\"M\"}]},{\"after\":59,\"before\":59,\"path\":\"b.proto\",\"splices\":[{\"at\":49,\"new\":\"N\",\"old\":\"M\"}]},{\"after\":59,\"before\":59,\"path\":\"c.proto\",\"splices\":[{\"at\":49,\"new\":\"N\",\"old\":\"M\"}]}],\"state\":\"done\",\"version\":2}\n";
 
-/// How many files are renamed in a store, and its journal.
+/// An older entry of the first version, and what becomes of it in the second.
+const FIRST: &str =
+    "{\"files\":[{\"after\":48,\"before\":48,\"path\":\"a.proto\",\"splices\":[{\"at\":38,\"new\":\"d_e\",\"old\":\"b_c\"}]}],\"state\":\"done\",\"version\":1}\n";
+
+const MOVED: &str =
+    "{\"edit\":null,\"files\":[{\"after\":48,\"before\":48,\"path\":\"a.proto\",\"splices\":[{\"at\":38,\"new\":\"d_e\",\"old\":\"b_c\"}]}],\"state\":\"done\",\"version\":2}\n";
+
+/// How many files are renamed in a store, and its journal behind the older entry.
 type Left = (usize, &'static str);
 
 const BEFORE: Left = (0, "");
@@ -102,6 +109,7 @@ fn expect_recovered<R: AllocGlobal + Abort>(
     rt: &R,
     store: &mut MemoryStore,
     is_led_back: bool,
+    older: &str,
     left: Left,
 ) {
     assert!(rt; store.failures() < u64::MAX);
@@ -110,12 +118,18 @@ fn expect_recovered<R: AllocGlobal + Abort>(
         Err(_) => false,
     };
     assert!(rt; is_so, "recovered: {is_led_back}");
-    expect_left(rt, store, left);
+    expect_left(rt, store, older, left);
 }
 
-fn expect_left<R: AllocGlobal + Abort>(rt: &R, store: &mut MemoryStore, (renamed, journal): Left) {
+fn expect_left<R: AllocGlobal + Abort>(
+    rt: &R,
+    store: &mut MemoryStore,
+    older: &str,
+    (renamed, last): Left,
+) {
     assert!(rt; store.failures() < u64::MAX);
     let held = store.read_journal().expect(rt, "a journal");
+    let journal = format!(in rt.alloc(); "{older}{last}").expect(rt, "memory");
     assert!(rt; held.as_slice() == journal.as_bytes(), "not {journal}");
     assert!(rt; store.failures() < u64::MAX);
     let files = all_files(rt.alloc(), store).expect(rt, "files");
@@ -123,17 +137,36 @@ fn expect_left<R: AllocGlobal + Abort>(rt: &R, store: &mut MemoryStore, (renamed
     assert!(rt; files == wanted, "not {renamed} files");
 }
 
+// The commit is cut behind an older entry, which a write of the journal leaves as another.
+fn expect_way_back<R: AllocGlobal + Abort>(
+    rt: &R,
+    (older, moved): (&str, &str),
+    (call, lands, left): (u64, bool, Left),
+) {
+    let files = files_of(rt.alloc(), 0).expect(rt, "memory");
+    let journal = older.as_bytes().to_vec(rt.alloc()).expect(rt, "memory");
+    let mut store = MemoryStore::new(rt.alloc(), files, journal).expect(rt, "memory");
+    expect_cut(rt, &mut store, call, lands);
+    let (_, last) = left;
+    let then = if last.is_empty() { older } else { moved };
+    expect_left(rt, &mut store, then, left);
+    let is_torn = last == OPEN;
+    let after = if is_torn { BEFORE } else { left };
+    expect_recovered(rt, &mut store, is_torn, then, after);
+    expect_recovered(rt, &mut store, false, then, after);
+}
+
 #[test]
 fn come_back_wherever_a_commit_is_cut(rt: HostRuntime) {
-    for &(call, lands, left) in CUTS {
-        let files = files_of(rt.alloc(), 0).expect(&rt, "memory");
-        let made = MemoryStore::new(rt.alloc(), files, Vec::new(rt.alloc()));
-        let mut store = made.expect(&rt, "memory");
-        expect_cut(&rt, &mut store, call, lands);
-        expect_left(&rt, &mut store, left);
-        let is_torn = left.1 == OPEN;
-        let after = if is_torn { BEFORE } else { left };
-        expect_recovered(&rt, &mut store, is_torn, after);
-        expect_recovered(&rt, &mut store, false, after);
+    for cut in CUTS {
+        expect_way_back(&rt, ("", ""), *cut);
+    }
+}
+
+// The older entry stays, in the second version from the first write on.
+#[test]
+fn come_back_behind_an_entry_of_the_first_version(rt: HostRuntime) {
+    for cut in CUTS {
+        expect_way_back(&rt, (FIRST, MOVED), *cut);
     }
 }
