@@ -61,7 +61,7 @@ module _ (one : RecoveriesAreOne) (comes_back : TornComesBack) where
   pub cut_undos_come_back : JournalsShrink → CutUndosComeBack
   cut_undos_come_back shrink from to old cut new a order same ready (stay, inl unchanged) s o =
       inl (ready_stays old new a order ready s (subst (λ (z : Option Held). RecoverOutcome z new a) unchanged o))
-  cut_undos_come_back shrink from to old cut new a order same ready (stay, inr (entry, made, undo, (v, records, ends, inl torn))) s o =
+  cut_undos_come_back shrink from to old cut new a order same ready (stay, inr (entry, made, undo, (v, records, ends, inl (torn, told)))) s o =
       let is : IsEntry entry = entry_is v records torn.edit entry cut.journal torn.journal in
       let made_order : AreInPathOrder made = in_order old.files made (undo_paths from made entry undo ∙ ap paths_of same) order in
       let back = comes_back v records entry made from cut new a made_order is (leads_forth entry made from is undo.put) torn s o in

@@ -9,9 +9,9 @@ use Rattle.proto_edit.specs.Workspaces.{IsUndo}
 use Rattle.proto_records.specs.declared.fault.JournalFault.{JournalFault}
 use Rattle.proto_records.specs.declared.fault.JournalFault.TheVariants as fault
 use Rattle.proto_records.specs.declared.record.Version.{Version}
-use Rattle.proto_records.proofs.Common.{fault_of, done, opened, CountsFault, Over, OverBoth, IsBetween, IsTornBetween, Keeps, RecordOf, IsJournalIn}
+use Rattle.proto_records.proofs.Common.{fault_of, done, opened, CountsFault, Over, OverBoth, IsBetween, Keeps, RecordOf, IsJournalIn}
 use Rattle.proto_store.specs.Stores.{Held, HoldsJournal}
-use Rattle.proto_journal.specs.Common.{EndsIn, IsUndone, IsUndoCut, UndoOutcome, LastOutcome, Passes, Reopens, Shortens, held}
+use Rattle.proto_journal.specs.Common.{EndsIn, IsTornByUndo, IsUndone, IsUndoCut, UndoOutcome, LastOutcome, Passes, Reopens, Shortens, held}
 use Rattle.proto_journal.proofs.Committed.{stays}
 use Rattle.proto_journal.proofs.Recorded.{last_open_there, over_journal, unreadable}
 
@@ -60,7 +60,7 @@ module _ (journal first last : List ℕ) (version : Version) (edit : Option Aske
   abbrev IsLast : Type 0
   IsLast = (records : List RecordOf) × IsJournalIn version journal (records ++ done edit entry ∷ [])
 
-  ends : (then : Held) (l : IsLast) → journal ≡ then.journal → EndsIn version l.0 entry then
+  abbrev ends : (then : Held) (l : IsLast) → journal ≡ then.journal → EndsIn version l.0 entry then
   ends then l there = (edit, subst (λ (t : List ℕ). IsJournalIn version t (l.0 ++ done edit entry ∷ [])) there l.1)
 
   module _ (from made : List FileOf) (same_paths : paths_of made ≡ paths_of from) where
@@ -68,8 +68,8 @@ module _ (journal first last : List ℕ) (version : Version) (edit : Option Aske
     IsMade then now = (v : Version) × (records : List RecordOf) × EndsIn v records entry then × Keeps v made records now
 
     abbrev IsBegun : Held → Held → Type 0
-    IsBegun then now = (v : Version) × (records : List RecordOf) × EndsIn v records entry then
-        × (IsTornBetween v records entry made from now ⊎ Keeps v made records now)
+    IsBegun then now = (v : Version) × (records : List RecordOf) × (ends_in : EndsIn v records entry then)
+        × (IsTornByUndo v records entry then ends_in made from now ⊎ Keeps v made records now)
 
     -- files between are between either way round
     turned : (files : List FileOf) → IsBetween from made files → IsBetween made from files
@@ -87,7 +87,7 @@ module _ (journal first last : List ℕ) (version : Version) (edit : Option Aske
     torn (Some then) None l there b = absurd b
     torn (Some then) (Some now) l there b =
         let text : IsJournalIn version now.journal (l.0 ++ opened edit entry ∷ []) = subst (λ (t : List ℕ). IsJournalIn version t (l.0 ++ opened edit entry ∷ [])) (sym b.0) (first_is l.0 l.1) in
-        (version, l.0, ends then l there, inl (record { edit = edit; journal = text; files = turned now.files b.1 }))
+        (version, l.0, ends then l there, inl (record { edit = edit; journal = text; files = turned now.files b.1 }, refl))
 
     through : (old : Option Held) → IsLast → HoldsJournal old journal → OverBoth old (option_map (λ h. held made last) old) IsMade
     through None l there = tt

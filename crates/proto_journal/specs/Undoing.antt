@@ -29,6 +29,12 @@ pub record IsUndone (entry : List ChangeOf) (from to : List FileOf) (old new : O
   pub store : OverBoth old new (λ then now. (version : Version) × (records : List RecordOf)
       × EndsIn version records entry then × Keeps version to records now)
 
+-- torn between these files over these records, by the entry that ended the journal, with its edit
+abbrev pub IsTornByUndo : (version : Version) → (records : List RecordOf) → (entry : List ChangeOf)
+    → (then : Held) → EndsIn version records entry then → List FileOf → List FileOf → Held → Type 0
+IsTornByUndo version records entry then ends made from now =
+    (torn : IsTornBetween version records entry made from now) × (torn.edit ≡ ends.0)
+
 -- A store call failed: the store is as before; or the last entry
 -- can be undone, and the store is torn between the files before and
 -- after the entry over the records before it, or as after the undo.
@@ -36,8 +42,9 @@ abbrev pub IsUndoCut : List FileOf → Option Held → Option Held → Type 0
 IsUndoCut from old new = (new ≡ old)
     ⊎ ((entry : List ChangeOf) × (made : List FileOf) × IsUndo from entry made
     × OverBoth old new (λ then now. (version : Version) × (records : List RecordOf)
-    × EndsIn version records entry then
-    × (IsTornBetween version records entry made from now ⊎ Keeps version made records now)))
+    × (ends : EndsIn version records entry then)
+    × (IsTornByUndo version records entry then ends made from now
+    ⊎ Keeps version made records now)))
 
 -- The last entry can't be undone: its files are not as
 -- it left them, or what was before it would not compile.
