@@ -1,14 +1,15 @@
 -- What opening files answers: the first step that finds a fault has the least of all.
-use Rattle.std.proofs.Common.{◌≡◌, ◌<◌, ◌⊎◌, inl, inr, ⊎_elim, List, None, sym, subst, arith, IsPermutation}
+use Rattle.std.proofs.Common.{◌≡◌, ◌<◌, ◌⊎◌, inl, inr, ⊎_elim, List, None, Result, Ok, Err, IfOk, IfErr, sym, subst, arith, IsPermutation}
 use Rattle.proto_faults.proofs.Common.{IsPermutation-sym, IsPermutation-trans, All-permutation, length_permutation, phase_of}
 use Rattle.proto_files.proofs.Common.{FaultAt, fault_at, ComesBefore, IsLeastFault, HasNoFault, IsFilesError, FileOf, paths_of, AreWorkspaceFiles, PathFaults, ReadFaults, IsWorkspacePath, comes_before_cases, one_order, paths_are_phase_0, texts_are_phase_1, grammar_is_phase_2, read_at}
+use Rattle.proto_files.proofs.OneLeast.{least_is_one}
 use Rattle.proto_faults.specs.declared.fault.SchemaFault.{SchemaFault}
 use Rattle.proto_faults.specs.declared.fault.SchemaFault.TheVariants.{Schema, NoMemory}
 use Rattle.proto_imports.proofs.Common.{IsLinkError, LinkFaults, of_import, of_name, of_reference, import_found, name_found, reference_found}
 use Rattle.proto_checks.proofs.Phases.{flaws_are_of_checks}
 use Rattle.proto_desc.specs.Checked.{CheckFaults, of_flaw, IsCheckError}
 use Rattle.proto_desc.specs.SceneOf.{scene_of}
-use Rattle.proto_desc.specs.Opening.{IsOpenError}
+use Rattle.proto_desc.specs.Opening.{AreReadOf, IsOpenError, NoOpenFault, OneOpenFault}
 use Rattle.proto_desc.specs.Whole.{IsSortedOf, FileFaults, of_read, of_link as of_linking, of_check as of_checking, WorkspaceFaults, of_path, of_files as of_sorted}
 
 -- ---- phases
@@ -127,19 +128,24 @@ pub path_error : (given : List FileOf) (e : SchemaFault) → IsFilesError (PathF
 path_error given (Schema fault) h = paths_first given (fault_at fault) h
 path_error given NoMemory h = tt
 
-pub read_error : (given sorted : List FileOf) (e : SchemaFault) → HasNoFault (PathFaults 4096 (paths_of given)) → IsPermutation given sorted → AreWorkspaceFiles sorted → IsFilesError (ReadFaults sorted) e → IsOpenError given e
+read_error : (given sorted : List FileOf) (e : SchemaFault) → HasNoFault (PathFaults 4096 (paths_of given)) → IsPermutation given sorted → AreWorkspaceFiles sorted → IsFilesError (ReadFaults sorted) e → IsOpenError given e
 read_error given sorted (Schema fault) named same workspace h = files_first given sorted (fault_at fault) named same workspace (read_first sorted (fault_at fault) h)
 read_error given sorted NoMemory named same workspace h = tt
 
 -- the files given, in order and read
-pub record AreReadOf (given files : List FileOf) : Type 0 where
-  pub named : HasNoFault (PathFaults 4096 (paths_of given))
-  pub same : IsPermutation given files
-  pub workspace : AreWorkspaceFiles files
-  pub clean : HasNoFault (ReadFaults files)
-
-pub are_read : (given sorted files : List FileOf) → files ≡ sorted → HasNoFault (PathFaults 4096 (paths_of given)) → IsPermutation given sorted → AreWorkspaceFiles sorted → HasNoFault (ReadFaults sorted) → AreReadOf given files
+are_read : (given sorted files : List FileOf) → files ≡ sorted → HasNoFault (PathFaults 4096 (paths_of given)) → IsPermutation given sorted → AreWorkspaceFiles sorted → HasNoFault (ReadFaults sorted) → AreReadOf given files
 are_read given sorted files e named same workspace clean = subst (AreReadOf given) (sym e) (record { named = named; same = same; workspace = workspace; clean = clean })
+
+-- what reading answers
+pub all_read : (given sorted : List FileOf) (r : Result (List FileOf) SchemaFault) → HasNoFault (PathFaults 4096 (paths_of given)) → IsPermutation given sorted → AreWorkspaceFiles sorted
+    → IfOk r (λ _. HasNoFault (ReadFaults sorted)) → IfOk r (λ files. files ≡ sorted) → IfOk r (AreReadOf given)
+all_read given sorted (Ok files) named same workspace clean is = are_read given sorted files is named same workspace clean
+all_read given sorted (Err e) named same workspace clean is = tt
+
+pub not_read : (given sorted : List FileOf) (r : Result (List FileOf) SchemaFault) → HasNoFault (PathFaults 4096 (paths_of given)) → IsPermutation given sorted → AreWorkspaceFiles sorted
+    → IfErr r (IsFilesError (ReadFaults sorted)) → IfErr r (IsOpenError given)
+not_read given sorted (Ok files) named same workspace h = tt
+not_read given sorted (Err e) named same workspace h = read_error given sorted e named same workspace h
 
 pub linking_error : (files : List FileOf) (e : SchemaFault) → HasNoFault (ReadFaults files) → IsLinkError files e → IsFilesError (FileFaults files) e
 linking_error files (Schema fault) read h = link_first files (fault_at fault) read h
@@ -155,3 +161,11 @@ files_error given files NoMemory r h = tt
 
 pub no_fault : (given files : List FileOf) → AreReadOf given files → HasNoFault (FileFaults files) → HasNoFault (WorkspaceFaults given)
 no_fault given files r clean y h = clean y (of_one given files y r.named r.same r.workspace h)
+
+-- ---- one answer
+
+pub one_open_fault : OneOpenFault
+one_open_fault given f g a b = least_is_one (WorkspaceFaults given) (fault_at f) (fault_at g) a b
+
+pub no_open_fault : NoOpenFault
+no_open_fault given f clean least = clean (fault_at f) least.is_fault

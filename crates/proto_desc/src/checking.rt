@@ -1,4 +1,4 @@
-//! Checking linked files, and their descriptors.
+//! Checking linked files, with their descriptors or without.
 
 ghost use Rattle.std.specs.Prelude.{◌<◌, length, map, IfOk, IfErr};
 ghost use Rattle.std.specs.List.{Contains};
@@ -119,4 +119,31 @@ pub fn check(alloc: Global, files: &Files, link: &Link) -> Result<Descriptors, S
 {
     let table = enum_table(alloc, files)?;
     check_with(alloc, files, link, &table)
+}
+
+/// The same, and no descriptors.
+fn pass_checks_with(
+    alloc: Global,
+    files: &Files,
+    link: &Link,
+    table: &[IndexMap<u32, EnumRow>],
+) -> Result<(), SchemaFault>
+    requires link { IsLinkOf files.now link.now }
+    requires table { IsEnumTable files.now table.now }
+    ensures clean { IfOk result (λ _. HasNoFault (CheckFaults files.now)) }
+    ensures fault { IfErr result (IsCheckError files.now) }
+{
+    let scenes = scenes(alloc, files, link, table)?;
+    check_files(alloc, files, &scenes)
+}
+
+/// Whether the checks of linked files find no fault; else the least fault by path, offset and
+/// number, or want of memory: what `check` answers, of which no descriptor is made here.
+pub fn pass_checks(alloc: Global, files: &Files, link: &Link) -> Result<(), SchemaFault>
+    requires { IsLinkOf files.now link.now }
+    ensures clean { IfOk result (λ _. HasNoFault (CheckFaults files.now)) }
+    ensures fault { IfErr result (IsCheckError files.now) }
+{
+    let table = enum_table(alloc, files)?;
+    pass_checks_with(alloc, files, link, &table)
 }

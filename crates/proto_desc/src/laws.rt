@@ -1,3 +1,12 @@
-//! Laws of the definitions, for the layers above.
+//! Laws of the definitions, for the layers above. None of these does anything.
+
+ghost use Rattle.proto_desc.specs.Opening.{NoOpenFault, OneOpenFault};
 
 pub use proto_described::laws::caps_keep_the_descriptor;
+
+/// `Schema::open` and `CheckedSchema::open` answer the same fault of the same files: there is one,
+/// and none of files that compile.
+pub fn one_fault_is_answered()
+    ensures one { OneOpenFault }
+    ensures none { NoOpenFault }
+{}

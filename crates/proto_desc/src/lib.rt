@@ -1,5 +1,5 @@
 //! The checks of linked files, the descriptors of those that pass them, with their JSON text, and
-//! schemas that compile: files from their bytes to their descriptors.
+//! schemas that compile: files from their bytes to their descriptors, or to their link alone.
 #![tactic(auto)]
 
 mod checking;
@@ -11,7 +11,7 @@ mod json_form;
 pub mod laws;
 mod schema;
 
-pub use checking::check;
+pub use checking::{check, pass_checks};
 pub use described::file_descriptor;
 pub use json_form::to_json;
 pub use proto_descriptors::{
@@ -21,4 +21,4 @@ pub use proto_descriptors::{
     NumberRange, OneofDescriptor, OptimizeMode, ServiceDescriptor, ServiceOptions, Syntax,
 };
 pub use proto_faults::{NoMemory, SchemaFault as CheckFault, SchemaFault as OpenFault};
-pub use schema::Schema;
+pub use schema::{CheckedSchema, Schema};

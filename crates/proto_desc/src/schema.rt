@@ -1,4 +1,4 @@
-//! Files that compile, with their link and their descriptors.
+//! Files that compile, with their link, and with their descriptors or without.
 
 ghost use Rattle.std.specs.Prelude.{◌≡◌, List, IfOk, IfErr};
 ghost use Rattle.proto_desc.specs.Checked.{AreDescribed};
@@ -8,16 +8,39 @@ ghost use Rattle.proto_files.specs.GivenFiles.{files_of};
 ghost use Rattle.proto_files.specs.ReadFaults.{ReadFaults};
 ghost use Rattle.proto_scenes.specs.LinkOfFiles.{IsLinkOf};
 ghost use Rattle.proto_files.specs.FilesRead.{ReadOf, AreRead};
-ghost use Rattle.proto_desc.specs.Opening.{IsOpenError};
+ghost use Rattle.proto_desc.specs.Opening.{AreReadOf, IsOpenError};
 ghost use Rattle.proto_desc.specs.Whole.{FileFaults, WorkspaceFaults, IsSortedOf};
 
-use crate::checking::check;
+use crate::checking::{check, pass_checks};
 use proto_descriptors::Descriptors;
 use proto_faults::SchemaFault;
 use proto_files::{Files, Paths, are_read};
 use proto_scenes::Link;
 use std::alloc::Global;
 use std::marker::Model;
+
+/// Files that compile: at most 4,096 in the order of their paths, with their link. Their descriptors
+/// are not made.
+#[derive(Drop)]
+pub struct CheckedSchema {
+    files: Files,
+    link: Link,
+}
+
+impl Model for CheckedSchema {
+    ghost use Rattle.std.specs.Prelude.{List};
+    ghost use Rattle.proto_files.specs.GivenFiles.{FileOf};
+
+    ghost Value = { List FileOf };
+
+    ghost use Rattle.proto_files.specs.Faults.{HasNoFault};
+    ghost use Rattle.proto_scenes.specs.LinkOfFiles.{IsLinkOf};
+    ghost use Rattle.proto_desc.specs.Whole.{FileFaults};
+
+    ghost view = { λ s. s.files };
+
+    ghost invariant = { λ s. HasNoFault (FileFaults s.files) × IsLinkOf s.files s.link };
+}
 
 /// Schemas that compile: at most 4,096 files in the order of their paths, with their link and their
 /// descriptors.
@@ -64,6 +87,75 @@ fn linked(alloc: Global, files: &Files) -> Result<(Link, Descriptors), SchemaFau
     }
 }
 
+// The files given, in the order of their paths, where neither their paths nor their texts have a
+// fault.
+fn files_read(alloc: Global, given: Vec<(String, Vec<u8>)>) -> Result<Files, SchemaFault>
+    ensures read { IfOk result (AreReadOf (files_of given.items)) }
+    ensures fault { IfErr result (IsOpenError (files_of given.items)) }
+{
+    let paths = Paths::new(alloc, given)?;
+    Files::read(alloc, paths)
+}
+
+// The link of files that were read, where they have no fault.
+fn checked(alloc: Global, files: &Files) -> Result<Link, SchemaFault>
+    requires { HasNoFault (ReadFaults files.now) }
+    ensures clean { IfOk result (λ _. HasNoFault (FileFaults files.now)) }
+    ensures link { IfOk result (IsLinkOf files.now) }
+    ensures fault { IfErr result (IsFilesError (FileFaults files.now)) }
+{
+    let link = Link::new(alloc, files)?;
+    match pass_checks(alloc, files, &link) {
+        Ok(()) => Ok(link),
+        Err(fault) => {
+            link.release();
+            Err(fault)
+        }
+    }
+}
+
+impl CheckedSchema {
+    /// The files given, as paths and bytes, in the order of their paths, where they compile; else
+    /// their least fault by phase, path, offset and number, or want of memory: as `Schema::open`,
+    /// without the descriptors.
+    pub fn open(alloc: Global, files: Vec<(String, Vec<u8>)>) -> Result<CheckedSchema, SchemaFault>
+        ensures files { IfOk result (λ s. IsSortedOf (files_of files.items) s) }
+        ensures clean { IfOk result (λ _. HasNoFault (WorkspaceFaults (files_of files.items))) }
+        ensures fault { IfErr result (λ e. IsOpenError (files_of files.items) e) }
+    {
+        let files = files_read(alloc, files)?;
+        match checked(alloc, &files) {
+            Ok(link) => Ok(CheckedSchema { files, link }),
+            Err(fault) => {
+                files.release();
+                Err(fault)
+            }
+        }
+    }
+
+    /// The files, in the order of their paths.
+    pub fn files(&self) -> &Files
+        ensures files { result.now ≡ self.now }
+        ensures compiled { HasNoFault (FileFaults self.now) }
+    {
+        &self.files
+    }
+
+    /// The link of the files: their names, and what each reference means.
+    pub fn link(&self) -> &Link
+        ensures { IsLinkOf self.now result.now }
+    {
+        &self.link
+    }
+
+    /// Lets the files go. A crate that ends them by this call need not prove how each of their parts
+    /// is dropped.
+    pub fn release(self) {
+        self.files.release();
+        self.link.release();
+    }
+}
+
 impl Schema {
     /// The files given, as paths and bytes, in the order of their paths, where they compile; else
     /// their least fault by phase, path, offset and number, or want of memory.
@@ -72,8 +164,7 @@ impl Schema {
         ensures clean { IfOk result (λ _. HasNoFault (WorkspaceFaults (files_of files.items))) }
         ensures fault { IfErr result (λ e. IsOpenError (files_of files.items) e) }
     {
-        let paths = Paths::new(alloc, files)?;
-        let files = Files::read(alloc, paths)?;
+        let files = files_read(alloc, files)?;
         match linked(alloc, &files) {
             Ok((link, descriptors)) => Ok(Schema {
                 files,
