@@ -7,13 +7,14 @@ ghost use Rattle.std.specs.Prelude.{◌≡◌, ◌≤◌, IfOk};
 
 use errand::{Errand, Way, errand_for, way_for};
 use protoref_run::{
-    Command, FolderStore, RunFault, Status, Store, StoreFault, fault_line, run, write_text,
+    Command, FolderStore, Kept, RunFault, Status, Store, StoreFault, fault_line, run_keeping,
+    write_text,
 };
 use protoref_words::{WordsFault, read_words};
 use std::fs::File;
 use std::process::ExitCode;
 use std::rt::{Env, Files};
-use std::{env, io};
+use std::{env, io, mem};
 
 const BAD_COMMAND_LINE: &str = "protoref: bad command line";
 
@@ -69,10 +70,17 @@ fn run_over<R: Files<File = File> + Print + AllocGlobal>(
     root: &str,
 ) -> Result<u8, &'static str> {
     let mut store = FolderStore::new(rt, root);
-    match begin(&mut store, way_for(&command)) {
-        Ok(()) => code_of(run(rt.alloc(), command, &mut store, &mut io::writer(rt))),
+    let mut kept = Kept::new();
+    let code = match begin(&mut store, way_for(&command)) {
+        Ok(()) => {
+            let writer = &mut io::writer(rt);
+            code_of(run_keeping(rt.alloc(), command, &mut store, writer, &mut kept))
+        }
         Err(_) => Err(fault_line(&RunFault::Store)),
-    }
+    };
+    // The program ends here, so that what it held is not freed piece by piece.
+    mem::forget(kept);
+    code
 }
 
 // What comes before a command: one that writes takes the folder for itself, and removes what runs

@@ -1,10 +1,14 @@
 -- What is printed over files that compile, and over others.
 use Rattle.std.specs.Io.KnownBytes.{Keeps}
-use Rattle.std.proofs.Common.{◌≡◌, ℕ, List, ◌++◌, IfErr, IfOk, codes, refl, sym, ap, subst, ◌∙◌, Option, Some, None, Result, Ok, Err}
+use Rattle.std.proofs.Common.{◌≡◌, ℕ, List, ◌++◌, IfErr, IfOk, IsErrOf, codes, refl, sym, ap, subst, ◌∙◌, Option, Some, None, Result, Ok, Err}
 use Rattle.proto_descriptors.specs.Descriptors.{FileDesc}
 use Rattle.proto_json.specs.DescriptorText.{json_text}
+use Rattle.proto_faults.specs.declared.fault.SchemaFault.{SchemaFault}
+use Rattle.proto_faults.specs.declared.fault.SchemaFault.TheVariants.{Schema, NoMemory}
+use Rattle.proto_desc.specs.Opening.{IsOpenError}
+use Rattle.proto_records.specs.Known.{Over}
 use Rattle.proto_desc.proofs.Common.{AreDescribed, IsSortedOf, WorkspaceFaults}
-use Rattle.proto_files.proofs.Common.{FaultAt, HasNoFault, IsLeastFault, ReadOf, AreRead, FileOf}
+use Rattle.proto_files.proofs.Common.{FaultAt, HasNoFault, IsLeastFault, fault_at, ReadOf, AreRead, FileOf}
 use Rattle.proto_rules.specs.declared.rule_set.RuleSet.{RuleSet}
 use Rattle.proto_output.proofs.Common.{status_of, text_of, IsLineOver}
 use Rattle.proto_output.specs.declared.answer.Answer.{Answer}
@@ -15,27 +19,38 @@ use Rattle.proto_output.specs.declared.status.Status.TheVariants.{Done, Problem}
 use Rattle.proto_store.specs.Stores.{Held, HoldsFiles}
 use Rattle.protoref_run.specs.Commands.{Answers, Ran}
 use Rattle.protoref_run.specs.Linted.{IsLintOf, of_findings, of_fault}
-use Rattle.protoref_run.specs.Printed.{Opens, PrintsCompiled}
+use Rattle.protoref_run.specs.Printed.{Compiles, IsHeldFault, PrintsCompiled, TellsFault}
 use Rattle.protoref_run.specs.declared.command.Command.{Command}
 use Rattle.protoref_run.specs.declared.command.Command.TheVariants as asked
-use Rattle.protoref_run.specs.declared.opening.Opening.TheVariants.{Whole, Faulty}
 
--- ---- how schemas are opened
+abbrev failed : RunFault → Result Answer RunFault
+failed x = Err x
 
-pub opens_whole : (held : Option Held) (given w : List FileOf) → HoldsFiles held given → IsSortedOf given w → HasNoFault (WorkspaceFaults given) → Opens held (Whole w)
-opens_whole None given w h sorted clean = tt
-opens_whole (Some held) given w h sorted clean =
+-- ---- how files are opened
+
+pub compiles : (held : Option Held) (given w : List FileOf) → HoldsFiles held given → IsSortedOf given w → HasNoFault (WorkspaceFaults given) → Compiles held w
+compiles None given w h sorted clean = tt
+compiles (Some held) given w h sorted clean =
     (subst (λ (z : List FileOf). IsSortedOf z w) h sorted, subst (λ (z : List FileOf). HasNoFault (WorkspaceFaults z)) h clean)
 
-pub opens_faulty : (held : Option Held) (given : List FileOf) (fault : FaultAt) (a : Answer) → HoldsFiles held given → IsLeastFault (WorkspaceFaults given) fault
-    → IsLineOver held fault (text_of a) → status_of a ≡ Problem → Opens held (Faulty a)
-opens_faulty None given fault a h least line s = (s, tt)
-opens_faulty (Some held) given fault a h least line s = (s, (fault, subst (λ (z : List FileOf). IsLeastFault (WorkspaceFaults z) fault) h least, line))
+pub held_fault : (held : Option Held) (given : List FileOf) (e : SchemaFault) → HoldsFiles held given → IsOpenError given e → IsHeldFault held e
+held_fault None given (Schema fault) h least = tt
+held_fault (Some held) given (Schema fault) h least = subst (λ (z : List FileOf). IsLeastFault (WorkspaceFaults z) (fault_at fault)) h least
+held_fault held given NoMemory h least = tt
+
+told : (held : Option Held) (fault : FaultAt) (a : Answer) → Over held (λ now. IsLeastFault (WorkspaceFaults now.files) fault) → IsLineOver held fault (text_of a) → status_of a ≡ Problem → TellsFault held a
+told None fault a least line s = (s, tt)
+told (Some held) fault a least line s = (s, (fault, least, line))
+
+pub tells_fault : (held : Option Held) (fault : FaultAt) (r : Result Answer RunFault) → Over held (λ now. IsLeastFault (WorkspaceFaults now.files) fault)
+    → IfOk r (λ a. IsLineOver held fault (text_of a)) → IfOk r (λ a. status_of a ≡ Problem) → IfOk r (TellsFault held)
+tells_fault held fault (Ok a) least line s = told held fault a least line s
+tells_fault held fault (Err x) least line s = tt
 
 -- ---- compile
 
 -- over files that compile
-pub described_prints : (before after : Option Held) (w : List FileOf) (ds : List FileDesc) (r : Result Answer RunFault) → Opens before (Whole w) → after ≡ before
+pub described_prints : (before after : Option Held) (w : List FileOf) (ds : List FileDesc) (r : Result Answer RunFault) → Compiles before w → after ≡ before
     → AreDescribed w ds → (reads : List ReadOf) × AreRead w reads
     → IfOk r (λ a. text_of a ≡ json_text ds ++ codes "\n") → IfOk r (λ a. status_of a ≡ Done) → IfErr r (λ e. e ≡ ends.NoMemory) → Answers asked.Compile before after r
 described_prints None after w ds (Ok a) opens same d e t s m = (same, tt)
@@ -56,13 +71,22 @@ described_prints before after w ds (Err ends.NoMemory) opens same d e t s m = sa
 described_prints before after w ds (Err ends.Output) opens same d e t s m = cc
 
 -- over others
-pub faulty_compiles : (before after : Option Held) (a : Answer) → Opens before (Faulty a) → after ≡ before → Answers asked.Compile before after (Ok a)
-faulty_compiles None after a opens same = (same, tt)
-faulty_compiles (Some held) after a opens same = (same, subst (λ (z : Status). PrintsCompiled held.files (text_of a) z) (sym opens.0) opens.1)
+faulty_compiles : (before after : Option Held) (a : Answer) → TellsFault before a → after ≡ before → Answers asked.Compile before after (Ok a)
+faulty_compiles None after a tells same = (same, tt)
+faulty_compiles (Some held) after a tells same = (same, subst (λ (z : Status). PrintsCompiled held.files (text_of a) z) (sym tells.0) tells.1)
+
+pub ends_uncompiled : (before after : Option Held) (x : RunFault) → (x ≡ ends.Output → ⊥) → after ≡ before → Answers asked.Compile before after (Err x)
+ends_uncompiled before after ends.Store plain same = same
+ends_uncompiled before after ends.NoMemory plain same = same
+ends_uncompiled before after ends.Output plain same = plain refl
+
+pub uncompiled : (before after : Option Held) (r : Result Answer RunFault) → IfOk r (TellsFault before) → (IsErrOf r ends.Output → ⊥) → after ≡ before → Answers asked.Compile before after r
+uncompiled before after (Ok a) tells plain same = faulty_compiles before after a tells same
+uncompiled before after (Err x) tells plain same = ends_uncompiled before after x (λ is. plain (ap failed is)) same
 
 -- ---- lint
 
-pub linted_prints : (before after : Option Held) (w : List FileOf) (rules : RuleSet) (r : Result Answer RunFault) → Opens before (Whole w) → after ≡ before
+pub linted_prints : (before after : Option Held) (w : List FileOf) (rules : RuleSet) (r : Result Answer RunFault) → Compiles before w → after ≡ before
     → IfOk r (λ a. IsLintOf w rules.chosen (text_of a) (status_of a)) → IfErr r (λ e. e ≡ ends.NoMemory) → Answers (asked.Lint rules) before after r
 linted_prints None after w rules (Ok a) opens same l m = (same, tt)
 linted_prints (Some held) after w rules (Ok a) opens same l m = (same, of_findings w opens.0 opens.1 l)
@@ -70,21 +94,20 @@ linted_prints before after w rules (Err ends.Store) opens same l m = same
 linted_prints before after w rules (Err ends.NoMemory) opens same l m = same
 linted_prints before after w rules (Err ends.Output) opens same l m = cc
 
-pub faulty_lints : (before after : Option Held) (rules : RuleSet) (a : Answer) → Opens before (Faulty a) → after ≡ before → Answers (asked.Lint rules) before after (Ok a)
-faulty_lints None after rules a opens same = (same, tt)
-faulty_lints (Some held) after rules a opens same = let f = opens.1 in (same, of_fault f.0 f.1 f.2 opens.0)
-
--- ---- a call that ends before anything is answered
-
-pub ends_uncompiled : (before after : Option Held) (x : RunFault) → (x ≡ ends.Output → ⊥) → after ≡ before → Answers asked.Compile before after (Err x)
-ends_uncompiled before after ends.Store plain same = same
-ends_uncompiled before after ends.NoMemory plain same = same
-ends_uncompiled before after ends.Output plain same = plain refl
+faulty_lints : (before after : Option Held) (rules : RuleSet) (a : Answer) → TellsFault before a → after ≡ before → Answers (asked.Lint rules) before after (Ok a)
+faulty_lints None after rules a tells same = (same, tt)
+faulty_lints (Some held) after rules a tells same = let f = tells.1 in (same, of_fault f.0 f.1 f.2 tells.0)
 
 pub ends_unlinted : (before after : Option Held) (rules : RuleSet) (x : RunFault) → (x ≡ ends.Output → ⊥) → after ≡ before → Answers (asked.Lint rules) before after (Err x)
 ends_unlinted before after rules ends.Store plain same = same
 ends_unlinted before after rules ends.NoMemory plain same = same
 ends_unlinted before after rules ends.Output plain same = plain refl
+
+pub unlinted : (before after : Option Held) (rules : RuleSet) (r : Result Answer RunFault) → IfOk r (TellsFault before) → (IsErrOf r ends.Output → ⊥) → after ≡ before → Answers (asked.Lint rules) before after r
+unlinted before after rules (Ok a) tells plain same = faulty_lints before after rules a tells same
+unlinted before after rules (Err x) tells plain same = ends_unlinted before after rules x (λ is. plain (ap failed is)) same
+
+-- ---- a call that ends before anything is answered
 
 -- nothing is written
 pub ran_early : (command : Command) (before after : Option Held) (old new : Option (List ℕ)) (x : RunFault) → Answers command before after (Err x) → Keeps old new → Ran command before after old new (Err x)

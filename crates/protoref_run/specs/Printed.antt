@@ -2,19 +2,20 @@
 use Rattle.std.specs.Prelude.{◌≡◌, List, ◌++◌, codes, Option}
 use Rattle.proto_desc.specs.Checked.{described}
 use Rattle.proto_faults.specs.Texts.{Text}
-use Rattle.proto_files.specs.Faults.{FaultAt, HasNoFault, IsLeastFault}
+use Rattle.proto_faults.specs.declared.fault.SchemaFault.{SchemaFault}
+use Rattle.proto_faults.specs.declared.fault.SchemaFault.TheVariants.{Schema, NoMemory}
+use Rattle.proto_files.specs.Faults.{FaultAt, HasNoFault, IsLeastFault, fault_at}
 use Rattle.proto_files.specs.FilesRead.{ReadOf, AreRead}
 use Rattle.proto_files.specs.GivenFiles.{FileOf}
 use Rattle.proto_records.specs.Known.{Over}
 use Rattle.proto_json.specs.DescriptorText.{json_text}
 use Rattle.proto_output.specs.Answers.{status_of, text_of}
 use Rattle.proto_output.specs.FaultLines.{IsLine}
+use Rattle.proto_output.specs.declared.answer.Answer.{Answer}
 use Rattle.proto_output.specs.declared.status.Status.{Status}
 use Rattle.proto_output.specs.declared.status.Status.TheVariants.{Done, Problem}
 use Rattle.proto_desc.specs.Whole.{IsSortedOf, WorkspaceFaults}
 use Rattle.proto_store.specs.Stores.{Held}
-use Rattle.protoref_run.specs.declared.opening.Opening.{Opening}
-use Rattle.protoref_run.specs.declared.opening.Opening.TheVariants.{Whole, Faulty}
 
 -- the descriptors of the files as JSON, on a line, in the order of the paths
 pub record IsCompiledText (files : List FileOf) (text : Text) : Type 0 where
@@ -35,10 +36,18 @@ abbrev pub PrintsCompiled : List FileOf → Text → Status → Type 0
 PrintsCompiled files text Done = IsCompiledText files text
 PrintsCompiled files text Problem = IsFaultText files text
 
--- the files of a store in the order of their paths, which
--- compile; or the answer is the line of their least fault
-abbrev pub Opens : Option Held → Opening → Type 0
-Opens before (Whole files) =
+-- these are the files of a store in the order of their paths, and they compile
+abbrev pub Compiles : Option Held → List FileOf → Type 0
+Compiles before files =
     Over before (λ held. IsSortedOf held.files files × HasNoFault (WorkspaceFaults held.files))
-Opens before (Faulty answer) =
+
+-- the error is want of memory, or the least fault of what a store holds
+abbrev pub IsHeldFault : Option Held → SchemaFault → Type 0
+IsHeldFault before (Schema fault) =
+    Over before (λ held. IsLeastFault (WorkspaceFaults held.files) (fault_at fault))
+IsHeldFault before NoMemory = Unit {0}
+
+-- the answer is the line of the least fault of what a store holds, and a problem
+abbrev pub TellsFault : Option Held → Answer → Type 0
+TellsFault before answer =
     (status_of answer ≡ Problem) × Over before (λ held. IsFaultText held.files (text_of answer))

@@ -6,7 +6,7 @@ ghost use Rattle.proto_descriptors.specs.Views.{files_desc};
 ghost use Rattle.proto_output.specs.Answers.{status_of, text_of};
 ghost use Rattle.protoref_run.specs.Linted.{IsLintOf};
 
-use proto_desc::{Descriptors, Schema, to_json};
+use proto_desc::{CheckedSchema, Descriptors, to_json};
 use proto_lint::{RuleSet, lint};
 use proto_names::are_read;
 use proto_output::{Answer, RunFault, Status, lines_of_findings};
@@ -26,7 +26,11 @@ pub(crate) fn described(alloc: Global, descriptors: &Descriptors) -> Result<Answ
 
 // The lines of what the rules find, in the order of
 // path, offset, rule and name, and whether there is one.
-pub(crate) fn linted(alloc: Global, schema: &Schema, rules: &RuleSet) -> Result<Answer, RunFault>
+pub(crate) fn linted(
+    alloc: Global,
+    schema: &CheckedSchema,
+    rules: &RuleSet,
+) -> Result<Answer, RunFault>
     ensures linted { IfOk result (λ answer. IsLintOf schema.now rules.now.chosen
         (text_of answer) (status_of answer)) }
     ensures err { IfErr result (λ e. e ≡ RunFault.NoMemory) }

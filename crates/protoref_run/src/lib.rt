@@ -5,6 +5,7 @@ mod answer;
 mod beginning;
 mod changing;
 mod command;
+mod kept;
 mod logging;
 mod migrating;
 mod opening;
@@ -13,9 +14,10 @@ mod running;
 mod telling;
 
 pub use command::Command;
+pub use kept::Kept;
 pub use proto_journal::{
     Edit, FolderStore, MemoryStore, ReadingFault, Store, StoreFault, all_files,
 };
 pub use proto_lint::{Rule, RuleSet};
 pub use proto_output::{RunFault, Status, fault_line, write_text};
-pub use running::run;
+pub use running::{run, run_keeping};

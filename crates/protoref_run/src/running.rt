@@ -7,10 +7,12 @@ ghost use Rattle.protoref_run.specs.Commands.{Answers, Ran};
 use crate::answer::{described, linted};
 use crate::changing::{edit_answer, undo_answer};
 use crate::command::Command;
+use crate::kept::Kept;
 use crate::logging::log_answer;
 use crate::migrating::migrate_answer;
-use crate::opening::{Opening, open};
+use crate::opening::{faulty, given_files};
 use crate::recovering::recover_answer;
+use proto_desc::{CheckedSchema, Schema};
 use proto_lint::RuleSet;
 use proto_output::{Answer, RunFault, Status, write_answer};
 use proto_store::Store;
@@ -34,19 +36,44 @@ pub fn run<S: Store, W: Write>(
         (S.holds store.new) (W.contents writer.old) (W.contents writer.new) result }
     ensures count { CountsStore (S.failure_count store.old) (S.failure_count store.new) result }
 {
-    let answer = answer_of(alloc, command, store)?;
+    let mut kept = Kept::new();
+    let ended = run_keeping(alloc, command, store, writer, &mut kept);
+    kept.release();
+    ended
+}
+
+/// Runs a command as `run` does, and leaves in `kept` what it still holds then, so that a program that
+/// ends need not free it piece by piece.
+pub fn run_keeping<S: Store, W: Write>(
+    alloc: Global,
+    command: Command,
+    store: &mut S,
+    writer: &mut W,
+    kept: &mut Kept,
+) -> Result<Status, RunFault>
+    requires { S.failure_count store.old < 2 ^ 64 - 1 }
+    ensures ran { Ran command (S.holds store.old)
+        (S.holds store.new) (W.contents writer.old) (W.contents writer.new) result }
+    ensures count { CountsStore (S.failure_count store.old) (S.failure_count store.new) result }
+{
+    let answer = answer_of(alloc, command, store, kept)?;
     let status = write_answer(writer, &answer)?;
     Ok(status)
 }
 
-fn answer_of<S: Store>(alloc: Global, command: Command, store: &mut S) -> Result<Answer, RunFault>
+fn answer_of<S: Store>(
+    alloc: Global,
+    command: Command,
+    store: &mut S,
+    kept: &mut Kept,
+) -> Result<Answer, RunFault>
     requires { S.failure_count store.old < 2 ^ 64 - 1 }
     ensures outcome { Answers command (S.holds store.old) (S.holds store.new) result }
     ensures count { CountsStore (S.failure_count store.old) (S.failure_count store.new) result }
 {
     match command {
-        Command::Compile => compile_answer(alloc, store),
-        Command::Lint(rules) => lint_answer(alloc, rules, store),
+        Command::Compile => compile_answer(alloc, store, kept),
+        Command::Lint(rules) => lint_answer(alloc, rules, store, kept),
         Command::Edit(edit) => edit_answer(alloc, edit, store),
         Command::Undo => undo_answer(alloc, store),
         Command::Log => log_answer(alloc, store),
@@ -55,34 +82,44 @@ fn answer_of<S: Store>(alloc: Global, command: Command, store: &mut S) -> Result
     }
 }
 
-fn compile_answer<S: Store>(alloc: Global, store: &mut S) -> Result<Answer, RunFault>
+fn compile_answer<S: Store>(
+    alloc: Global,
+    store: &mut S,
+    kept: &mut Kept,
+) -> Result<Answer, RunFault>
     requires { S.failure_count store.old < 2 ^ 64 - 1 }
     ensures outcome { Answers Command.Compile (S.holds store.old) (S.holds store.new) result }
     ensures count { CountsStore (S.failure_count store.old) (S.failure_count store.new) result }
 {
-    let opening = open(alloc, store)?;
-    match opening {
-        Opening::Whole(schema) => {
+    let files = given_files(alloc, store)?;
+    match Schema::open(alloc, files) {
+        Ok(schema) => {
             let answer = described(alloc, schema.descriptors());
-            schema.release();
+            kept.keep(schema);
             answer
         }
-        Opening::Faulty(answer) => Ok(answer),
+        Err(fault) => faulty(alloc, store, &fault),
     }
 }
 
-fn lint_answer<S: Store>(alloc: Global, rules: RuleSet, store: &mut S) -> Result<Answer, RunFault>
+// No descriptor is made for what lint finds.
+fn lint_answer<S: Store>(
+    alloc: Global,
+    rules: RuleSet,
+    store: &mut S,
+    kept: &mut Kept,
+) -> Result<Answer, RunFault>
     requires { S.failure_count store.old < 2 ^ 64 - 1 }
     ensures outcome { Answers (Command.Lint rules) (S.holds store.old) (S.holds store.new) result }
     ensures count { CountsStore (S.failure_count store.old) (S.failure_count store.new) result }
 {
-    let opening = open(alloc, store)?;
-    match opening {
-        Opening::Whole(schema) => {
+    let files = given_files(alloc, store)?;
+    match CheckedSchema::open(alloc, files) {
+        Ok(schema) => {
             let answer = linted(alloc, &schema, &rules);
-            schema.release();
+            kept.keep_checked(schema);
             answer
         }
-        Opening::Faulty(answer) => Ok(answer),
+        Err(fault) => faulty(alloc, store, &fault),
     }
 }

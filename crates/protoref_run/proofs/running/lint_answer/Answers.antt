@@ -1,27 +1,34 @@
-use Rattle.std.proofs.Common.{Result, Err, ap, subst, Option}
+use Rattle.std.proofs.Common.{IfOk, Err, ap, sym, subst, ◌∙◌, Option}
 use Rattle.std.proofs.lemmas.Result.{err_from_is_err_and}
+use Rattle.proto_files.proofs.Common.{files_of}
 use Rattle.proto_output.specs.declared.run_fault.RunFault.{RunFault}
 use Rattle.proto_store.specs.Stores.{Held}
-use Rattle.protoref_run.specs.Common.{Opens, Opening}
-use Rattle.protoref_run.proofs.Printing.{ends_unlinted, faulty_lints, linted_prints}
+use Rattle.protoref_run.specs.Common.{IsHeldFault, TellsFault}
+use Rattle.protoref_run.proofs.Printing.{compiles, ends_unlinted, held_fault, linted_prints, unlinted}
 use Rattle.protoref_run.proofs.running.lint_answer.Goals as goal
 
-abbrev ended : RunFault → Result Opening RunFault
-ended x = Err x
-
-pub returns-in_err-opening-clause-outcome : goal.returns-in_err-opening-clause-outcome
-returns-in_err-opening-clause-outcome g c =
+pub returns-in_err-files-clause-outcome : goal.returns-in_err-files-clause-outcome
+returns-in_err-files-clause-outcome g c =
     let p = err_from_is_err_and c.from_residual.result c.from_residual.ensures.1 in
     rw (p.1, p.2)
-    (ends_unlinted (g.S.Store.holds c.args.store.now) (g.S.Store.holds c.open.new.store) c.args.rules c.in_err-opening.field-0.0
-    (λ is. c.in_err-opening.ensures.unwritten (ap ended is)) c.open.ensures.same)
+    (ends_unlinted (g.S.Store.holds c.args.store.now) (g.S.Store.holds c.given_files.new.store) c.args.rules c.in_err-files.field-0.0
+    (λ is. c.in_err-files.ensures.unwritten (ap (λ (x : RunFault). Err x) is)) c.given_files.ensures.same)
 
-pub returns-in-Whole-clause-outcome : goal.returns-in-Whole-clause-outcome
-returns-in-Whole-clause-outcome g c =
+pub returns-in-Ok-clause-outcome : goal.returns-in-Ok-clause-outcome
+returns-in-Ok-clause-outcome g c =
     let held : Option Held = g.S.Store.holds c.args.store.now in
-    let after : Option Held = g.S.Store.holds c.open.new.store in
-    linted_prints held after c.in-Whole.schema c.args.rules c.linted-answer.result (subst (Opens held) c.in-Whole.is c.in_ok-opening.ensures.opens) c.open.ensures.same c.linted-answer.ensures.linted c.linted-answer.ensures.err
+    let after : Option Held = g.S.Store.holds c.given_files.new.store in
+    linted_prints held after c.in-Ok.schema c.args.rules c.linted-answer.result
+    (compiles held (files_of c.in_ok-files.files.items) c.in-Ok.schema c.in_ok-files.ensures.files c.in-Ok.ensures.files c.in-Ok.ensures.clean) c.given_files.ensures.same
+    c.linted-answer.ensures.linted c.linted-answer.ensures.err
 
-pub returns-in-Faulty-clause-outcome : goal.returns-in-Faulty-clause-outcome
-returns-in-Faulty-clause-outcome g c =
-    faulty_lints (g.S.Store.holds c.args.store.now) (g.S.Store.holds c.open.new.store) c.args.rules c.in-Faulty.answer (subst (Opens (g.S.Store.holds c.args.store.now)) c.in-Faulty.is c.in_ok-opening.ensures.opens) c.open.ensures.same
+pub faulty-requires-clause-least : goal.faulty-requires-clause-least
+faulty-requires-clause-least g c =
+    subst (λ (h : Option Held). IsHeldFault h c.in-Err.fault) (sym c.given_files.ensures.same)
+    (held_fault (g.S.Store.holds c.args.store.now) (files_of c.in_ok-files.files.items) c.in-Err.fault c.in_ok-files.ensures.files c.in-Err.ensures.fault)
+
+pub returns-in-Err-clause-outcome : goal.returns-in-Err-clause-outcome
+returns-in-Err-clause-outcome g c =
+    unlinted (g.S.Store.holds c.args.store.now) (g.S.Store.holds c.faulty.new.store) c.args.rules c.faulty.result
+    (subst (λ (h : Option Held). IfOk c.faulty.result (TellsFault h)) c.given_files.ensures.same c.faulty.ensures.told) c.faulty.ensures.unwritten
+    (c.faulty.ensures.same ∙ c.given_files.ensures.same)

@@ -5,7 +5,7 @@ use Rattle.proto_output.specs.declared.status.Status.{Status}
 use Rattle.proto_store.specs.Stores.{Held}
 use Rattle.protoref_run.specs.Commands.{Answered}
 use Rattle.protoref_run.proofs.Printing.{ran_early}
-use Rattle.protoref_run.proofs.running.run.Goals as goal
+use Rattle.protoref_run.proofs.running.run_keeping.Goals as goal
 
 pub returns-in_err-answer-clause-ran : goal.returns-in_err-answer-clause-ran
 returns-in_err-answer-clause-ran g c =

@@ -1,0 +1,53 @@
+//! What a command still holds when its answer is made.
+
+use proto_desc::{CheckedSchema, Schema};
+use std::mem;
+
+/// What a run still holds when it has ended. Who goes on lets it go by `release`; a program that ends
+/// can spare that.
+#[derive(Drop)]
+pub struct Kept {
+    described: Option<Schema>,
+    checked: Option<CheckedSchema>,
+}
+
+// Lets schemas with descriptors go, by the call that proves no drop.
+fn let_go(described: Option<Schema>) {
+    match described {
+        Some(schema) => schema.release(),
+        None => {}
+    }
+}
+
+fn let_checked_go(checked: Option<CheckedSchema>) {
+    match checked {
+        Some(schema) => schema.release(),
+        None => {}
+    }
+}
+
+impl Kept {
+    /// Nothing is held yet.
+    pub fn new() -> Kept {
+        Kept {
+            described: None,
+            checked: None,
+        }
+    }
+
+    /// Keeps schemas with their descriptors, in the place of any kept before.
+    pub(crate) fn keep(&mut self, schema: Schema) {
+        let_go(mem::replace(&mut self.described, Some(schema)));
+    }
+
+    /// Keeps schemas without descriptors, in the place of any kept before.
+    pub(crate) fn keep_checked(&mut self, schema: CheckedSchema) {
+        let_checked_go(mem::replace(&mut self.checked, Some(schema)));
+    }
+
+    /// Lets all of it go.
+    pub fn release(self) {
+        let_go(self.described);
+        let_checked_go(self.checked);
+    }
+}
