@@ -6,7 +6,7 @@ use Rattle.proto_meaning.specs.Faults.{Fault}
 use Rattle.proto_imports.proofs.Common.{StandsAt, LinkFaults, of_import, of_name, of_reference, import_found, name_found, reference_found}
 use Rattle.proto_desc.proofs.Common.{CheckFaults, of_flaw, FileFaults, of_read, of_link, of_check, WorkspaceFaults, of_path, of_files}
 use Rattle.proto_records.specs.Known.{Over}
-use Rattle.proto_store.proofs.Common.{Held, HoldsFiles, IsListed, bytes_at, equal_itself}
+use Rattle.proto_store.proofs.Common.{Held, IsListed, bytes_at, equal_itself}
 
 -- a file of the list stands at its path
 there : (files : List FileOf) (k : ℕ) (f : FileOf) → k < length files → get_or files k f ≡ f → IsSome (bytes_at f.path files)
@@ -59,11 +59,6 @@ fault_is_listed files x (of_files sorted y order fault) behind =
     let found = is_of_file sorted x fault in
     subst (λ p. IsSome (bytes_at p files)) (sym found.2)
     (listed files found.0 (Contains-permutation sorted files found.0 (IsPermutation-sym files sorted order.same) found.1))
-
--- the same of a store whose files they are
-pub fault_is_held : (held : Option Held) (files : List FileOf) (x : FaultAt) → HoldsFiles held files → WorkspaceFaults files x → 0 < x.offset → IsListed held x.path
-fault_is_held None files x h fault behind = tt
-fault_is_held (Some held) files x h fault behind = subst (λ l. IsSome (bytes_at x.path l)) h (fault_is_listed files x fault behind)
 
 -- the same of the least fault of what a store holds
 pub least_is_held : (held : Option Held) (x : FaultAt) → Over held (λ now. IsLeastFault (WorkspaceFaults now.files) x) → 0 < x.offset → IsListed held x.path

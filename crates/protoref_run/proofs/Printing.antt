@@ -4,7 +4,12 @@ use Rattle.std.proofs.Common.{◌≡◌, ℕ, List, ◌++◌, IfErr, IfOk, codes
 use Rattle.proto_descriptors.specs.Descriptors.{FileDesc}
 use Rattle.proto_json.specs.DescriptorText.{json_text}
 use Rattle.proto_desc.proofs.Common.{AreDescribed, IsSortedOf, WorkspaceFaults}
-use Rattle.proto_files.proofs.Common.{FaultAt, HasNoFault, IsLeastFault, ReadOf, AreRead, FileOf}
+use Rattle.proto_desc.specs.Opening.{IsOpenError}
+use Rattle.proto_faults.specs.declared.fault.SchemaFault.{SchemaFault}
+use Rattle.proto_faults.specs.declared.fault.SchemaFault.TheVariants as schemas
+use Rattle.proto_files.proofs.Common.{FaultAt, HasNoFault, IsLeastFault, ReadOf, AreRead, FileOf, fault_at}
+use Rattle.proto_journal.specs.Loads.{IsLoadFault, schemas_fault}
+use Rattle.proto_records.specs.Known.{Over}
 use Rattle.proto_rules.specs.declared.rule_set.RuleSet.{RuleSet}
 use Rattle.proto_output.proofs.Common.{status_of, text_of, IsLineOver}
 use Rattle.proto_output.specs.declared.answer.Answer.{Answer}
@@ -15,22 +20,28 @@ use Rattle.proto_output.specs.declared.status.Status.TheVariants.{Done, Problem}
 use Rattle.proto_store.specs.Stores.{Held, HoldsFiles}
 use Rattle.protoref_run.specs.Commands.{Answers, Ran}
 use Rattle.protoref_run.specs.Linted.{IsLintOf, of_findings, of_fault}
-use Rattle.protoref_run.specs.Printed.{Opens, PrintsCompiled}
+use Rattle.protoref_run.specs.Printed.{AreOpened, Opens, PrintsCompiled}
 use Rattle.protoref_run.specs.declared.command.Command.{Command}
 use Rattle.protoref_run.specs.declared.command.Command.TheVariants as asked
 use Rattle.protoref_run.specs.declared.opening.Opening.TheVariants.{Whole, Faulty}
 
 -- ---- how schemas are opened
 
-pub opens_whole : (held : Option Held) (given w : List FileOf) → HoldsFiles held given → IsSortedOf given w → HasNoFault (WorkspaceFaults given) → Opens held (Whole w)
-opens_whole None given w h sorted clean = tt
-opens_whole (Some held) given w h sorted clean =
+pub are_opened : (held : Option Held) (given w : List FileOf) → HoldsFiles held given → IsSortedOf given w → HasNoFault (WorkspaceFaults given) → AreOpened held w
+are_opened None given w h sorted clean = tt
+are_opened (Some held) given w h sorted clean =
     (subst (λ (z : List FileOf). IsSortedOf z w) h sorted, subst (λ (z : List FileOf). HasNoFault (WorkspaceFaults z)) h clean)
 
-pub opens_faulty : (held : Option Held) (given : List FileOf) (fault : FaultAt) (a : Answer) → HoldsFiles held given → IsLeastFault (WorkspaceFaults given) fault
+-- the fault is that of the files given
+pub opens_none : (held : Option Held) (given : List FileOf) (e : SchemaFault) → HoldsFiles held given → IsOpenError given e → IsLoadFault held (schemas_fault e)
+opens_none None given (schemas.Schema f) h least = tt
+opens_none (Some held) given (schemas.Schema f) h least = subst (λ (z : List FileOf). IsLeastFault (WorkspaceFaults z) (fault_at f)) h least
+opens_none held given schemas.NoMemory h least = tt
+
+pub opens_faulty : (held : Option Held) (fault : FaultAt) (a : Answer) → Over held (λ now. IsLeastFault (WorkspaceFaults now.files) fault)
     → IsLineOver held fault (text_of a) → status_of a ≡ Problem → Opens held (Faulty a)
-opens_faulty None given fault a h least line s = (s, tt)
-opens_faulty (Some held) given fault a h least line s = (s, (fault, subst (λ (z : List FileOf). IsLeastFault (WorkspaceFaults z) fault) h least, line))
+opens_faulty None fault a least line s = (s, tt)
+opens_faulty (Some held) fault a least line s = (s, (fault, least, line))
 
 -- ---- compile
 

@@ -35,10 +35,13 @@ abbrev pub PrintsCompiled : List FileOf → Text → Status → Type 0
 PrintsCompiled files text Done = IsCompiledText files text
 PrintsCompiled files text Problem = IsFaultText files text
 
--- the files of a store in the order of their paths, which
--- compile; or the answer is the line of their least fault
-abbrev pub Opens : Option Held → Opening → Type 0
-Opens before (Whole files) =
+-- the files of a store in the order of their paths, which compile
+abbrev pub AreOpened : Option Held → List FileOf → Type 0
+AreOpened before files =
     Over before (λ held. IsSortedOf held.files files × HasNoFault (WorkspaceFaults held.files))
+
+-- these files; or the answer is the line of their least fault
+abbrev pub Opens : Option Held → Opening → Type 0
+Opens before (Whole files) = AreOpened before files
 Opens before (Faulty answer) =
     (status_of answer ≡ Problem) × Over before (λ held. IsFaultText held.files (text_of answer))

@@ -1,15 +1,13 @@
 //! The schemas of a store.
 
-ghost use Rattle.std.specs.Prelude.{◌≡◌, ◌-◌, ◌^◌, ◌<◌, IfOk, IsErrOf};
-ghost use Rattle.proto_files.specs.GivenFiles.{files_of};
+ghost use Rattle.std.specs.Prelude.{◌≡◌, ◌-◌, ◌^◌, ◌<◌, IfErr, IfOk, IsErrOf};
+ghost use Rattle.proto_journal.specs.Loads.{CountsLoad, IsLoadFault};
 ghost use Rattle.proto_output.specs.Ends.{CountsStore};
-ghost use Rattle.proto_store.specs.Stores.{HoldsFiles};
-ghost use Rattle.protoref_run.specs.Printed.{Opens};
+ghost use Rattle.protoref_run.specs.Printed.{AreOpened, Opens};
 
 use proto_desc::Schema;
-use proto_faults::SchemaFault;
+use proto_journal::{LoadFault, Store, sound_files};
 use proto_output::{Answer, RunFault, reported};
-use proto_store::{ReadingFault, Store, all_files};
 use std::alloc::Global;
 
 // The schemas of a store, or the answer that tells of their least fault.
@@ -26,28 +24,28 @@ pub(crate) fn open<S: Store>(alloc: Global, store: &mut S) -> Result<Opening, Ru
     ensures same { S.holds store.new ≡ S.holds store.old }
     ensures count { CountsStore (S.failure_count store.old) (S.failure_count store.new) result }
 {
-    let files = given_files(alloc, store)?;
-    match Schema::open(alloc, files) {
+    match opened(alloc, store) {
         Ok(schema) => Ok(Opening::Whole(schema)),
-        Err(SchemaFault::Schema(fault)) => {
+        Err(LoadFault::Schema(fault)) => {
             let answer = reported(alloc, store, &fault)?;
             Ok(Opening::Faulty(answer))
         }
-        Err(SchemaFault::NoMemory) => Err(RunFault::NoMemory),
+        Err(LoadFault::Store) => Err(RunFault::Store),
+        Err(LoadFault::NoMemory) => Err(RunFault::NoMemory),
     }
 }
 
-// All files of a store, in the order of their paths.
-fn given_files<S: Store>(alloc: Global, store: &mut S) -> Result<Vec<(String, Vec<u8>)>, RunFault>
+// The schemas of a store. Where the paths alone have a fault, no file is read.
+fn opened<S: Store>(alloc: Global, store: &mut S) -> Result<Schema, LoadFault>
     requires { S.failure_count store.old < 2 ^ 64 - 1 }
-    ensures files { IfOk result (λ files. HoldsFiles (S.holds store.old) (files_of files.items)) }
-    ensures unwritten { IsErrOf result RunFault.Output → ⊥ }
+    ensures opens { IfOk result (AreOpened (S.holds store.old)) }
+    ensures fault { IfErr result (IsLoadFault (S.holds store.old)) }
     ensures same { S.holds store.new ≡ S.holds store.old }
-    ensures count { CountsStore (S.failure_count store.old) (S.failure_count store.new) result }
+    ensures count { CountsLoad (S.failure_count store.old) (S.failure_count store.new) result }
 {
-    match all_files(alloc, store) {
-        Ok(files) => Ok(files),
-        Err(ReadingFault::Store) => Err(RunFault::Store),
-        Err(ReadingFault::NoMemory) => Err(RunFault::NoMemory),
+    let files = sound_files(alloc, store)?;
+    match Schema::open(alloc, files) {
+        Ok(schema) => Ok(schema),
+        Err(fault) => Err(LoadFault::from(fault)),
     }
 }
