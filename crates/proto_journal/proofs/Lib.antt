@@ -10,3 +10,5 @@ mod TornUndos
 mod CutCalls
 mod OneOutcome
 mod Loaded
+mod PathsFirst
+mod Gathered

@@ -1,13 +1,11 @@
 -- Workspaces that are loaded of a store.
-use Rattle.std.proofs.Common.{arith, ◌≡◌, ℕ, zero, suc, ◌<◌, ◌≤◌, List, [], ◌∷◌, length, get_or, Option, Some, None, Ok, Err, sym, ◌∙◌, subst, nat_cmp}
+use Rattle.std.proofs.Common.{arith, ◌≡◌, ℕ, zero, suc, ◌<◌, ◌≤◌, List, [], ◌∷◌, length, get_or, Option, Some, None, Ok, sym, ◌∙◌, subst, nat_cmp}
 use Rattle.proto_faults.proofs.Common.{AllByRecursion, IsStrictlySortedBy, slice_cmp, Less, All-permutation, IsPermutation-sym, length_permutation}
-use Rattle.proto_faults.specs.declared.fault.Fault.{Fault}
-use Rattle.proto_files.proofs.Common.{IsLeastFault, fault_at, AreWorkspaceFiles, FileOf, paths_of, IsBefore, IsWorkspacePath}
-use Rattle.proto_desc.specs.Whole.{IsSortedOf, WorkspaceFaults}
+use Rattle.proto_files.proofs.Common.{AreWorkspaceFiles, FileOf, paths_of, IsBefore, IsWorkspacePath}
+use Rattle.proto_desc.specs.Whole.{IsSortedOf}
 use Rattle.proto_edit.specs.Compiled.{AreCompiled}
 use Rattle.proto_edit.proofs.GivenAgain.{sorted_again}
 use Rattle.proto_store.specs.Stores.{AreInPathOrder, Held, HoldsFiles}
-use Rattle.proto_journal.specs.declared.loading.LoadFault.TheVariants as load
 use Rattle.proto_records.specs.Known.{Over}
 use Rattle.proto_journal.specs.Loads.{LoadOutcome}
 
@@ -39,7 +37,3 @@ pub loaded : (h : Option Held) (given files : List FileOf) → HoldsFiles h give
 loaded None given files e order sorted compiled = (compiled, tt)
 loaded (Some there) given files e order sorted compiled =
     (compiled, sorted_again given files (given_files given files (subst AreInPathOrder (sym e) order) sorted compiled.workspace) sorted ∙ e)
-
-pub faulty : (h : Option Held) (given : List FileOf) (f : Fault) → HoldsFiles h given → IsLeastFault (WorkspaceFaults given) (fault_at f) → LoadOutcome h (Err (load.Schema f))
-faulty None given f e least = tt
-faulty (Some there) given f e least = subst (λ (fs : List FileOf). IsLeastFault (WorkspaceFaults fs) (fault_at f)) e least

@@ -1,14 +1,17 @@
 -- What is read of a store.
 use Rattle.std.specs.Prelude.{◌≡◌, ℕ, ◌+◌, List, codes, Option, Result, Ok, Err}
 use Rattle.proto_faults.specs.FaultTable.{number_of, name_of}
-use Rattle.proto_faults.specs.Texts.{Text}
-use Rattle.proto_files.specs.Faults.{IsLeastFault, fault_at}
-use Rattle.proto_files.specs.GivenFiles.{FileOf}
+use Rattle.proto_faults.specs.Texts.{Path, Text}
+use Rattle.proto_faults.specs.declared.fault.SchemaFault.{SchemaFault}
+use Rattle.proto_faults.specs.declared.fault.SchemaFault.TheVariants as schemas
+use Rattle.proto_files.specs.Faults.{HasNoFault, IsLeastFault, fault_at}
+use Rattle.proto_files.specs.GivenFiles.{FileOf, paths_of}
+use Rattle.proto_files.specs.PathFaults.{PathFaults}
 use Rattle.proto_desc.specs.Whole.{WorkspaceFaults}
 use Rattle.proto_edit.specs.Compiled.{AreCompiled}
 use Rattle.proto_records.specs.declared.fault.JournalFault.{JournalFault}
 use Rattle.proto_records.specs.declared.fault.JournalFault.TheVariants as journal
-use Rattle.proto_store.specs.Stores.{Held, HoldsFiles}
+use Rattle.proto_store.specs.Stores.{AreInPathOrder, Held, HoldsFiles}
 use Rattle.proto_store.specs.declared.files.ReadingFault.{ReadingFault}
 use Rattle.proto_store.specs.declared.files.ReadingFault.TheVariants as reading
 use Rattle.proto_journal.specs.declared.loading.LoadFault.{LoadFault}
@@ -16,18 +19,36 @@ use Rattle.proto_journal.specs.declared.loading.LoadFault.TheVariants as load
 use Rattle.proto_records.specs.ReadJournals.{HasOpenEntry, IsReady, IsUnreadable}
 use Rattle.proto_records.specs.Known.{Over}
 
+-- a fault of the schemas is the least of the store's files, and nothing is said of other faults
+abbrev pub IsLoadFault : Option Held → LoadFault → Type 0
+IsLoadFault held (load.Schema f) =
+    Over held (λ now. IsLeastFault (WorkspaceFaults now.files) (fault_at f))
+IsLoadFault held load.Store = Unit {0}
+IsLoadFault held load.NoMemory = Unit {0}
+
 -- a workspace of the store's files, which compile; or their least fault
 abbrev pub LoadOutcome : Option Held → Result (List FileOf) LoadFault → Type 0
 LoadOutcome held (Ok files) = AreCompiled files × HoldsFiles held files
-LoadOutcome held (Err (load.Schema f)) =
-    Over held (λ now. IsLeastFault (WorkspaceFaults now.files) (fault_at f))
-LoadOutcome held (Err load.Store) = Unit {0}
-LoadOutcome held (Err load.NoMemory) = Unit {0}
+LoadOutcome held (Err f) = IsLoadFault held f
+
+-- the paths are those of all files, in their order
+abbrev pub ArePathsOf : Option Held → List Path → Type 0
+ArePathsOf held paths =
+    Over held (λ now. AreInPathOrder now.files × (paths ≡ paths_of now.files))
+
+-- the paths have no fault, whatever the files hold
+abbrev pub AreSoundPaths : List Path → Type 0
+AreSoundPaths paths = HasNoFault (PathFaults 4096 paths)
 
 -- what is told where not all files are read
 abbrev pub load_fault : ReadingFault → LoadFault
 load_fault reading.Store = load.Store
 load_fault reading.NoMemory = load.NoMemory
+
+-- what is told where the schemas have a fault
+abbrev pub schemas_fault : SchemaFault → LoadFault
+schemas_fault (schemas.Schema f) = load.Schema f
+schemas_fault schemas.NoMemory = load.NoMemory
 
 -- why edits and undo may not begin: the journal is none, or its last entry is open
 abbrev pub IsUnready : Option Held → JournalFault → Type 0

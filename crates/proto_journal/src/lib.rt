@@ -3,6 +3,7 @@
 #![tactic(auto)]
 
 mod committing;
+mod gathering;
 pub mod laws;
 mod loading;
 mod reading;
@@ -10,6 +11,7 @@ mod undoing;
 mod writing;
 
 pub use committing::commit;
+pub use gathering::sound_files;
 pub use loading::{LoadFault, load};
 pub use proto_edit::{Change, Edit, Entry, NoMemory, Refusal, Workspace, to_json};
 pub use proto_records::{

@@ -3,9 +3,10 @@
 ghost use Rattle.std.specs.Prelude.{◌≡◌, ◌-◌, ◌^◌, ◌<◌};
 ghost use Rattle.proto_journal.specs.Loads.{CountsLoad, LoadOutcome, fault_name, fault_number};
 
+use crate::gathering::sound_files;
 use proto_edit::Workspace;
 use proto_faults::{Fault, SchemaFault};
-use proto_store::{ReadingFault, Store, all_files};
+use proto_store::{ReadingFault, Store};
 use std::alloc::Global;
 use thiserror::Error;
 
@@ -60,19 +61,31 @@ impl From<ReadingFault> for LoadFault {
     }
 }
 
-/// The workspace of the store's files, where they compile; else `Schema` with their least fault. It
-/// ends with `Store` at the first call of the store that fails, and with `NoMemory` where memory
-/// runs out. The store is as before.
+impl From<SchemaFault> for LoadFault {
+    ghost use Rattle.proto_journal.specs.Loads.{schemas_fault};
+
+    ghost from_gives = { λ fault e. e ≡ schemas_fault fault };
+
+    fn from(fault: SchemaFault) -> LoadFault {
+        match fault {
+            SchemaFault::Schema(fault) => LoadFault::Schema(fault),
+            SchemaFault::NoMemory => LoadFault::NoMemory,
+        }
+    }
+}
+
+/// The workspace of the store's files, where they compile; else `Schema` with their least fault.
+/// Where the paths alone have a fault, no file is read. It ends with `Store` at the first call of
+/// the store that fails, and with `NoMemory` where memory runs out. The store is as before.
 pub fn load<S: Store>(alloc: Global, store: &mut S) -> Result<Workspace, LoadFault>
     requires { S.failure_count store.old < 2 ^ 64 - 1 }
     ensures outcome { LoadOutcome (S.holds store.old) result }
     ensures same { S.holds store.new ≡ S.holds store.old }
     ensures count { CountsLoad (S.failure_count store.old) (S.failure_count store.new) result }
 {
-    let files = all_files(alloc, store)?;
+    let files = sound_files(alloc, store)?;
     match Workspace::open(alloc, files) {
         Ok(workspace) => Ok(workspace),
-        Err(SchemaFault::Schema(fault)) => Err(LoadFault::Schema(fault)),
-        Err(SchemaFault::NoMemory) => Err(LoadFault::NoMemory),
+        Err(fault) => Err(LoadFault::from(fault)),
     }
 }

@@ -6,6 +6,7 @@ use Rattle.proto_json.specs.DescriptorText.{json_text}
 use Rattle.proto_faults.specs.declared.fault.SchemaFault.{SchemaFault}
 use Rattle.proto_faults.specs.declared.fault.SchemaFault.TheVariants.{Schema, NoMemory}
 use Rattle.proto_desc.specs.Opening.{IsOpenError}
+use Rattle.proto_journal.specs.Loads.{IsLoadFault, schemas_fault}
 use Rattle.proto_records.specs.Known.{Over}
 use Rattle.proto_desc.proofs.Common.{AreDescribed, IsSortedOf, WorkspaceFaults}
 use Rattle.proto_files.proofs.Common.{FaultAt, HasNoFault, IsLeastFault, fault_at, ReadOf, AreRead, FileOf}
@@ -19,7 +20,7 @@ use Rattle.proto_output.specs.declared.status.Status.TheVariants.{Done, Problem}
 use Rattle.proto_store.specs.Stores.{Held, HoldsFiles}
 use Rattle.protoref_run.specs.Commands.{Answers, Ran}
 use Rattle.protoref_run.specs.Linted.{IsLintOf, of_findings, of_fault}
-use Rattle.protoref_run.specs.Printed.{Compiles, IsHeldFault, PrintsCompiled, TellsFault}
+use Rattle.protoref_run.specs.Printed.{Compiles, PrintsCompiled, TellsFault}
 use Rattle.protoref_run.specs.declared.command.Command.{Command}
 use Rattle.protoref_run.specs.declared.command.Command.TheVariants as asked
 
@@ -33,7 +34,8 @@ compiles None given w h sorted clean = tt
 compiles (Some held) given w h sorted clean =
     (subst (λ (z : List FileOf). IsSortedOf z w) h sorted, subst (λ (z : List FileOf). HasNoFault (WorkspaceFaults z)) h clean)
 
-pub held_fault : (held : Option Held) (given : List FileOf) (e : SchemaFault) → HoldsFiles held given → IsOpenError given e → IsHeldFault held e
+-- the fault is that of the files given
+pub held_fault : (held : Option Held) (given : List FileOf) (e : SchemaFault) → HoldsFiles held given → IsOpenError given e → IsLoadFault held (schemas_fault e)
 held_fault None given (Schema fault) h least = tt
 held_fault (Some held) given (Schema fault) h least = subst (λ (z : List FileOf). IsLeastFault (WorkspaceFaults z) (fault_at fault)) h least
 held_fault held given NoMemory h least = tt

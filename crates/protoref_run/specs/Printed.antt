@@ -2,9 +2,7 @@
 use Rattle.std.specs.Prelude.{◌≡◌, List, ◌++◌, codes, Option}
 use Rattle.proto_desc.specs.Checked.{described}
 use Rattle.proto_faults.specs.Texts.{Text}
-use Rattle.proto_faults.specs.declared.fault.SchemaFault.{SchemaFault}
-use Rattle.proto_faults.specs.declared.fault.SchemaFault.TheVariants.{Schema, NoMemory}
-use Rattle.proto_files.specs.Faults.{FaultAt, HasNoFault, IsLeastFault, fault_at}
+use Rattle.proto_files.specs.Faults.{FaultAt, HasNoFault, IsLeastFault}
 use Rattle.proto_files.specs.FilesRead.{ReadOf, AreRead}
 use Rattle.proto_files.specs.GivenFiles.{FileOf}
 use Rattle.proto_records.specs.Known.{Over}
@@ -40,12 +38,6 @@ PrintsCompiled files text Problem = IsFaultText files text
 abbrev pub Compiles : Option Held → List FileOf → Type 0
 Compiles before files =
     Over before (λ held. IsSortedOf held.files files × HasNoFault (WorkspaceFaults held.files))
-
--- the error is want of memory, or the least fault of what a store holds
-abbrev pub IsHeldFault : Option Held → SchemaFault → Type 0
-IsHeldFault before (Schema fault) =
-    Over before (λ held. IsLeastFault (WorkspaceFaults held.files) (fault_at fault))
-IsHeldFault before NoMemory = Unit {0}
 
 -- the answer is the line of the least fault of what a store holds, and a problem
 abbrev pub TellsFault : Option Held → Answer → Type 0

@@ -1,31 +1,47 @@
-//! The files of a store, and what is answered where they do not compile.
+//! The schemas of a store, and what is answered where they do not compile.
 
-ghost use Rattle.std.specs.Prelude.{◌≡◌, ◌-◌, ◌^◌, ◌<◌, IfOk, IsErrOf};
-ghost use Rattle.proto_files.specs.GivenFiles.{files_of};
+ghost use Rattle.std.specs.Prelude.{◌≡◌, ◌-◌, ◌^◌, ◌<◌, IfErr, IfOk, IsErrOf};
+ghost use Rattle.proto_desc.specs.Whole.{WorkspaceFaults};
+ghost use Rattle.proto_files.specs.Faults.{IsLeastFault, fault_at};
+ghost use Rattle.proto_journal.specs.Loads.{CountsLoad, IsLoadFault};
 ghost use Rattle.proto_output.specs.Ends.{CountsStore};
-ghost use Rattle.proto_store.specs.Stores.{HoldsFiles};
-ghost use Rattle.protoref_run.specs.Printed.{IsHeldFault, TellsFault};
+ghost use Rattle.proto_records.specs.Known.{Over};
+ghost use Rattle.protoref_run.specs.Printed.{Compiles, TellsFault};
 
-use proto_faults::SchemaFault;
+use proto_desc::{CheckedSchema, Schema};
+use proto_faults::Fault;
+use proto_journal::{LoadFault, sound_files};
 use proto_output::{Answer, RunFault, reported};
-use proto_store::{ReadingFault, Store, all_files};
+use proto_store::Store;
 use std::alloc::Global;
 
-// All files of a store, in the order of their paths.
-pub(crate) fn given_files<S: Store>(
-    alloc: Global,
-    store: &mut S,
-) -> Result<Vec<(String, Vec<u8>)>, RunFault>
+// The schemas of a store. Where the paths alone have a fault, no file is read.
+pub(crate) fn opened<S: Store>(alloc: Global, store: &mut S) -> Result<Schema, LoadFault>
     requires { S.failure_count store.old < 2 ^ 64 - 1 }
-    ensures files { IfOk result (λ files. HoldsFiles (S.holds store.old) (files_of files.items)) }
-    ensures unwritten { IsErrOf result RunFault.Output → ⊥ }
+    ensures compiles { IfOk result (Compiles (S.holds store.old)) }
+    ensures fault { IfErr result (IsLoadFault (S.holds store.old)) }
     ensures same { S.holds store.new ≡ S.holds store.old }
-    ensures count { CountsStore (S.failure_count store.old) (S.failure_count store.new) result }
+    ensures count { CountsLoad (S.failure_count store.old) (S.failure_count store.new) result }
 {
-    match all_files(alloc, store) {
-        Ok(files) => Ok(files),
-        Err(ReadingFault::Store) => Err(RunFault::Store),
-        Err(ReadingFault::NoMemory) => Err(RunFault::NoMemory),
+    let files = sound_files(alloc, store)?;
+    match Schema::open(alloc, files) {
+        Ok(schema) => Ok(schema),
+        Err(fault) => Err(LoadFault::from(fault)),
+    }
+}
+
+// The same without descriptors.
+pub(crate) fn checked<S: Store>(alloc: Global, store: &mut S) -> Result<CheckedSchema, LoadFault>
+    requires { S.failure_count store.old < 2 ^ 64 - 1 }
+    ensures compiles { IfOk result (Compiles (S.holds store.old)) }
+    ensures fault { IfErr result (IsLoadFault (S.holds store.old)) }
+    ensures same { S.holds store.new ≡ S.holds store.old }
+    ensures count { CountsLoad (S.failure_count store.old) (S.failure_count store.new) result }
+{
+    let files = sound_files(alloc, store)?;
+    match CheckedSchema::open(alloc, files) {
+        Ok(schema) => Ok(schema),
+        Err(fault) => Err(LoadFault::from(fault)),
     }
 }
 
@@ -33,17 +49,15 @@ pub(crate) fn given_files<S: Store>(
 pub(crate) fn faulty<S: Store>(
     alloc: Global,
     store: &mut S,
-    fault: &SchemaFault,
+    fault: &Fault,
 ) -> Result<Answer, RunFault>
     requires room { S.failure_count store.old < 2 ^ 64 - 1 }
-    requires least { IsHeldFault (S.holds store.old) fault.now }
+    requires least { Over (S.holds store.old)
+        (λ held. IsLeastFault (WorkspaceFaults held.files) (fault_at fault.now)) }
     ensures told { IfOk result (TellsFault (S.holds store.old)) }
     ensures unwritten { IsErrOf result RunFault.Output → ⊥ }
     ensures same { S.holds store.new ≡ S.holds store.old }
     ensures count { CountsStore (S.failure_count store.old) (S.failure_count store.new) result }
 {
-    match fault {
-        SchemaFault::Schema(fault) => reported(alloc, store, fault),
-        SchemaFault::NoMemory => Err(RunFault::NoMemory),
-    }
+    reported(alloc, store, fault)
 }

@@ -10,9 +10,9 @@ use crate::command::Command;
 use crate::kept::Kept;
 use crate::logging::log_answer;
 use crate::migrating::migrate_answer;
-use crate::opening::{faulty, given_files};
+use crate::opening::{checked, faulty, opened};
 use crate::recovering::recover_answer;
-use proto_desc::{CheckedSchema, Schema};
+use proto_journal::LoadFault;
 use proto_lint::RuleSet;
 use proto_output::{Answer, RunFault, Status, write_answer};
 use proto_store::Store;
@@ -91,14 +91,15 @@ fn compile_answer<S: Store>(
     ensures outcome { Answers Command.Compile (S.holds store.old) (S.holds store.new) result }
     ensures count { CountsStore (S.failure_count store.old) (S.failure_count store.new) result }
 {
-    let files = given_files(alloc, store)?;
-    match Schema::open(alloc, files) {
+    match opened(alloc, store) {
         Ok(schema) => {
             let answer = described(alloc, schema.descriptors());
             kept.keep(schema);
             answer
         }
-        Err(fault) => faulty(alloc, store, &fault),
+        Err(LoadFault::Schema(fault)) => faulty(alloc, store, &fault),
+        Err(LoadFault::Store) => Err(RunFault::Store),
+        Err(LoadFault::NoMemory) => Err(RunFault::NoMemory),
     }
 }
 
@@ -113,13 +114,14 @@ fn lint_answer<S: Store>(
     ensures outcome { Answers (Command.Lint rules) (S.holds store.old) (S.holds store.new) result }
     ensures count { CountsStore (S.failure_count store.old) (S.failure_count store.new) result }
 {
-    let files = given_files(alloc, store)?;
-    match CheckedSchema::open(alloc, files) {
+    match checked(alloc, store) {
         Ok(schema) => {
             let answer = linted(alloc, &schema, &rules);
             kept.keep_checked(schema);
             answer
         }
-        Err(fault) => faulty(alloc, store, &fault),
+        Err(LoadFault::Schema(fault)) => faulty(alloc, store, &fault),
+        Err(LoadFault::Store) => Err(RunFault::Store),
+        Err(LoadFault::NoMemory) => Err(RunFault::NoMemory),
     }
 }
