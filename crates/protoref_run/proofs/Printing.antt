@@ -4,11 +4,7 @@ use Rattle.std.proofs.Common.{◌≡◌, ℕ, List, ◌++◌, IfErr, IfOk, codes
 use Rattle.proto_descriptors.specs.Descriptors.{FileDesc}
 use Rattle.proto_json.specs.DescriptorText.{json_text}
 use Rattle.proto_desc.proofs.Common.{AreDescribed, IsSortedOf, WorkspaceFaults}
-use Rattle.proto_desc.specs.Opening.{IsOpenError}
-use Rattle.proto_faults.specs.declared.fault.SchemaFault.{SchemaFault}
-use Rattle.proto_faults.specs.declared.fault.SchemaFault.TheVariants as schemas
-use Rattle.proto_files.proofs.Common.{FaultAt, HasNoFault, IsLeastFault, ReadOf, AreRead, FileOf, fault_at}
-use Rattle.proto_journal.specs.Loads.{IsLoadFault, schemas_fault}
+use Rattle.proto_files.proofs.Common.{FaultAt, HasNoFault, IsLeastFault, ReadOf, AreRead, FileOf}
 use Rattle.proto_records.specs.Known.{Over}
 use Rattle.proto_rules.specs.declared.rule_set.RuleSet.{RuleSet}
 use Rattle.proto_output.proofs.Common.{status_of, text_of, IsLineOver}
@@ -31,12 +27,6 @@ pub are_opened : (held : Option Held) (given w : List FileOf) → HoldsFiles hel
 are_opened None given w h sorted clean = tt
 are_opened (Some held) given w h sorted clean =
     (subst (λ (z : List FileOf). IsSortedOf z w) h sorted, subst (λ (z : List FileOf). HasNoFault (WorkspaceFaults z)) h clean)
-
--- the fault is that of the files given
-pub opens_none : (held : Option Held) (given : List FileOf) (e : SchemaFault) → HoldsFiles held given → IsOpenError given e → IsLoadFault held (schemas_fault e)
-opens_none None given (schemas.Schema f) h least = tt
-opens_none (Some held) given (schemas.Schema f) h least = subst (λ (z : List FileOf). IsLeastFault (WorkspaceFaults z) (fault_at f)) h least
-opens_none held given schemas.NoMemory h least = tt
 
 pub opens_faulty : (held : Option Held) (fault : FaultAt) (a : Answer) → Over held (λ now. IsLeastFault (WorkspaceFaults now.files) fault)
     → IsLineOver held fault (text_of a) → status_of a ≡ Problem → Opens held (Faulty a)

@@ -1,5 +1,5 @@
 use Rattle.proto_files.proofs.Common.{files_of}
-use Rattle.protoref_run.proofs.Printing.{are_opened, opens_none}
+use Rattle.protoref_run.proofs.Printing.{are_opened}
 use Rattle.protoref_run.proofs.opening.opened.Goals as goal
 
 pub returns-in-Ok-clause-opens : goal.returns-in-Ok-clause-opens
