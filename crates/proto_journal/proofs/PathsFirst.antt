@@ -8,7 +8,6 @@ use Rattle.proto_imports.proofs.Common.{LinkFaults, of_import, of_name, of_refer
 use Rattle.proto_checks.proofs.Phases.{flaws_are_of_checks}
 use Rattle.proto_desc.specs.SceneOf.{scene_of}
 use Rattle.proto_desc.proofs.Common.{CheckFaults, of_flaw, FileFaults, of_read, of_link, of_check, WorkspaceFaults, of_path, of_files}
-use Rattle.proto_records.specs.Known.{Over}
 use Rattle.proto_store.specs.Stores.{Held}
 use Rattle.proto_journal.specs.Loads.{ArePathsOf, IsLoadFault, schemas_fault}
 

@@ -3,13 +3,9 @@ use Rattle.std.specs.Io.KnownBytes.{Keeps}
 use Rattle.std.proofs.Common.{◌≡◌, ℕ, List, ◌++◌, IfErr, IfOk, IsErrOf, codes, refl, sym, ap, subst, ◌∙◌, Option, Some, None, Result, Ok, Err}
 use Rattle.proto_descriptors.specs.Descriptors.{FileDesc}
 use Rattle.proto_json.specs.DescriptorText.{json_text}
-use Rattle.proto_faults.specs.declared.fault.SchemaFault.{SchemaFault}
-use Rattle.proto_faults.specs.declared.fault.SchemaFault.TheVariants.{Schema, NoMemory}
-use Rattle.proto_desc.specs.Opening.{IsOpenError}
-use Rattle.proto_journal.specs.Loads.{IsLoadFault, schemas_fault}
 use Rattle.proto_records.specs.Known.{Over}
 use Rattle.proto_desc.proofs.Common.{AreDescribed, IsSortedOf, WorkspaceFaults}
-use Rattle.proto_files.proofs.Common.{FaultAt, HasNoFault, IsLeastFault, fault_at, ReadOf, AreRead, FileOf}
+use Rattle.proto_files.proofs.Common.{FaultAt, HasNoFault, IsLeastFault, ReadOf, AreRead, FileOf}
 use Rattle.proto_rules.specs.declared.rule_set.RuleSet.{RuleSet}
 use Rattle.proto_output.proofs.Common.{status_of, text_of, IsLineOver}
 use Rattle.proto_output.specs.declared.answer.Answer.{Answer}
@@ -33,12 +29,6 @@ pub compiles : (held : Option Held) (given w : List FileOf) → HoldsFiles held 
 compiles None given w h sorted clean = tt
 compiles (Some held) given w h sorted clean =
     (subst (λ (z : List FileOf). IsSortedOf z w) h sorted, subst (λ (z : List FileOf). HasNoFault (WorkspaceFaults z)) h clean)
-
--- the fault is that of the files given
-pub held_fault : (held : Option Held) (given : List FileOf) (e : SchemaFault) → HoldsFiles held given → IsOpenError given e → IsLoadFault held (schemas_fault e)
-held_fault None given (Schema fault) h least = tt
-held_fault (Some held) given (Schema fault) h least = subst (λ (z : List FileOf). IsLeastFault (WorkspaceFaults z) (fault_at fault)) h least
-held_fault held given NoMemory h least = tt
 
 told : (held : Option Held) (fault : FaultAt) (a : Answer) → Over held (λ now. IsLeastFault (WorkspaceFaults now.files) fault) → IsLineOver held fault (text_of a) → status_of a ≡ Problem → TellsFault held a
 told None fault a least line s = (s, tt)

@@ -1,4 +1,4 @@
-use Rattle.std.proofs.Common.{List, subst, sym, map, string_bytes}
+use Rattle.std.proofs.Common.{subst}
 use Rattle.proto_journal.specs.Loads.{AreSoundPaths}
 use Rattle.proto_journal.proofs.gathering.ask.Goals as goal
 

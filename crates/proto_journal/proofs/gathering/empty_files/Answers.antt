@@ -1,5 +1,4 @@
 use Rattle.std.proofs.Common.{◌≡◌, List, sym, ◌∙◌, ap, subst, arith, rules, map, take, ◌+◌, ℕ, take_all, String, Global, string_bytes}
-use Rattle.proto_faults.proofs.Common.{Vec}
 use Rattle.proto_journal.proofs.Gathered.{names_of, names_taken}
 use Rattle.proto_journal.proofs.gathering.empty_files.Goals as goal
 

@@ -1,7 +1,7 @@
 use Rattle.std.proofs.Common.{◌≡◌, ℕ, List, ◌++◌, [], ◌∷◌, sym, ◌∙◌, ap, subst, rules, map, Option, String, Global, string_bytes}
-use Rattle.proto_faults.proofs.Common.{Vec, files_of}
+use Rattle.proto_faults.proofs.Common.{Vec}
 use Rattle.std.specs.Vec.Iter.{into_iter_items}
-use Rattle.proto_store.specs.Stores.{Held, HoldsBytes, HoldsFiles, IsListed}
+use Rattle.proto_store.specs.Stores.{Held, HoldsBytes, IsListed}
 use Rattle.proto_store.proofs.Loading.{Loads, empty_if_short, loads_all, loads_more, next_is_listed}
 use Rattle.proto_journal.proofs.Gathered.{names_all, names_more, names_of, none_read}
 use Rattle.proto_journal.proofs.gathering.read_files.Goals as goal

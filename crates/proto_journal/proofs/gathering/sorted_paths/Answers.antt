@@ -1,4 +1,4 @@
-use Rattle.std.proofs.Common.{Option, List, String, Global, map, subst, sym, string_bytes}
+use Rattle.std.proofs.Common.{Option, map, string_bytes}
 use Rattle.proto_store.specs.Stores.{Held, ListsPaths}
 use Rattle.proto_journal.proofs.Gathered.{in_order}
 use Rattle.proto_journal.proofs.gathering.sorted_paths.Goals as goal

@@ -1,5 +1,5 @@
 use Rattle.proto_files.proofs.Common.{files_of}
-use Rattle.protoref_run.proofs.Printing.{compiles, held_fault}
+use Rattle.protoref_run.proofs.Printing.{compiles}
 use Rattle.protoref_run.proofs.opening.opened.Goals as goal
 
 pub returns-in-Ok-clause-compiles : goal.returns-in-Ok-clause-compiles
