@@ -4,13 +4,16 @@ ghost use Rattle.std.specs.Prelude.{◌≡◌, ◌⊎◌, ◌+◌, ◌-◌, ◌^
 ghost use Rattle.std.specs.String.{string_bytes};
 ghost use Rattle.proto_store.specs.Stores.{Counts, HoldsBytes, HoldsJournal, ListsPaths, unknown, with_file, with_journal};
 
-use crate::looks::{Stamp, look, open_found, read_up_to, regular_file, stamp_of};
-use crate::replacing::{Place, SECOND, clear_leftover, put_file, refuse_read_only};
+use crate::looks::{Stamp, look, open_found, read_names, regular_file, stamp_of};
+use crate::replacing::{
+    OTHER_SECOND, Place, SECOND, clear_leftover, put_file, refuse_read_only, second_named,
+};
 use crate::store::{Store, StoreFault};
 use proto_faults::{MAX_JOURNAL_LEN, MAX_LEN};
 use std::alloc::Global;
 use std::collections::BTreeMap;
 use std::fs::{File, Metadata, TryLockError};
+use std::io::Read;
 use std::os::unix::fs::MetadataExt;
 use std::rt::Files;
 use std::{fs, io};
@@ -25,7 +28,8 @@ const NEW_JOURNAL_MODE: u32 = 0o644;
 /// `.protoref-journal` in it. Names that begin with a dot are passed over, and so
 /// is all that is neither a folder nor a regular file whose name ends in `.proto`.
 /// A root that is the empty word names no folder, so each call fails. No symbolic
-/// link below the root is followed. No contract can say what a folder holds.
+/// link below the root is followed; of files in one folder that are read one after the other, the
+/// folders above them are looked at once. No contract can say what a folder holds.
 ///
 /// Other programs may write the folder meanwhile. `lock` keeps other runs away that ask for it, and
 /// a replace fails where not the file stands that this store has last read or written there.
@@ -40,6 +44,10 @@ pub struct FolderStore<'a, R: Files + AllocGlobal> {
     seen: BTreeMap<String, Option<Stamp>>,
     // The bits that the modes of all schemas have that were listed.
     shared_mode: u32,
+    // The folder below the root of the file that was read last, which the walk goes through.
+    known: Option<String>,
+    // The name of the second files that it makes.
+    second: &'static str,
 }
 
 // What is left to walk, and what was found, as paths below the root.
@@ -64,15 +72,18 @@ impl<'a, R: Files + AllocGlobal> FolderStore<'a, R> {
             locked: None,
             seen: BTreeMap::new(rt.alloc()),
             shared_mode: 0o777,
+            known: None,
+            second: SECOND,
         }
     }
 
-    /// Removes the files `.protoref-new` that writes which were cut off have left, in the root and
-    /// in each folder below it that `list` goes through. A symbolic link of that name goes itself,
-    /// and a folder of that name stays. What the store holds stays, since `list` passes over that
-    /// name. Fails where the root is no folder, or where a folder cannot be read or such a file not
-    /// be removed; all others are removed then. It is for who holds the lock: another run may be
-    /// writing such a file, and fails where it is gone.
+    /// Removes the files `.protoref-new` and `.protoref-new2` that writes which were cut off have
+    /// left, in the root and in each folder below it that `list` goes through. A symbolic link of
+    /// such a name goes itself, and a folder stays. What the store holds stays, since `list` passes
+    /// over these names. Fails where the root is no folder, or where a folder cannot be read or such
+    /// a file not be removed; all others are removed then, and who goes on all the same writes by
+    /// the second of these names, beside what was left. It is for who holds the lock: another run
+    /// may be writing such a file, and fails where it is gone.
     pub fn clear_leftovers(&mut self) -> Result<(), StoreFault>
         requires { self.old.failures < 2 ^ 64 - 1 }
         ensures same { ⟦<FolderStore<'a, R> as Store>⟧.holds self.new
@@ -83,7 +94,10 @@ impl<'a, R: Files + AllocGlobal> FolderStore<'a, R> {
     {
         match self.remove_leftovers() {
             Ok(()) => Ok(()),
-            Err(_) => Err(self.fault()),
+            Err(_) => {
+                self.second = OTHER_SECOND;
+                Err(self.fault())
+            }
         }
     }
 
@@ -195,16 +209,16 @@ impl<'a, R: Files + AllocGlobal> FolderStore<'a, R> {
         path.push('/')?;
         let mut folder = self.rt.open_dir(path.as_str())?;
         let mut names = Vec::new(self.rt.alloc());
-        read_up_to(&mut folder, usize::MAX, &mut names)?;
+        read_names(&mut folder, &mut names)?;
         Ok(names)
     }
 
     // Notes a name of the folder, if it is that of a folder, of a schema
     // file or of what a write has left. A name that is gone is passed over.
     fn visit(&self, walk: &mut Walk, folder: &str, name: &[u8]) -> io::Result<()> {
-        if name == SECOND.as_bytes() {
+        if let Some(second) = second_named(name) {
             walk.leftovers
-                .push(joined(self.rt.alloc(), folder, SECOND)?)?;
+                .push(joined(self.rt.alloc(), folder, second)?)?;
         }
         if name.is_empty() || name.starts_with(b".") {
             return Ok(());
@@ -238,31 +252,60 @@ impl<'a, R: Files + AllocGlobal> FolderStore<'a, R> {
     }
 
     // The full path of a file, where each part before the last is a folder that the walk goes
-    // through. That the last is a regular file is for the caller to see.
-    fn walked_path(&self, path: &str) -> io::Result<String>
+    // through; those that are above a known folder too are not looked at. That the last is a
+    // regular file is for the caller to see.
+    fn walked_path(&self, path: &str, known: Option<&str>) -> io::Result<String>
         ensures { self.now.root.now ≡ [] → IsErr result }
     {
-        let mut full_path = self.root_path()?;
-        let mut is_root = true;
+        let (mut full_path, known) = match known {
+            Some(known) => (self.full_path("")?, known),
+            None => (self.root_path()?, ""),
+        };
+        let mut above = known.split('/');
+        let mut is_known = true;
         for part in path.split('/') {
-            if part.is_empty() || part.starts_with('.') {
+            if !is_walked_name(part) {
                 return Err(io::Error::from(io::ErrorKind::InvalidFilename));
             }
-            if !is_root && !fs::symlink_metadata(self.rt, full_path.as_str())?.is_dir() {
+            if !is_known && !fs::symlink_metadata(self.rt, full_path.as_str())?.is_dir() {
                 return Err(io::Error::from(io::ErrorKind::NotADirectory));
             }
-            is_root = false;
+            is_known = is_known && above.next() == Some(part);
             full_path.push('/')?;
             full_path.push_str(part)?;
         }
         Ok(full_path)
     }
 
-    // The bytes of a file, up to the first that is too many.
-    fn file_bytes(&self, path: &str) -> io::Result<(Vec<u8>, Stamp)>
-        ensures { self.now.root.now ≡ [] → IsErr result }
+    // The same of a file to read. Files are read in the order of their paths, so most folders above
+    // one are those of the one before, and are not looked at again.
+    fn path_to_read(&mut self, path: &str) -> io::Result<String>
+        ensures nowhere { self.old.root.now ≡ [] → IsErr result }
+        ensures root { self.new.root.now ≡ self.old.root.now }
+        ensures failures { self.new.failures ≡ self.old.failures }
     {
-        let full_path = self.walked_path(path)?;
+        let known = match &self.known {
+            Some(known) => Some(known.as_str()),
+            None => None,
+        };
+        let full_path = self.walked_path(path, known)?;
+        let folder = match path.rsplit_once('/') {
+            Some((folder, _)) => folder,
+            None => "",
+        };
+        if known != Some(folder) {
+            self.known = Some(String::from_str(self.rt.alloc(), folder)?);
+        }
+        Ok(full_path)
+    }
+
+    // The bytes of a file, up to the first that is too many.
+    fn file_bytes(&mut self, path: &str) -> io::Result<(Vec<u8>, Stamp)>
+        ensures nowhere { self.old.root.now ≡ [] → IsErr result }
+        ensures root { self.new.root.now ≡ self.old.root.now }
+        ensures failures { self.new.failures ≡ self.old.failures }
+    {
+        let full_path = self.path_to_read(path)?;
         match regular_file(self.rt, full_path.as_str())? {
             Some(found) => self.found_bytes(full_path.as_str(), &found, MAX_LEN + 1),
             None => Err(io::Error::from(io::ErrorKind::NotFound)),
@@ -276,11 +319,12 @@ impl<'a, R: Files + AllocGlobal> FolderStore<'a, R> {
         found: &Metadata,
         limit: usize,
     ) -> io::Result<(Vec<u8>, Stamp)> {
-        let (mut file, stamp) = open_found(self.rt, path, found)?;
-        // No more than a schema may have, whatever length is told.
-        let told = found.size().min(MAX_LEN as u64 + 1) as usize;
-        let mut bytes = Vec::with_capacity(self.rt.alloc(), told)?;
-        read_up_to(&mut file, limit, &mut bytes)?;
+        let (file, stamp) = open_found(self.rt, path, found)?;
+        // No more than a schema may have, whatever length is told; the byte more is that of the
+        // read that finds the end.
+        let told = found.size().min(MAX_LEN as u64) as usize;
+        let mut bytes = Vec::with_capacity(self.rt.alloc(), told + 1)?;
+        file.take(limit as u64).read_to_end(&mut bytes)?;
         Ok((bytes, stamp))
     }
 
@@ -288,7 +332,7 @@ impl<'a, R: Files + AllocGlobal> FolderStore<'a, R> {
     fn put_bytes(&self, path: &str, bytes: &[u8]) -> io::Result<Stamp>
         ensures { self.now.root.now ≡ [] → IsErr result }
     {
-        let full_path = self.walked_path(path)?;
+        let full_path = self.walked_path(path, None)?;
         let Some(found) = regular_file(self.rt, full_path.as_str())? else {
             return Err(io::Error::from(io::ErrorKind::NotFound));
         };
@@ -304,11 +348,13 @@ impl<'a, R: Files + AllocGlobal> FolderStore<'a, R> {
                 stands: self.wanted(path, Some(stamp_of(found))),
                 owner: Some((found.uid(), found.gid())),
                 mode: found.mode() & bits,
+                second: self.second,
             },
             None => Place {
                 stands: self.wanted(path, None),
                 owner: None,
                 mode: NEW_JOURNAL_MODE & bits,
+                second: self.second,
             },
         }
     }
@@ -383,6 +429,11 @@ impl<'a, R: Files<File = File> + AllocGlobal> FolderStore<'a, R> {
     }
 }
 
+// Whether the walk passes over no file or folder of this name.
+fn is_walked_name(name: &str) -> bool {
+    !name.is_empty() && !name.starts_with('.')
+}
+
 // A path below a folder, where either may be empty.
 fn joined(alloc: Global, folder: &str, path: &str) -> io::Result<String> {
     let mut joined = String::from_str(alloc, folder)?;
@@ -407,6 +458,7 @@ impl<R: Files + AllocGlobal> Store for FolderStore<'_, R> {
     {
         match self.walked() {
             Ok(walk) => {
+                self.known = None;
                 self.shared_mode &= walk.shared_mode;
                 Ok(walk.files)
             }

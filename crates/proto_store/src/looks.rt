@@ -66,19 +66,14 @@ pub(crate) fn open_found<R: Files>(
     Ok((file, stamp_of(&opened)))
 }
 
-// Reads what is left of a source, up to this many bytes. A read that is interrupted goes on.
-pub(crate) fn read_up_to<S: Read>(
-    source: &mut S,
-    limit: usize,
-    bytes: &mut Vec<u8>,
-) -> io::Result<()> {
-    // Most schemas are shorter, and each call fills it with zeros. A folder's names want 4,096.
-    let mut buffer = [0u8; 16384];
+// Reads all names of a folder, each ended by a zero byte. A read that is interrupted goes on.
+pub(crate) fn read_names<S: Read>(folder: &mut S, names: &mut Vec<u8>) -> io::Result<()> {
+    // A read of a folder wants 4,096 bytes, and each call fills them with zeros.
+    let mut buffer = [0u8; 4096];
     for _ in 0..u64::MAX {
-        let room = limit.saturating_sub(bytes.len()).min(buffer.len());
-        match source.read(&mut buffer[..room]) {
+        match folder.read(&mut buffer) {
             Ok(0) => break,
-            Ok(count) => bytes.extend_from_slice(&buffer[..count])?,
+            Ok(count) => names.extend_from_slice(&buffer[..count])?,
             Err(error) if error.kind() == io::ErrorKind::Interrupted => {}
             Err(error) => return Err(error),
         }

@@ -11,16 +11,32 @@ use std::{fs, io};
 // short, so it fits where the other name does.
 pub(crate) const SECOND: &str = ".protoref-new";
 
+// The same beside one that was left and cannot be removed.
+pub(crate) const OTHER_SECOND: &str = ".protoref-new2";
+
 // The mode of a file until it has that of the file that it replaces.
 const SECRET_MODE: u32 = 0o600;
 
 // What has to stand where a file is put, none where nothing is to stand
-// there; and what the new file gets: the owner and the group, and the mode.
+// there; what the new file gets: the owner and the group, and the mode; and
+// the name that it has until it is there.
 #[derive(Clone, Copy)]
 pub(crate) struct Place {
     pub(crate) stands: Option<Stamp>,
     pub(crate) owner: Option<(u32, u32)>,
     pub(crate) mode: u32,
+    pub(crate) second: &'static str,
+}
+
+// The name of a second file that these bytes are.
+pub(crate) fn second_named(name: &[u8]) -> Option<&'static str> {
+    if name == SECOND.as_bytes() {
+        Some(SECOND)
+    } else if name == OTHER_SECOND.as_bytes() {
+        Some(OTHER_SECOND)
+    } else {
+        None
+    }
 }
 
 // Fails where the file at a path, which a look has found, may not be written.
@@ -47,7 +63,7 @@ pub(crate) fn put_file<R: Files + AllocGlobal>(
     };
     let mut second = String::from_str(rt.alloc(), folder)?;
     second.push('/')?;
-    second.push_str(SECOND)?;
+    second.push_str(place.second)?;
     let mut file = new_second(rt, second.as_str(), place)?;
     match move_in(rt, &mut file, (second.as_str(), path), place, bytes) {
         Ok(stamp) => {
