@@ -1,9 +1,9 @@
 //! The lines of a journal's records.
 
-ghost use Rattle.std.specs.Prelude.{◌≡◌, ◌++◌, IfOk, OnOk, map, option_map, string_bytes};
+ghost use Rattle.std.specs.Prelude.{◌≡◌, ◌++◌, IfOk, OnOk, codes, map, option_map, string_bytes};
 ghost use Rattle.proto_entries.specs.EditsAsked.{asked};
 ghost use Rattle.proto_entries.specs.Entries.{change_of};
-ghost use Rattle.proto_output.specs.LogLines.{edit_words, joined_paths, log_lines, one_word as word_after, record_line, told_words, two_words as words_after};
+ghost use Rattle.proto_output.specs.LogLines.{edit_words, joined_paths, log_lines, one_word, record_line, told_words, two_words};
 
 use proto_entries::{Change, Edit};
 use proto_faults::NoMemory;
@@ -30,71 +30,88 @@ fn add_record(
     alloc: Global,
     text: &mut String,
     index: usize,
-    record: &Record,
+    noted: &Record,
 ) -> Result<(), NoMemory>
     ensures { OnOk result (string_bytes text.new
-        ≡ string_bytes text.old ++ record_line index record.now) }
+        ≡ string_bytes text.old ++ record_line index noted.now) }
 {
-    let state = state_text(record.state());
-    let paths = paths_text(alloc, record.entry().changes())?;
-    let paths = paths.as_str();
-    let words = told_text(alloc, record.edit())?;
-    let words = words.as_str();
-    let line = format!(in alloc; "{index} {state} {paths}{words}\n")?;
-    text.push_str(line.as_str())?;
+    let number = format!(in alloc; "{index}")?;
+    text.push_str(number.as_str())?;
+    add_word(text, state_text(noted.state()))?;
+    text.push(' ')?;
+    add_paths(text, noted.entry().changes())?;
+    add_told(text, noted.edit())?;
+    text.push('\n')?;
     Ok(())
 }
 
-fn paths_text(alloc: Global, changes: &[Change]) -> Result<String, NoMemory>
-    ensures { IfOk result (λ text. string_bytes text ≡ joined_paths (map change_of changes.now)) }
+// Adds a word, with a space before it.
+fn add_word(text: &mut String, word: &str) -> Result<(), NoMemory>
+    ensures { OnOk result (string_bytes text.new
+        ≡ string_bytes text.old ++ (codes " " ++ word.now)) }
+{
+    text.push(' ')?;
+    text.push_str(word)?;
+    Ok(())
+}
+
+// Adds the paths of changed files, joined by `,`.
+fn add_paths(text: &mut String, changes: &[Change]) -> Result<(), NoMemory>
+    ensures { OnOk result (string_bytes text.new
+        ≡ string_bytes text.old ++ joined_paths (map change_of changes.now)) }
 {
     let Some((first, rest)) = changes.split_first() else {
-        return Ok(String::new(alloc));
+        return Ok(());
     };
-    let mut text = String::from_str(alloc, first.path.as_str())?;
+    text.push_str(first.path.as_str())?;
     for change in rest {
         text.push(',')?;
         text.push_str(change.path.as_str())?;
     }
-    Ok(text)
+    Ok(())
 }
 
-fn one_word(alloc: Global, command: &str, first: &str) -> Result<String, NoMemory>
-    ensures { IfOk result (λ text. string_bytes text ≡ word_after command.now first.now) }
+fn add_one(text: &mut String, command: &str, first: &str) -> Result<(), NoMemory>
+    ensures { OnOk result (string_bytes text.new
+        ≡ string_bytes text.old ++ one_word command.now first.now) }
 {
-    Ok(format!(in alloc; " {command} {first}")?)
+    add_word(text, command)?;
+    add_word(text, first)
 }
 
-fn two_words(alloc: Global, command: &str, first: &str, second: &str) -> Result<String, NoMemory>
-    ensures { IfOk result (λ text. string_bytes text
-        ≡ words_after command.now first.now second.now) }
+fn add_two(text: &mut String, command: &str, first: &str, second: &str) -> Result<(), NoMemory>
+    ensures { OnOk result (string_bytes text.new
+        ≡ string_bytes text.old ++ two_words command.now first.now second.now) }
 {
-    Ok(format!(in alloc; " {command} {first} {second}")?)
+    add_word(text, command)?;
+    add_word(text, first)?;
+    add_word(text, second)
 }
 
-// The words of an edit, each with a space before it.
-fn edit_text(alloc: Global, edit: &Edit) -> Result<String, NoMemory>
-    ensures { IfOk result (λ text. string_bytes text ≡ edit_words (asked edit.now)) }
+// Adds the words of an edit, each with a space before it.
+fn add_edit(text: &mut String, edit: &Edit) -> Result<(), NoMemory>
+    ensures { OnOk result (string_bytes text.new
+        ≡ string_bytes text.old ++ edit_words (asked edit.now)) }
 {
     match edit {
-        Edit::Rename { name, to } => two_words(alloc, "rename", name.as_str(), to.as_str()),
-        Edit::DeleteField { name } => one_word(alloc, "delete-field", name.as_str()),
+        Edit::Rename { name, to } => add_two(text, "rename", name.as_str(), to.as_str()),
+        Edit::DeleteField { name } => add_one(text, "delete-field", name.as_str()),
         Edit::AddImport { file, path } => {
-            two_words(alloc, "add-import", file.as_str(), path.as_str())
+            add_two(text, "add-import", file.as_str(), path.as_str())
         }
         Edit::DropImport { file, path } => {
-            two_words(alloc, "drop-import", file.as_str(), path.as_str())
+            add_two(text, "drop-import", file.as_str(), path.as_str())
         }
     }
 }
 
 // The same, where an edit is told.
-fn told_text(alloc: Global, edit: Option<&Edit>) -> Result<String, NoMemory>
-    ensures { IfOk result (λ text. string_bytes text
-        ≡ told_words (option_map (λ e. asked e.now) edit.entry)) }
+fn add_told(text: &mut String, edit: Option<&Edit>) -> Result<(), NoMemory>
+    ensures { OnOk result (string_bytes text.new
+        ≡ string_bytes text.old ++ told_words (option_map (λ e. asked e.now) edit.entry)) }
 {
     match edit {
-        Some(edit) => edit_text(alloc, edit),
-        None => Ok(String::new(alloc)),
+        Some(edit) => add_edit(text, edit),
+        None => Ok(()),
     }
 }

@@ -1,5 +1,5 @@
 -- The compact text of a simple value (rising keys, natural numbers, UTF-8) reads back as the value, is UTF-8, and has no line feed.
-use Rattle.std.proofs.Common.{◌≡◌, ◌≢◌, ℕ, zero, suc, ◌+◌, ◌%◌, ◌^◌, ◌<◌, ◌≤◌, max, List, [], ◌∷◌, Bool, true, false, not, Some, option_map, option_and_then, inl, inr, refl, sym, ap, ap₂, ◌∙◌, subst, arith, Greater, nat_cmp, IsUtf8, append-nil, ◌&&◌, ◌||◌, ◌==◌, decimal, true≢false}
+use Rattle.std.proofs.Common.{◌≡◌, ◌≢◌, ℕ, zero, suc, ◌+◌, ◌%◌, ◌^◌, ◌<◌, ◌≤◌, max, List, [], ◌∷◌, Bool, true, false, not, Some, option_map, option_and_then, inl, inr, refl, sym, ap, ap₂, ◌∙◌, subst, arith, Greater, nat_cmp, IsUtf8, append-nil, ◌&&◌, ◌==◌, decimal, true≢false}
 use Rattle.proto_faults.proofs.Common.{⊤, list_all, slice_cmp, and_parts, cases_lt, cases_eq, IsUtf8-append, IsUtf8-nil, IsUtf8-from_ascii, IsAscii-decimal, decimal_by_steps, All-nil, All-cons, All-append}
 use Rattle.json.specs.Json as json
 use Rattle.json.specs.Print.{escape_byte, escape, quoted}
@@ -12,8 +12,8 @@ use Rattle.json.proofs.Printed.Decimals.{IsNumber-decimal}
 use Rattle.json.proofs.Printed.Strings.{escape_byte_plain}
 use Rattle.json.proofs.Printed.Utf8.{IsUtf8-quoted, IsUtf8-are_ascii, are_ascii}
 use Rattle.serde_json.specs.Data.{unsigned, negative, float, Data, null, boolean, number, string, array, object, Items, no_items, item, Members, no_members, member, put, depth, items_depth, members_depth}
-use Rattle.serde_json.specs.Read.{read, of_json, of_items, of_members}
-use Rattle.serde_json.specs.Written.{comma_if, items_text, members_text, outline, items_outline, members_outline, compact_text, has_float, items_have_float, members_have_float}
+use Rattle.serde_json.specs.Read.{of_json, of_items, of_members}
+use Rattle.serde_json.specs.Written.{comma_if, items_text, members_text, outline, items_outline, members_outline, compact_text}
 use Rattle.serde_json.proofs.Numbers.{number_of-decimal}
 use Rattle.serde_json.proofs.Texts.{print-outline}
 use Rattle.proto_records.specs.Journals.{HasNoFeed}
@@ -56,7 +56,7 @@ abbrev mutual
   HasSimple no_members = ⊤
   HasSimple (member k d ms) = IsSimple d × HasSimple ms × IsUtf8 k
 
--- ---- it reads back
+-- ---- it reads back, and its outline tells the value
 
 put_above : (k : List ℕ) (d : Data) (found : Members) → IsAbove k found → put k d found ≡ with_last found k d
 put_above k d no_members h = refl
@@ -71,7 +71,7 @@ joined-none no_members = refl
 joined-none (member l e es) = ap (member l e) (joined-none es)
 
 mutual
-  reads : (d : Data) → IsSimple d → of_json (outline d) ≡ Some d
+  pub reads : (d : Data) → IsSimple d → of_json (outline d) ≡ Some d
   reads null h = refl
   reads (boolean b) h = refl
   reads (number (unsigned n)) h = ap (option_map number) (number_of-decimal n h)
@@ -130,35 +130,11 @@ mutual
   deep_members no_members = refl
   deep_members (member k d ms) = ap₂ max (deep d) (deep_members ms)
 
-pub read-compact_text : (d : Data) → IsSimple d → depth d ≤ 127 → read (compact_text d) ≡ Some d
-read-compact_text d h shallow =
+pub document-compact_text : (d : Data) → IsSimple d → depth d ≤ 128 → json.document (compact_text d) ≡ Some (outline d)
+document-compact_text d h shallow =
     let same : tokens (compact_text d) ≡ json_tokens (outline d) =
     ap tokens (sym (print-outline d)) ∙ tokens-print (json_tokens (outline d)) (ArePrintable-json_tokens (outline d) (numbers d h)) in
-    ap (λ r. option_and_then of_json (option_and_then (λ p. json.if_last p.0 p.1) r)) (ap (json.value 127) (same ∙ sym (append-nil _)) ∙ value-json_tokens (outline d) 127 [] (subst (λ n. n ≤ 127) (sym (deep d)) shallow)) ∙ reads d h
-
--- ---- it has no float
-
-either : (a b : Bool) → a ≡ false → b ≡ false → (a || b) ≡ false
-either a b h k = rw (h, k)
-
-mutual
-  pub no_float : (d : Data) → IsSimple d → has_float d ≡ false
-  no_float null h = refl
-  no_float (boolean b) h = refl
-  no_float (number (unsigned n)) h = refl
-  no_float (number (negative z)) h = absurd h
-  no_float (number (float x)) h = absurd h
-  no_float (string s) h = refl
-  no_float (array ds) h = no_float_items ds h
-  no_float (object ms) h = no_float_members ms h.1
-
-  no_float_items : (ds : Items) → AreSimple ds → items_have_float ds ≡ false
-  no_float_items no_items h = refl
-  no_float_items (item d ds) h = either _ _ (no_float d h.0) (no_float_items ds h.1)
-
-  no_float_members : (ms : Members) → HasSimple ms → members_have_float ms ≡ false
-  no_float_members no_members h = refl
-  no_float_members (member k d ms) h = either _ _ (no_float d h.0) (no_float_members ms h.1)
+    ap (option_and_then (λ p. json.if_last p.0 p.1)) (ap (json.value 128) (same ∙ sym (append-nil _)) ∙ value-json_tokens (outline d) 128 [] (subst (λ n. n ≤ 128) (sym (deep d)) shallow))
 
 -- ---- it is UTF-8
 

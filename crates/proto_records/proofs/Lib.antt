@@ -2,6 +2,7 @@ pub mod TornStores
 mod Apart
 mod Comebacks
 mod CompactText
+mod DataTexts
 mod EditData
 mod JournalLists
 mod Lines

@@ -1,6 +1,9 @@
 -- Lines: where the first one ends, and where the last one begins.
-use Rattle.std.proofs.Common.{◌≡◌, ◌≢◌, ℕ, ◌+◌, ◌<◌, List, [], ◌∷◌, ◌++◌, length, take, drop, get_or, refl, sym, ap, ap₂, ◌∙◌, subst, arith, append_assoc, append-nil, length-append, take-append-drop}
-use Rattle.proto_faults.proofs.Common.{take_more, All-nil, All-head, All-tail}
+use Rattle.std.proofs.Common.{◌≡◌, ◌≢◌, ℕ, ◌+◌, ◌<◌, List, [], ◌∷◌, ◌++◌, length, take, drop, get_or, refl, sym, ap, ap₂, ◌∙◌, subst, arith, append_assoc, append-nil, length-append, take-append-drop, true, ◌≤◌, length-take-le}
+use Rattle.std.proofs.lemmas.List.{get_or-take}
+use Rattle.std.proofs.lemmas.List.Elements.{All-from_get_or}
+use Rattle.memchr.specs.Find.{Nowhere, Passes, is_byte}
+use Rattle.proto_faults.proofs.Common.{take_more, nat_tests, All-nil, All-head, All-tail}
 use Rattle.proto_records.specs.Journals.{HasNoFeed, IsFirstLine}
 
 abbrev pub is_other : ℕ → Type 0
@@ -33,7 +36,17 @@ line_to_feed bytes front rest e none = record {
   first = λ f more h is. let r = same_line front f rest more none h (sym e ∙ is) in (ap (λ l. l ++ 10 ∷ []) r.0, r.1);
 }
 
--- the same where the loop has found it
+-- before a place up to which a search has found none there is none
+pub none_found : (bytes : List ℕ) (k : ℕ) → k ≤ length bytes → Nowhere (Passes (is_byte 10) bytes) 0 k → HasNoFeed (take k bytes)
+none_found bytes k within none = All-from_get_or is_other (take k bytes) 0 (λ i lt e.
+    let below : i < k = omega (arith, lt, length-take-le k bytes within) in
+    none i (omega arith) below (ap (λ x. is_byte 10 x) (sym (get_or-take k bytes i 0 below) ∙ e)))
+
+-- a byte that passes the search is one
+pub is_feed : (b : ℕ) → is_byte 10 b ≡ true → b ≡ 10
+is_feed b h = grind (arith, nat_tests)
+
+-- the same where a search has found it
 pub line_at : (bytes : List ℕ) (i len : ℕ) (front back : List ℕ) → i < length bytes → get_or bytes i 0 ≡ 10 → HasNoFeed (take i bytes) → len ≡ i + 1 → front ≡ take len bytes → back ≡ drop len bytes → IsFirstLine bytes front back
 line_at bytes i len front back lt feed none l f b =
     let more : take len bytes ≡ take i bytes ++ 10 ∷ [] =

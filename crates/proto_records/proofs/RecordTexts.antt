@@ -1,13 +1,13 @@
 -- The text of a record reads back as its data, and is that of no other record, and of one version.
 use Rattle.std.proofs.Common.{◌≡◌, ℕ, suc, ◌+◌, ◌^◌, ◌<◌, ◌≤◌, List, [], ◌∷◌, ◌++◌, map, length, codes, Bool, true, Some, nat_lt, ◌&&◌, refl, sym, ap, ◌∙◌, subst, arith, IsUtf8, length-append, take, get_or, All, false, Option, None, ◌||◌, ◌==◌, ◌⊎◌, inl, inr, ap₂, if◌then◌else◌}
 use Rattle.proto_faults.proofs.Common.{AllPass, list_all, join_with_byte, and_parts, nat_tests, append_cancel_right, map-append, take_more, All-head, All-tail, All-map, All-push, IsUtf8-append, IsUtf8-nil, IsUtf8-string_bytes, text_limit, false≢true}
+use Rattle.json.specs.Json.{document}
 use Rattle.json.specs.Print.{escape_byte, quoted}
 use Rattle.json.proofs.Printed.Utf8.{IsUtf8-are_ascii, are_ascii}
 use Rattle.serde_json.specs.Data.{Data, number, unsigned, array, member, no_members, depth, items_depth}
-use Rattle.serde_json.specs.View.{view, items_of}
-use Rattle.serde_json.specs.declared.value.Value.{Value}
-use Rattle.serde_json.specs.Read.{read}
-use Rattle.serde_json.specs.Written.{compact_text, members_text}
+use Rattle.serde_json.specs.View.{items_of}
+use Rattle.serde_json.specs.Read.{of_json}
+use Rattle.serde_json.specs.Written.{compact_text, members_text, outline}
 use Rattle.proto_text.specs.declared.splice.Splice.{Splice}
 use Rattle.proto_entries.specs.declared.entry.Change.{Change}
 use Rattle.proto_text.proofs.Common.{Edit, edit_of, edits, Each, IsRun, is_run, run_is, extends_word, is_digit, is_identifier, is_letter, is_mark, is_space, class_of}
@@ -15,7 +15,7 @@ use Rattle.proto_files.specs.WorkspacePaths.{is_path_byte, is_path_part, IsWorks
 use Rattle.proto_entries.proofs.Common.{ChangeOf, change_of, IsChange, Asked, rename, delete_field, add_import, drop_import, IsDotted, IsNotable}
 use Rattle.proto_records.specs.Common.{State, Open, Done, splice_data, change_data, record_data, record_text, state_name, IsTextual, AreTextual, IsRecord, done, opened, HasNoFeed, Version, First, Second, RecordOf, IsNoted, asked_data, edit_data}
 use Rattle.proto_records.proofs.Lines.{same_before_last}
-use Rattle.proto_records.proofs.CompactText.{IsSimple, AreSimple, read-compact_text, utf8, no_feed}
+use Rattle.proto_records.proofs.CompactText.{IsSimple, AreSimple, document-compact_text, reads, utf8, no_feed}
 use Rattle.proto_text.specs.declared.class.Class.TheVariants.{Space, Letter, Digit, Quote, Mark, Slash, Other}
 
 -- ---- texts
@@ -32,15 +32,6 @@ textual_more cs i c lt is before here =
     let more : map change_of (take (i + 1) cs) ≡ map change_of (take i cs) ++ change_of c ∷ [] =
     ap (map change_of) (take_more cs i c lt ∙ ap (λ (x : Change). take i cs ++ x ∷ []) (sym is)) ∙ map-append change_of (take i cs) (c ∷ []) in
     subst AreTextual (sym more) (All-push (λ (x : ChangeOf). All IsTextual x.splices) (map change_of (take i cs)) (change_of c) before here)
-
--- and its value
-pub values_more : (vs ws : List Value) (v : Value) (cs : List Change) (i : ℕ) (c : Change) → ws ≡ vs ++ v ∷ [] → map view vs ≡ map change_data (map change_of (take i cs)) → view v ≡ change_data (change_of c)
-    → i < length cs → c ≡ get_or cs i c → map view ws ≡ map change_data (map change_of (take (i + 1) cs))
-values_more vs ws v cs i c e before here lt is =
-    let more : map change_of (take (i + 1) cs) ≡ map change_of (take i cs) ++ change_of c ∷ [] =
-    ap (map change_of) (take_more cs i c lt ∙ ap (λ (x : Change). take i cs ++ x ∷ []) (sym is)) ∙ map-append change_of (take i cs) (c ∷ []) in
-    ap (map view) e ∙ map-append view vs (v ∷ []) ∙ ap (λ (ds : List Data). ds ++ view v ∷ []) before ∙ ap (λ (d : Data). map change_data (map change_of (take i cs)) ++ d ∷ []) here
-    ∙ sym (map-append change_data (map change_of (take i cs)) (change_of c ∷ [])) ∙ ap (map change_data) (sym more)
 
 ascii_byte : (b : ℕ) → is_path_byte b ≡ true → nat_lt b 128 ≡ true
 ascii_byte b h = grind (arith, nat_tests)
@@ -202,13 +193,13 @@ unfolding edit_data
 edit_depth None = omega arith
 edit_depth (Some e) = asked_depth e
 
-record_depth : (v : Version) (r : RecordOf) → depth (record_data v r) ≤ 127
+record_depth : (v : Version) (r : RecordOf) → depth (record_data v r) ≤ 128
 unfolding record_data
 record_depth First r = omega (arith, changes_depth r.entry)
 record_depth Second r = omega (arith, changes_depth r.entry, edit_depth r.edit)
 
-pub reads_record : (v : Version) (r : RecordOf) → IsRecord v r → read (compact_text (record_data v r)) ≡ Some (record_data v r)
-reads_record v r h = read-compact_text (record_data v r) (record_simple v r h) (record_depth v r)
+pub reads_record : (v : Version) (r : RecordOf) → IsRecord v r → document (compact_text (record_data v r)) ≡ Some (outline (record_data v r))
+reads_record v r h = document-compact_text (record_data v r) (record_simple v r h) (record_depth v r)
 
 pub utf8_record : (v : Version) (r : RecordOf) → IsRecord v r → IsUtf8 (compact_text (record_data v r))
 utf8_record v r h = utf8 (record_data v r) (record_simple v r h)
@@ -353,7 +344,9 @@ pub text_of_one : (v : Version) (r s : RecordOf) → IsRecord v r → IsRecord v
 unfolding record_text
 text_of_one v r s h k e =
     let texts = append_cancel_right (compact_text (record_data v r)) (compact_text (record_data v s)) (10 ∷ []) e in
-    let read_both : Some (record_data v r) ≡ Some (record_data v s) = sym (reads_record v r h) ∙ ap read texts ∙ reads_record v s k in
+    let documents : Some (outline (record_data v r)) ≡ Some (outline (record_data v s)) = sym (reads_record v r h) ∙ ap document texts ∙ reads_record v s k in
+    let outlines : outline (record_data v r) ≡ outline (record_data v s) = cc in
+    let both_data : Some (record_data v r) ≡ Some (record_data v s) = sym (reads (record_data v r) (record_simple v r h)) ∙ ap of_json outlines ∙ reads (record_data v s) (record_simple v s k) in
     let data' : record_data v r ≡ record_data v s = cc in
     one_record v r s h k data'
 

@@ -13,6 +13,8 @@ use crate::fault::JournalFault;
 use crate::reading::read_line;
 use crate::record::{Record, State, Version};
 use crate::writing::{entry_text, line_of};
+use json::Scratch;
+use memchr::memchr;
 use proto_entries::{Edit, Entry};
 use proto_faults::{MAX_JOURNAL_LEN, NoMemory};
 use std::alloc::Global;
@@ -35,14 +37,10 @@ pub fn last_is_open(records: &[Record]) -> bool
 fn first_line(bytes: &[u8]) -> (&[u8], &[u8])
     ensures { IsFirstLine bytes.now result.0.now result.1.now }
 {
-    let mut len = 0;
-    for byte in bytes {
-        len += 1;
-        if *byte == b'\n' {
-            return bytes.split_at(len);
-        }
+    match memchr(b'\n', bytes) {
+        Some(place) => bytes.split_at(place + 1),
+        None => (bytes, &[]),
     }
-    (bytes, &[])
 }
 
 // The byte at a place, or 0 behind the end.
@@ -78,6 +76,7 @@ fn read_all(alloc: Global, version: Version, bytes: &[u8]) -> Result<Vec<Record>
     if bytes.len() > MAX_JOURNAL_LEN {
         return Err(JournalFault::BadJournal);
     }
+    let mut scratch = Scratch::new(alloc);
     let mut records = Vec::new(alloc);
     let mut left = bytes;
     while !left.is_empty() {
@@ -85,7 +84,7 @@ fn read_all(alloc: Global, version: Version, bytes: &[u8]) -> Result<Vec<Record>
             return Err(JournalFault::BadJournal);
         }
         let (line, rest) = first_line(left);
-        let noted = read_line(alloc, version, line)?;
+        let noted = read_line(alloc, version, line, &mut scratch)?;
         records.push(noted)?;
         left = rest;
     }

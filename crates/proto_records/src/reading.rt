@@ -1,12 +1,13 @@
 //! The record that a line is the text of.
 
-ghost use Rattle.std.specs.Prelude.{◌≡◌, ◌≢◌, ◌⊎◌, ◌↔◌, ◌^◌, ◌<◌, ℕ, List, All, map, IfOk, IfErr, OnOk, IsSomeAnd, IfSome, IsTrue, Option, None, option_map, option_and_then, Some, Err, codes};
+ghost use Rattle.std.specs.Prelude.{◌≡◌, ◌≢◌, ◌⊎◌, ◌↔◌, ◌^◌, ◌<◌, ℕ, List, All, map, IfOk, IfErr, OnOk, IsSomeAnd, IfSome, IsTrue, Option, None, option_map, option_and_then, Some, Err, codes, decimal};
 ghost use Rattle.std.specs.Str.{IsUtf8};
-ghost use Rattle.serde_json.specs.Data.{Data};
-ghost use Rattle.serde_json.specs.Read.{read};
-ghost use Rattle.serde_json.specs.View.{view, items_view, items_of};
-ghost use Rattle.serde_json.specs.Find.{get, as_number, as_u64, as_str, as_array};
-ghost use Rattle.serde_json.specs.Written.{compact_text};
+ghost use Rattle.std.specs.String.{string_bytes};
+ghost use Rattle.json.specs.Json.{Json, document};
+ghost use Rattle.json.specs.Value.{value_view, items_view};
+ghost use Rattle.json.specs.Find.{get, as_number, as_str, as_array};
+ghost use Rattle.serde_json.specs.View.{items_of};
+ghost use Rattle.serde_json.specs.Written.{compact_text, outline, items_outline};
 ghost use Rattle.proto_text.specs.Edits.{Edit as SpliceOf, AreShort};
 ghost use Rattle.proto_text.specs.Splicing.{edit_of, edits};
 ghost use Rattle.proto_entries.specs.EditsAsked.{Asked, asked, rename as rename_asked, delete_field as delete_asked, add_import as add_asked, drop_import as drop_asked};
@@ -21,64 +22,81 @@ ghost use Rattle.proto_records.specs.declared.fault.JournalFault.TheVariants as 
 use crate::fault::JournalFault;
 use crate::record::{Record, State, Version};
 use crate::writing::line_of;
+use json::{Error, Scratch, Value};
 use proto_entries::{Change, Edit, Entry};
 use proto_faults::NoMemory;
 use proto_text::{Splice, Splices};
-use serde_json::{Category, Value};
 use std::alloc::Global;
 
-fn number_at(value: &Value, key: &str) -> Option<u64>
-    ensures { result ≡ option_and_then as_u64
-        (option_and_then as_number (get key.now (view value.now))) }
-{
-    value.get(key).and_then(Value::as_u64)
-}
-
-fn small_number_at(value: &Value, key: &str) -> Option<u32>
+fn small_number_at(value: &Value<'_>, key: &str) -> Option<u32>
     ensures { (n : ℕ) → n < 2 ^ 32
-        → option_and_then as_u64 (option_and_then as_number (get key.now (view value.now))) ≡ Some n
+        → option_and_then as_number (get key.now (value_view value.now)) ≡ Some (decimal n)
         → result ≡ Some n }
 {
-    let n = number_at(value, key)?;
-    u32::try_from(n).ok()
+    let number = value.get(key)?.as_u64()?;
+    u32::try_from(number).ok()
 }
 
-fn text_at<'a>(value: &'a Value, key: &str) -> Option<&'a str>
+fn text_at<'a>(value: &Value<'a>, key: &str) -> Option<&'a str>
     ensures { option_map (λ s. s.now) result
-        ≡ option_and_then as_str (get key.now (view value.now)) }
+        ≡ option_and_then as_str (get key.now (value_view value.now)) }
 {
-    value.get(key).and_then(Value::as_str)
+    value.get(key)?.as_str()
 }
 
-fn list_at<'a>(value: &'a Value, key: &str) -> Option<&'a Vec<Value>>
+fn list_at<'v, 'a>(value: &'v Value<'a>, key: &str) -> Option<&'v Vec<Value<'a>>>
     ensures { option_map (λ v. items_view v.now.items) result
-        ≡ option_and_then as_array (get key.now (view value.now)) }
+        ≡ option_and_then as_array (get key.now (value_view value.now)) }
 {
-    value.get(key).and_then(Value::as_array)
+    match value.get(key)? {
+        Value::Array(list) => Some(list),
+        _ => None,
+    }
+}
+
+// Copies of the texts at two keys, if there are both.
+fn two_texts(
+    alloc: Global,
+    value: &Value<'_>,
+    first_key: &str,
+    second_key: &str,
+) -> Result<Option<(String, String)>, NoMemory>
+    ensures { IfOk result (λ found.
+        option_map {U = List ℕ × List ℕ} (λ x. (string_bytes x.0, string_bytes x.1)) found
+        ≡ option_and_then (λ a. option_map {U = List ℕ × List ℕ} (λ b. (a, b))
+        (option_and_then as_str (get second_key.now (value_view value.now))))
+        (option_and_then as_str (get first_key.now (value_view value.now)))) }
+{
+    let Some(first_text) = text_at(value, first_key) else {
+        return Ok(None);
+    };
+    let Some(second_text) = text_at(value, second_key) else {
+        return Ok(None);
+    };
+    let first_copy = String::from_str(alloc, first_text)?;
+    let second_copy = String::from_str(alloc, second_text)?;
+    Ok(Some((first_copy, second_copy)))
 }
 
 #[tactic(auto, unfolding(crate::specs::RecordText::splice_data))]
-fn read_splice(alloc: Global, value: &Value) -> Result<Option<Splice>, NoMemory>
-    ensures { IfOk result (λ found. (e : SpliceOf) → e.at < 2 ^ 32 → view value.now ≡ splice_data e
+fn read_splice(alloc: Global, value: &Value<'_>) -> Result<Option<Splice>, NoMemory>
+    ensures { IfOk result (λ found. (e : SpliceOf) → e.at < 2 ^ 32
+        → value_view value.now ≡ outline (splice_data e)
         → IsSomeAnd found (λ splice. edit_of splice ≡ e)) }
 {
     let Some(at) = small_number_at(value, "at") else {
         return Ok(None);
     };
-    let Some(old) = text_at(value, "old") else {
+    let Some(texts) = two_texts(alloc, value, "old", "new")? else {
         return Ok(None);
     };
-    let Some(new) = text_at(value, "new") else {
-        return Ok(None);
-    };
-    let old = String::from_str(alloc, old)?;
-    let new = String::from_str(alloc, new)?;
+    let (old, new) = texts;
     Ok(Some(Splice { at, old, new }))
 }
 
-fn read_splice_list(alloc: Global, values: &Vec<Value>) -> Result<Option<Vec<Splice>>, NoMemory>
+fn read_splice_list(alloc: Global, values: &Vec<Value<'_>>) -> Result<Option<Vec<Splice>>, NoMemory>
     ensures { IfOk result (λ found. (es : List SpliceOf) → All (λ e. e.at < 2 ^ 32) es
-        → items_view values.now.items ≡ items_of (map splice_data es)
+        → items_view values.now.items ≡ items_outline (items_of (map splice_data es))
         → IsSomeAnd found (λ list. edits list.items ≡ es)) }
 {
     let mut list = Vec::with_capacity(alloc, values.len())?;
@@ -91,9 +109,9 @@ fn read_splice_list(alloc: Global, values: &Vec<Value>) -> Result<Option<Vec<Spl
     Ok(Some(list))
 }
 
-fn read_splices(alloc: Global, values: &Vec<Value>) -> Result<Option<Splices>, NoMemory>
+fn read_splices(alloc: Global, values: &Vec<Value<'_>>) -> Result<Option<Splices>, NoMemory>
     ensures { IfOk result (λ found. (es : List SpliceOf) → AreShort 0 0 es
-        → items_view values.now.items ≡ items_of (map splice_data es)
+        → items_view values.now.items ≡ items_outline (items_of (map splice_data es))
         → IsSomeAnd found (λ splices. splices ≡ es)) }
 {
     let Some(list) = read_splice_list(alloc, values)? else {
@@ -106,8 +124,9 @@ fn read_splices(alloc: Global, values: &Vec<Value>) -> Result<Option<Splices>, N
 }
 
 #[tactic(auto, unfolding(crate::specs::RecordText::change_data))]
-fn read_change(alloc: Global, value: &Value) -> Result<Option<Change>, NoMemory>
-    ensures { IfOk result (λ found. (c : ChangeOf) → IsMeasured c → view value.now ≡ change_data c
+fn read_change(alloc: Global, value: &Value<'_>) -> Result<Option<Change>, NoMemory>
+    ensures { IfOk result (λ found. (c : ChangeOf) → IsMeasured c
+        → value_view value.now ≡ outline (change_data c)
         → IsSomeAnd found (λ change. change_of change ≡ c)) }
 {
     let Some(path) = text_at(value, "path") else {
@@ -134,9 +153,9 @@ fn read_change(alloc: Global, value: &Value) -> Result<Option<Change>, NoMemory>
     }))
 }
 
-fn read_changes(alloc: Global, values: &Vec<Value>) -> Result<Option<Vec<Change>>, NoMemory>
+fn read_changes(alloc: Global, values: &Vec<Value<'_>>) -> Result<Option<Vec<Change>>, NoMemory>
     ensures { IfOk result (λ found. (cs : List ChangeOf) → All IsMeasured cs
-        → items_view values.now.items ≡ items_of (map change_data cs)
+        → items_view values.now.items ≡ items_outline (items_of (map change_data cs))
         → IsSomeAnd found (λ changes. map change_of changes.items ≡ cs)) }
 {
     let mut changes = Vec::with_capacity(alloc, values.len())?;
@@ -149,9 +168,9 @@ fn read_changes(alloc: Global, values: &Vec<Value>) -> Result<Option<Vec<Change>
     Ok(Some(changes))
 }
 
-fn read_state(value: &Value) -> Option<State>
+fn read_state(value: &Value<'_>) -> Option<State>
     ensures { (s : StateOf)
-        → option_and_then as_str (get (codes "state") (view value.now)) ≡ Some (state_name s)
+        → option_and_then as_str (get (codes "state") (value_view value.now)) ≡ Some (state_name s)
         → result ≡ Some s }
 {
     let text = text_at(value, "state")?;
@@ -164,9 +183,9 @@ fn read_state(value: &Value) -> Option<State>
     None
 }
 
-fn read_files(alloc: Global, values: &Vec<Value>) -> Result<Option<Entry>, NoMemory>
+fn read_files(alloc: Global, values: &Vec<Value<'_>>) -> Result<Option<Entry>, NoMemory>
     ensures { IfOk result (λ found. (cs : List ChangeOf) → IsEntry cs
-        → items_view values.now.items ≡ items_of (map change_data cs)
+        → items_view values.now.items ≡ items_outline (items_of (map change_data cs))
         → IsSomeAnd found (λ entry. entry ≡ cs)) }
 {
     let Some(changes) = read_changes(alloc, values)? else {
@@ -176,11 +195,11 @@ fn read_files(alloc: Global, values: &Vec<Value>) -> Result<Option<Entry>, NoMem
 }
 
 // The state and the entry of a record.
-fn read_parts(alloc: Global, value: &Value) -> Result<Option<(State, Entry)>, NoMemory>
+fn read_parts(alloc: Global, value: &Value<'_>) -> Result<Option<(State, Entry)>, NoMemory>
     ensures { IfOk result (λ found. (s : StateOf) (cs : List ChangeOf) → IsEntry cs
-        → option_and_then as_str (get (codes "state") (view value.now)) ≡ Some (state_name s)
-        → option_and_then as_array (get (codes "files") (view value.now))
-        ≡ Some (items_of (map change_data cs))
+        → option_and_then as_str (get (codes "state") (value_view value.now)) ≡ Some (state_name s)
+        → option_and_then as_array (get (codes "files") (value_view value.now))
+        ≡ Some (items_outline (items_of (map change_data cs)))
         → IsSomeAnd found (λ x. (x.0 ≡ s) × (x.1 ≡ cs))) }
 {
     let Some(state) = read_state(value) else {
@@ -196,26 +215,22 @@ fn read_parts(alloc: Global, value: &Value) -> Result<Option<(State, Entry)>, No
 }
 
 #[tactic(auto, unfolding(crate::specs::RecordText::asked_data))]
-fn read_rename(alloc: Global, value: &Value) -> Result<Option<Edit>, NoMemory>
+fn read_rename(alloc: Global, value: &Value<'_>) -> Result<Option<Edit>, NoMemory>
     ensures { IfOk result (λ found. (name to : List ℕ)
-        → view value.now ≡ asked_data (rename_asked name to)
+        → value_view value.now ≡ outline (asked_data (rename_asked name to))
         → IsSomeAnd found (λ edit. asked edit ≡ rename_asked name to)) }
 {
-    let Some(name) = text_at(value, "name") else {
+    let Some(texts) = two_texts(alloc, value, "name", "to")? else {
         return Ok(None);
     };
-    let Some(to) = text_at(value, "to") else {
-        return Ok(None);
-    };
-    let name = String::from_str(alloc, name)?;
-    let to = String::from_str(alloc, to)?;
+    let (name, to) = texts;
     Ok(Some(Edit::Rename { name, to }))
 }
 
 #[tactic(auto, unfolding(crate::specs::RecordText::asked_data))]
-fn read_deletion(alloc: Global, value: &Value) -> Result<Option<Edit>, NoMemory>
+fn read_deletion(alloc: Global, value: &Value<'_>) -> Result<Option<Edit>, NoMemory>
     ensures { IfOk result (λ found. (name : List ℕ)
-        → view value.now ≡ asked_data (delete_asked name)
+        → value_view value.now ≡ outline (asked_data (delete_asked name))
         → IsSomeAnd found (λ edit. asked edit ≡ delete_asked name)) }
 {
     let Some(name) = text_at(value, "name") else {
@@ -226,42 +241,34 @@ fn read_deletion(alloc: Global, value: &Value) -> Result<Option<Edit>, NoMemory>
 }
 
 #[tactic(auto, unfolding(crate::specs::RecordText::asked_data))]
-fn read_addition(alloc: Global, value: &Value) -> Result<Option<Edit>, NoMemory>
+fn read_addition(alloc: Global, value: &Value<'_>) -> Result<Option<Edit>, NoMemory>
     ensures { IfOk result (λ found. (file path : List ℕ)
-        → view value.now ≡ asked_data (add_asked file path)
+        → value_view value.now ≡ outline (asked_data (add_asked file path))
         → IsSomeAnd found (λ edit. asked edit ≡ add_asked file path)) }
 {
-    let Some(file) = text_at(value, "file") else {
+    let Some(texts) = two_texts(alloc, value, "file", "path")? else {
         return Ok(None);
     };
-    let Some(path) = text_at(value, "path") else {
-        return Ok(None);
-    };
-    let file = String::from_str(alloc, file)?;
-    let path = String::from_str(alloc, path)?;
+    let (file, path) = texts;
     Ok(Some(Edit::AddImport { file, path }))
 }
 
 #[tactic(auto, unfolding(crate::specs::RecordText::asked_data))]
-fn read_drop(alloc: Global, value: &Value) -> Result<Option<Edit>, NoMemory>
+fn read_drop(alloc: Global, value: &Value<'_>) -> Result<Option<Edit>, NoMemory>
     ensures { IfOk result (λ found. (file path : List ℕ)
-        → view value.now ≡ asked_data (drop_asked file path)
+        → value_view value.now ≡ outline (asked_data (drop_asked file path))
         → IsSomeAnd found (λ edit. asked edit ≡ drop_asked file path)) }
 {
-    let Some(file) = text_at(value, "file") else {
+    let Some(texts) = two_texts(alloc, value, "file", "path")? else {
         return Ok(None);
     };
-    let Some(path) = text_at(value, "path") else {
-        return Ok(None);
-    };
-    let file = String::from_str(alloc, file)?;
-    let path = String::from_str(alloc, path)?;
+    let (file, path) = texts;
     Ok(Some(Edit::DropImport { file, path }))
 }
 
 // The edit of its kind.
-fn read_asked(alloc: Global, value: &Value) -> Result<Option<Edit>, NoMemory>
-    ensures { IfOk result (λ found. (e : Asked) → view value.now ≡ asked_data e
+fn read_asked(alloc: Global, value: &Value<'_>) -> Result<Option<Edit>, NoMemory>
+    ensures { IfOk result (λ found. (e : Asked) → value_view value.now ≡ outline (asked_data e)
         → IsSomeAnd found (λ edit. asked edit ≡ e)) }
 {
     let Some(kind) = text_at(value, "kind") else {
@@ -283,9 +290,9 @@ fn read_asked(alloc: Global, value: &Value) -> Result<Option<Edit>, NoMemory>
 }
 
 // The edit that a record tells, or that it tells none.
-fn read_edit(alloc: Global, value: &Value) -> Result<Option<Option<Edit>>, NoMemory>
+fn read_edit(alloc: Global, value: &Value<'_>) -> Result<Option<Option<Edit>>, NoMemory>
     ensures { IfOk result (λ found. (o : Option Asked)
-        → get (codes "edit") (view value.now) ≡ Some (edit_data o)
+        → get (codes "edit") (value_view value.now) ≡ Some (outline (edit_data o))
         → IsSomeAnd found (λ edit. option_map asked edit ≡ o)) }
 {
     let Some(told) = value.get("edit") else {
@@ -301,9 +308,10 @@ fn read_edit(alloc: Global, value: &Value) -> Result<Option<Option<Edit>>, NoMem
 }
 
 #[tactic(auto, unfolding(crate::specs::RecordText::record_data))]
-fn read_first(alloc: Global, value: &Value) -> Result<Option<Record>, NoMemory>
+fn read_first(alloc: Global, value: &Value<'_>) -> Result<Option<Record>, NoMemory>
     ensures shape { IfOk result (λ found. (r : RecordOf)
-        → IsEntry r.entry → IsTold first r.edit → view value.now ≡ record_data first r
+        → IsEntry r.entry → IsTold first r.edit
+        → value_view value.now ≡ outline (record_data first r)
         → IsSomeAnd found (λ s. s ≡ r)) }
     ensures told { IfOk result (λ found. IfSome found (λ s. IsTold first s.edit)) }
 {
@@ -315,9 +323,10 @@ fn read_first(alloc: Global, value: &Value) -> Result<Option<Record>, NoMemory>
 }
 
 #[tactic(auto, unfolding(crate::specs::RecordText::record_data))]
-fn read_second(alloc: Global, value: &Value) -> Result<Option<Record>, NoMemory>
+fn read_second(alloc: Global, value: &Value<'_>) -> Result<Option<Record>, NoMemory>
     ensures shape { IfOk result (λ found. (r : RecordOf)
-        → IsEntry r.entry → IsTold second r.edit → view value.now ≡ record_data second r
+        → IsEntry r.entry → IsTold second r.edit
+        → value_view value.now ≡ outline (record_data second r)
         → IsSomeAnd found (λ s. s ≡ r)) }
     ensures told { IfOk result (λ found. IfSome found (λ s. IsTold second s.edit)) }
 {
@@ -331,9 +340,14 @@ fn read_second(alloc: Global, value: &Value) -> Result<Option<Record>, NoMemory>
     Ok(Record::new(state, entry, edit))
 }
 
-fn read_record(alloc: Global, version: Version, value: &Value) -> Result<Option<Record>, NoMemory>
+fn read_record(
+    alloc: Global,
+    version: Version,
+    value: &Value<'_>,
+) -> Result<Option<Record>, NoMemory>
     ensures shape { IfOk result (λ found. (r : RecordOf)
-        → IsEntry r.entry → IsTold version r.edit → view value.now ≡ record_data version r
+        → IsEntry r.entry → IsTold version r.edit
+        → value_view value.now ≡ outline (record_data version r)
         → IsSomeAnd found (λ s. s ≡ r)) }
     ensures told { IfOk result (λ found. IfSome found (λ s. IsTold version s.edit)) }
 {
@@ -343,27 +357,34 @@ fn read_record(alloc: Global, version: Version, value: &Value) -> Result<Option<
     }
 }
 
-fn read_value(alloc: Global, line: &[u8]) -> Result<Option<Value>, NoMemory>
-    ensures { IfOk result (λ found. (d : Data) → IsUtf8 line.now → read line.now ≡ Some d
-        → IsSomeAnd found (λ value. view value ≡ d)) }
+fn read_value<'a>(
+    alloc: Global,
+    line: &'a [u8],
+    scratch: &'a mut Scratch,
+) -> Result<Option<Value<'a>>, NoMemory>
+    ensures { IfOk result (λ found. (j : Json) → IsUtf8 line.now → document line.now ≡ Some j
+        → IsSomeAnd found (λ value. value_view value ≡ j)) }
 {
-    match Value::from_slice(alloc, line) {
+    match Value::from_slice(alloc, line, scratch) {
         Ok(value) => Ok(Some(value)),
-        Err(error) => match error.classify() {
-            Category::Memory => Err(NoMemory),
-            _ => Ok(None),
-        },
+        Err(Error::OutOfMemory) => Err(NoMemory),
+        Err(_) => Ok(None),
     }
 }
 
 // The record of this shape, if there is one: what is read of a record's text is that record.
-fn read_shape(alloc: Global, version: Version, line: &[u8]) -> Result<Option<Record>, NoMemory>
+fn read_shape(
+    alloc: Global,
+    version: Version,
+    line: &[u8],
+    scratch: &mut Scratch,
+) -> Result<Option<Record>, NoMemory>
     ensures shape { IfOk result (λ found. (r : RecordOf)
         → IsRecord version r → line.now ≡ compact_text (record_data version r)
         → IsSomeAnd found (λ s. s ≡ r)) }
     ensures told { IfOk result (λ found. IfSome found (λ s. IsTold version s.edit)) }
 {
-    let Some(value) = read_value(alloc, line)? else {
+    let Some(value) = read_value(alloc, line, scratch)? else {
         return Ok(None);
     };
     read_record(alloc, version, &value)
@@ -385,11 +406,12 @@ fn is_text_of(
 
 /// The record that has these bytes for its text in this version: a line with its line feed. Each
 /// record has one spelling, and any other is BadJournal, as are bytes that are no record's text.
-/// Beside that only want of memory is answered.
+/// Beside that only want of memory is answered. The scratch is kept from line to line.
 pub(crate) fn read_line(
     alloc: Global,
     version: Version,
     bytes: &[u8],
+    scratch: &mut Scratch,
 ) -> Result<Record, JournalFault>
     ensures ok { IfOk result (λ r. (record_text version r ≡ bytes.now) × IsRecord version r) }
     ensures err { IfErr result (λ e. (e ≡ JournalFault.BadJournal) ⊎ (e ≡ JournalFault.NoMemory)) }
@@ -402,7 +424,7 @@ pub(crate) fn read_line(
     if *last != b'\n' {
         return Err(JournalFault::BadJournal);
     }
-    let Some(found) = read_shape(alloc, version, line)? else {
+    let Some(found) = read_shape(alloc, version, line, scratch)? else {
         return Err(JournalFault::BadJournal);
     };
     let is_same = is_text_of(alloc, version, bytes, &found)?;
@@ -422,5 +444,6 @@ pub fn read_entry(alloc: Global, bytes: &[u8]) -> Result<Record, JournalFault>
     ensures bad { result ≡ Err JournalFault.BadJournal
         → (r : RecordOf) → IsRecord second r → record_text second r ≢ bytes.now }
 {
-    read_line(alloc, Version::Second, bytes)
+    let mut scratch = Scratch::new(alloc);
+    read_line(alloc, Version::Second, bytes, &mut scratch)
 }

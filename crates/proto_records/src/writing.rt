@@ -1,69 +1,101 @@
 //! The text of a record.
 
-ghost use Rattle.std.specs.Prelude.{◌≡◌, All, IfOk, OnOk, Option, codes, map, option_map};
+ghost use Rattle.std.specs.Prelude.{◌≡◌, [], ◌∷◌, ◌++◌, All, IfOk, OnOk, Option, codes, decimal, map, option_map};
 ghost use Rattle.std.specs.String.{string_bytes};
-ghost use Rattle.serde_json.specs.Data.{array, member, no_members, number, object, string, unsigned};
-ghost use Rattle.serde_json.specs.View.{items_of, view};
+ghost use Rattle.json.specs.Token.{begin_object, end_object, key as key_token, number, string};
+ghost use Rattle.serde_json.specs.Data.{array};
+ghost use Rattle.serde_json.specs.View.{items_of};
 ghost use Rattle.proto_text.specs.Splicing.{edit_of, edits};
 ghost use Rattle.proto_entries.specs.EditsAsked.{Asked, asked};
 ghost use Rattle.proto_entries.specs.Entries.{change_of, IsEntry};
 ghost use Rattle.proto_records.specs.declared.record.Version.TheVariants.{First as first, Second as second};
 ghost use Rattle.proto_records.specs.RecordText.{asked_data, splice_data, change_data, edit_data, record_data, record_text, state_name};
+ghost use Rattle.proto_records.specs.DataTokens.{Adds, data_tokens};
 ghost use Rattle.proto_records.specs.Journals.{IsTextual, IsTold, AreTextual, IsRecord};
 
 use crate::record::{Record, State, Version};
+use json::Writer;
 use proto_entries::{Change, Edit, Entry};
 use proto_faults::NoMemory;
 use proto_text::{Splice, Splices};
-use serde_json::{Value, json};
-use std::alloc::Global;
+use std::alloc::{AllocError, Global};
 
-#[tactic(auto, unfolding(crate::specs::RecordText::splice_data))]
-fn splice_value(alloc: Global, splice: &Splice) -> Result<Value, NoMemory>
-    ensures { IfOk result (λ v. view v ≡ splice_data (edit_of splice.now)) }
+// Most lines are no longer; a longer one grows.
+const LINE_ROOM: usize = 256;
+
+fn write_text(writer: &mut Writer, key: &str, text: &str) -> Result<(), AllocError>
+    ensures { OnOk result (Adds writer.old writer.new
+        (key_token key.now ∷ string text.now ∷ [])) }
 {
-    Ok(json!(in alloc; {"at": splice.at, "new": &splice.new, "old": &splice.old})?)
+    writer.key(key)?;
+    writer.string(text)
 }
 
-fn splice_values(alloc: Global, splices: &[Splice]) -> Result<Vec<Value>, NoMemory>
-    ensures { IfOk result (λ v. map view v.items ≡ map splice_data (edits splices.now)) }
+fn write_number(writer: &mut Writer, key: &str, n: u32) -> Result<(), AllocError>
+    ensures { OnOk result (Adds writer.old writer.new
+        (key_token key.now ∷ number (decimal n) ∷ [])) }
 {
-    let mut values = Vec::with_capacity(alloc, splices.len())?;
+    writer.key(key)?;
+    writer.u64(u64::from(n))
+}
+
+#[tactic(auto, unfolding(crate::specs::RecordText::splice_data))]
+fn write_splice(writer: &mut Writer, splice: &Splice) -> Result<(), AllocError>
+    ensures { OnOk result
+        (Adds writer.old writer.new (data_tokens (splice_data (edit_of splice.now)))) }
+{
+    writer.begin_object()?;
+    write_number(writer, "at", splice.at)?;
+    write_text(writer, "new", &splice.new)?;
+    write_text(writer, "old", &splice.old)?;
+    writer.end_object()
+}
+
+fn write_splices(writer: &mut Writer, splices: &[Splice]) -> Result<(), AllocError>
+    ensures { OnOk result (Adds writer.old writer.new
+        (data_tokens (array (items_of (map splice_data (edits splices.now)))))) }
+{
+    writer.begin_array()?;
     for splice in splices {
-        values.push(splice_value(alloc, splice)?)?;
+        write_splice(writer, splice)?;
     }
-    Ok(values)
+    writer.end_array()
 }
 
 // The splices of a change, which are texts.
-fn splices_value(alloc: Global, splices: &Splices) -> Result<Vec<Value>, NoMemory>
-    ensures values { IfOk result (λ v. map view v.items ≡ map splice_data splices.now) }
+fn write_edits(writer: &mut Writer, splices: &Splices) -> Result<(), AllocError>
+    ensures written { OnOk result (Adds writer.old writer.new
+        (data_tokens (array (items_of (map splice_data splices.now))))) }
     ensures texts { All IsTextual splices.now }
 {
-    splice_values(alloc, splices.as_slice())
+    write_splices(writer, splices.as_slice())
 }
 
 #[tactic(auto, unfolding(crate::specs::RecordText::change_data))]
-fn change_value(alloc: Global, change: &Change) -> Result<Value, NoMemory>
-    ensures value { IfOk result (λ v. view v ≡ change_data (change_of change.now)) }
-    ensures texts { All IsTextual change.now.splices }
+fn write_change(writer: &mut Writer, change: &Change) -> Result<(), AllocError>
+    ensures written { OnOk result
+        (Adds writer.old writer.new (data_tokens (change_data (change_of change.now)))) }
+    ensures texts { OnOk result (All IsTextual change.now.splices) }
 {
-    let splices = Value::Array(splices_value(alloc, &change.splices)?);
-    Ok(json!(in alloc; {
-        "after": change.after, "before": change.before, "path": &change.path, "splices": splices
-    })?)
+    writer.begin_object()?;
+    write_number(writer, "after", change.after)?;
+    write_number(writer, "before", change.before)?;
+    write_text(writer, "path", &change.path)?;
+    writer.key("splices")?;
+    write_edits(writer, &change.splices)?;
+    writer.end_object()
 }
 
-fn change_values(alloc: Global, changes: &[Change]) -> Result<Vec<Value>, NoMemory>
-    ensures values { IfOk result (λ v. map view v.items
-        ≡ map change_data (map change_of changes.now)) }
+fn write_changes(writer: &mut Writer, changes: &[Change]) -> Result<(), AllocError>
+    ensures written { OnOk result (Adds writer.old writer.new
+        (data_tokens (array (items_of (map change_data (map change_of changes.now)))))) }
     ensures texts { OnOk result (AreTextual (map change_of changes.now)) }
 {
-    let mut values = Vec::with_capacity(alloc, changes.len())?;
+    writer.begin_array()?;
     for change in changes {
-        values.push(change_value(alloc, change)?)?;
+        write_change(writer, change)?;
     }
-    Ok(values)
+    writer.end_array()
 }
 
 /// The word of a state: `open` or `done`.
@@ -76,105 +108,164 @@ pub fn state_text(state: State) -> &'static str
     }
 }
 
-// The value of the changes of an entry.
-fn files_value(alloc: Global, entry: &Entry) -> Result<Vec<Value>, NoMemory>
-    ensures values { IfOk result (λ v. map view v.items ≡ map change_data entry.now) }
+// The changes of an entry.
+fn write_files(writer: &mut Writer, entry: &Entry) -> Result<(), AllocError>
+    ensures written { OnOk result (Adds writer.old writer.new
+        (data_tokens (array (items_of (map change_data entry.now))))) }
     ensures texts { OnOk result (AreTextual entry.now) }
     ensures entry { IsEntry entry.now }
 {
-    change_values(alloc, entry.changes())
+    write_changes(writer, entry.changes())
+}
+
+// An object of two texts.
+fn write_pair(
+    writer: &mut Writer,
+    first: (&str, &str),
+    last: (&str, &str),
+) -> Result<(), AllocError>
+    ensures { OnOk result (Adds writer.old writer.new (begin_object
+        ∷ key_token first.entry.0.now ∷ string first.entry.1.now
+        ∷ key_token last.entry.0.now ∷ string last.entry.1.now ∷ end_object ∷ [])) }
+{
+    writer.begin_object()?;
+    write_text(writer, first.0, first.1)?;
+    write_text(writer, last.0, last.1)?;
+    writer.end_object()
+}
+
+// An object of three texts.
+fn write_three(
+    writer: &mut Writer,
+    first: (&str, &str),
+    middle: (&str, &str),
+    last: (&str, &str),
+) -> Result<(), AllocError>
+    ensures { OnOk result (Adds writer.old writer.new (begin_object
+        ∷ key_token first.entry.0.now ∷ string first.entry.1.now
+        ∷ key_token middle.entry.0.now ∷ string middle.entry.1.now
+        ∷ key_token last.entry.0.now ∷ string last.entry.1.now ∷ end_object ∷ [])) }
+{
+    writer.begin_object()?;
+    write_text(writer, first.0, first.1)?;
+    write_text(writer, middle.0, middle.1)?;
+    write_text(writer, last.0, last.1)?;
+    writer.end_object()
 }
 
 #[tactic(auto, unfolding(crate::specs::RecordText::asked_data))]
-fn asked_value(alloc: Global, edit: &Edit) -> Result<Value, NoMemory>
-    ensures { IfOk result (λ v. view v ≡ asked_data (asked edit.now)) }
+fn write_asked(writer: &mut Writer, edit: &Edit) -> Result<(), AllocError>
+    ensures { OnOk result
+        (Adds writer.old writer.new (data_tokens (asked_data (asked edit.now)))) }
 {
     match edit {
         Edit::Rename { name, to } => {
-            Ok(json!(in alloc; {"kind": "rename", "name": name, "to": to})?)
+            write_three(writer, ("kind", "rename"), ("name", name), ("to", to))
         }
-        Edit::DeleteField { name } => {
-            Ok(json!(in alloc; {"kind": "delete-field", "name": name})?)
-        }
+        Edit::DeleteField { name } => write_pair(writer, ("kind", "delete-field"), ("name", name)),
         Edit::AddImport { file, path } => {
-            Ok(json!(in alloc; {"file": file, "kind": "add-import", "path": path})?)
+            write_three(
+                writer,
+                ("file", file),
+                ("kind", "add-import"),
+                ("path", path),
+            )
         }
         Edit::DropImport { file, path } => {
-            Ok(json!(in alloc; {"file": file, "kind": "drop-import", "path": path})?)
+            write_three(
+                writer,
+                ("file", file),
+                ("kind", "drop-import"),
+                ("path", path),
+            )
         }
     }
 }
 
 #[tactic(auto, unfolding(crate::specs::RecordText::edit_data))]
-fn edit_value(alloc: Global, edit: Option<&Edit>) -> Result<Value, NoMemory>
-    ensures { IfOk result (λ v. view v ≡ edit_data (option_map (λ e. asked e.now) edit.entry)) }
+fn write_edit(writer: &mut Writer, edit: Option<&Edit>) -> Result<(), AllocError>
+    ensures { OnOk result (Adds writer.old writer.new
+        (data_tokens (edit_data (option_map (λ e. asked e.now) edit.entry)))) }
 {
     match edit {
-        Some(edit) => asked_value(alloc, edit),
-        None => Ok(Value::Null),
+        Some(edit) => write_asked(writer, edit),
+        None => writer.null(),
     }
 }
 
-#[tactic(auto, unfolding(crate::specs::RecordText::record_data))]
-fn first_value(alloc: Global, state: State, entry: &Entry) -> Result<Value, NoMemory>
-    ensures value { IfOk result (λ v. (edit : Option Asked) → view v
-        ≡ record_data first (record { state = state; entry = entry.now; edit = edit })) }
+// What stands behind the edit of a record, with the number of the version.
+fn write_rest(
+    writer: &mut Writer,
+    state: State,
+    entry: &Entry,
+    version: u32,
+) -> Result<(), AllocError>
+    ensures written { OnOk result (Adds writer.old writer.new
+        (key_token (codes "files") ∷ (data_tokens (array (items_of (map change_data entry.now)))
+        ++ key_token (codes "state") ∷ string (state_name state)
+        ∷ key_token (codes "version") ∷ number (decimal version) ∷ end_object ∷ []))) }
     ensures texts { OnOk result (AreTextual entry.now) }
     ensures entry { OnOk result (IsEntry entry.now) }
 {
-    let files = Value::Array(files_value(alloc, entry)?);
-    Ok(json!(in alloc; {"files": files, "state": state_text(state), "version": 1u64})?)
+    writer.key("files")?;
+    write_files(writer, entry)?;
+    write_text(writer, "state", state_text(state))?;
+    write_number(writer, "version", version)?;
+    writer.end_object()
 }
 
-// The value of a record in the second version, of the values of its edit and its changes.
-fn told_value(
-    alloc: Global,
-    edit: &Value,
-    files: Vec<Value>,
-    state: State,
-) -> Result<Value, NoMemory>
-    ensures { IfOk result (λ v. view v ≡ object (member (codes "edit") (view edit.now)
-        (member (codes "files") (array (items_of (map view files.items)))
-        (member (codes "state") (string (state_name state))
-        (member (codes "version") (number (unsigned 2)) no_members))))) }
+#[tactic(auto, unfolding(crate::specs::RecordText::record_data))]
+fn write_first(writer: &mut Writer, state: State, entry: &Entry) -> Result<(), AllocError>
+    ensures written { OnOk result ((edit : Option Asked) → Adds writer.old writer.new (data_tokens
+        (record_data first (record { state = state; entry = entry.now; edit = edit })))) }
+    ensures texts { OnOk result (AreTextual entry.now) }
+    ensures entry { OnOk result (IsEntry entry.now) }
 {
-    let files = Value::Array(files);
-    Ok(json!(in alloc; {
-        "edit": edit, "files": files, "state": state_text(state), "version": 2u64
-    })?)
+    writer.begin_object()?;
+    write_rest(writer, state, entry, 1)
 }
 
-fn second_value(
-    alloc: Global,
+#[tactic(auto, unfolding(crate::specs::RecordText::record_data))]
+fn write_second(
+    writer: &mut Writer,
     state: State,
     entry: &Entry,
     edit: Option<&Edit>,
-) -> Result<Value, NoMemory>
-    ensures value { IfOk result (λ v. view v ≡ record_data second (record
-        { state = state; entry = entry.now; edit = option_map (λ e. asked e.now) edit.entry })) }
+) -> Result<(), AllocError>
+    ensures written { OnOk result (Adds writer.old writer.new
+        (data_tokens (record_data second (record {
+          state = state;
+          entry = entry.now;
+          edit = option_map (λ e. asked e.now) edit.entry;
+        })))) }
     ensures texts { OnOk result (AreTextual entry.now) }
     ensures entry { OnOk result (IsEntry entry.now) }
 {
-    let told = edit_value(alloc, edit)?;
-    let files = files_value(alloc, entry)?;
-    told_value(alloc, &told, files, state)
+    writer.begin_object()?;
+    writer.key("edit")?;
+    write_edit(writer, edit)?;
+    write_rest(writer, state, entry, 2)
 }
 
-fn record_value(
-    alloc: Global,
+fn write_record(
+    writer: &mut Writer,
     version: Version,
     state: State,
     entry: &Entry,
     edit: Option<&Edit>,
-) -> Result<Value, NoMemory>
-    ensures value { IfOk result (λ v. view v ≡ record_data version (record
-        { state = state; entry = entry.now; edit = option_map (λ e. asked e.now) edit.entry })) }
+) -> Result<(), AllocError>
+    ensures written { OnOk result (Adds writer.old writer.new
+        (data_tokens (record_data version (record {
+          state = state;
+          entry = entry.now;
+          edit = option_map (λ e. asked e.now) edit.entry;
+        })))) }
     ensures texts { OnOk result (AreTextual entry.now) }
     ensures entry { OnOk result (IsEntry entry.now) }
 {
     match version {
-        Version::First => first_value(alloc, state, entry),
-        Version::Second => second_value(alloc, state, entry, edit),
+        Version::First => write_first(writer, state, entry),
+        Version::Second => write_second(writer, state, entry, edit),
     }
 }
 
@@ -193,7 +284,10 @@ pub fn line_of(
     ensures is { OnOk result (IsRecord version (record
         { state = state; entry = entry.now; edit = option_map (λ e. asked e.now) edit.entry })) }
 {
-    let mut text = record_value(alloc, version, state, entry, edit)?.to_string(alloc)?;
+    let bytes = Vec::with_capacity(alloc, LINE_ROOM)?;
+    let mut writer = Writer::new(bytes);
+    write_record(&mut writer, version, state, entry, edit)?;
+    let mut text = String::from_utf8(writer.into_inner()).unwrap();
     text.push('\n')?;
     Ok(text)
 }

@@ -1,14 +1,20 @@
-use Rattle.std.proofs.Common.{rules, ◌≡◌, ◌+◌, get_or, subst, arith, take_all}
+use Rattle.std.proofs.Common.{◌+◌, get_or, subst, arith, take_all, refl, length}
+use Rattle.memchr.specs.Find.{NoneBefore, Nowhere, Passes, is_byte}
 use Rattle.proto_records.specs.Journals.{HasNoFeed}
-use Rattle.proto_records.proofs.Lines.{line_at, line_to_end}
+use Rattle.proto_records.proofs.Lines.{is_feed, line_at, line_to_end, none_found}
 use Rattle.proto_records.proofs.journal.first_line.Goals as goal
 
-pub returns-then-byte-eq10 : goal.returns-then-byte-eq10
-returns-then-byte-eq10 c =
+pub returns-in-Some : goal.returns-in-Some
+returns-in-Some c =
     let bytes = c.args.bytes.now in
-    let i = c.loop-byte.byte-index in
-    let feed : get_or bytes i 0 ≡ 10 = search rules in
-    line_at bytes i (c.loop-byte.len + 1) c.split_at.result.0.now c.split_at.result.1.now c.loop-byte-test.true feed c.loop-byte.invariant.none (omega (arith, c.loop-byte.invariant.len)) c.split_at.ensures.front c.split_at.ensures.back
+    let k = c.in-Some.place in
+    let h = c.memchr.ensures in
+    let found : NoneBefore (Passes (is_byte 10) bytes) 0 (length bytes) k × Passes (is_byte 10) bytes k = rw c.in-Some.is at h in
+    line_at bytes k (k + 1) c.split_at.result.0.now c.split_at.result.1.now found.0.high (is_feed (get_or bytes k 0) found.1) (none_found bytes k (omega (arith, found.0.high)) found.0.before) refl c.split_at.ensures.front c.split_at.ensures.back
 
-pub returns : goal.returns
-returns c = line_to_end c.args.bytes.now (subst HasNoFeed (take_all c.loop-byte.byte-index c.args.bytes.now (omega (arith, c.loop-byte-test.false))) c.loop-byte.invariant.none)
+pub returns-in-None : goal.returns-in-None
+returns-in-None c =
+    let bytes = c.args.bytes.now in
+    let h = c.memchr.ensures in
+    let none : Nowhere (Passes (is_byte 10) bytes) 0 (length bytes) = rw c.in-None.is at h in
+    line_to_end bytes (subst HasNoFeed (take_all (length bytes) bytes (omega arith)) (none_found bytes (length bytes) (omega arith) none))

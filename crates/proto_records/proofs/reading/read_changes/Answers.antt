@@ -1,6 +1,6 @@
 use Rattle.std.proofs.Common.{rules, ◌≡◌, [], ◌∷◌, map, arith, ap, sym, ◌∙◌, add-one}
 use Rattle.proto_faults.proofs.Common.{common_steps, map-append}
-use Rattle.serde_json.specs.View.{items_view}
+use Rattle.json.specs.Value.{items_view}
 use Rattle.proto_entries.specs.Entries.{change_of, IsMeasured}
 use Rattle.proto_records.specs.RecordText.{change_data}
 use Rattle.proto_records.proofs.ReadSteps.{item_step, same_lengths}

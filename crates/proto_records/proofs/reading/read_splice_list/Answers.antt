@@ -1,6 +1,6 @@
 use Rattle.std.proofs.Common.{rules, ◌≡◌, ◌<◌, ◌^◌, [], ◌∷◌, arith, ap, sym, ◌∙◌, add-one}
 use Rattle.proto_faults.proofs.Common.{common_steps, map-append}
-use Rattle.serde_json.specs.View.{items_view}
+use Rattle.json.specs.Value.{items_view}
 use Rattle.proto_text.proofs.Common.{Edit, edit_of, edits}
 use Rattle.proto_records.specs.RecordText.{splice_data}
 use Rattle.proto_records.proofs.ReadSteps.{item_step, same_lengths}
