@@ -1,5 +1,7 @@
 //! What a command still holds when its answer is made.
 
+ghost use Rattle.std.specs.Prelude.{◌≡◌, None};
+
 use proto_desc::{CheckedSchema, Schema};
 use std::mem;
 
@@ -28,7 +30,10 @@ fn let_checked_go(checked: Option<CheckedSchema>) {
 
 impl Kept {
     /// Nothing is held yet.
-    pub fn new() -> Kept {
+    pub fn new() -> Kept
+        ensures described { result.described ≡ None }
+        ensures checked { result.checked ≡ None }
+    {
         Kept {
             described: None,
             checked: None,

@@ -238,6 +238,64 @@ const HELPS: &[Row] = &[
     ("protoref log -h", "help|Example: protoref log "),
     ("protoref recover -h", "help|Example: protoref recover "),
     ("protoref migrate -h", "help|Example: protoref migrate "),
+    // What the numbers and the statuses mean.
+    ("protoref -h", "help|There is no --version"),
+    (
+        "protoref compile -h",
+        "help|   1 TooLarge        a file of more than",
+    ),
+    (
+        "protoref compile -h",
+        "help|  14 Unresolved      a reference that means nothing",
+    ),
+    (
+        "protoref compile -h",
+        "help|  35 TooManyFiles    more files than a workspace holds",
+    ),
+    (
+        "protoref lint -h",
+        "help|1 with findings, as path:line:column: RULE name",
+    ),
+    (
+        "protoref rename -h",
+        "help|   7 Captured        a reference would mean",
+    ),
+    (
+        "protoref delete-field -h",
+        "help|  10 LastOfOneof    the field is the only one",
+    ),
+    (
+        "protoref add-import -h",
+        "help|  12 AlreadyImported the file imports the path",
+    ),
+    (
+        "protoref drop-import -h",
+        "help|  15 Needed      a reference means a symbol",
+    ),
+    (
+        "protoref undo -h",
+        "help|  17 Stale the files are not as the entry left them",
+    ),
+    (
+        "protoref undo -h",
+        "help|   2 NothingToUndo the journal has no entry",
+    ),
+    (
+        "protoref log -h",
+        "help|   1 BadJournal the journal is damaged",
+    ),
+    (
+        "protoref recover -h",
+        "help|  17 Stale the files are not as the entry left them",
+    ),
+    (
+        "protoref migrate -h",
+        "help|   5 JournalFull the journal would have more",
+    ),
+    (
+        "protoref migrate -h",
+        "help|2 with a line on standard error.",
+    ),
     // A line of each rule.
     ("protoref lint --help", "rules"),
 ];

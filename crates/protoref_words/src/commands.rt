@@ -4,6 +4,7 @@ ghost use Rattle.std.specs.Prelude.{◌≡◌, [], IfOk, map};
 ghost use Rattle.clap.specs.Words.{app_of, new_app, rule_of, shape_of};
 ghost use Rattle.protoref_words.specs.Program.{bare, program, rule_of_row, shape_of_words};
 
+use crate::help;
 use clap::{Arg, ArgAction, Command};
 use proto_faults::NoMemory;
 use std::alloc::Global;
@@ -24,37 +25,6 @@ struct Words {
     arguments: &'static [Argument],
 }
 
-const RULES: &str = "Rules:
-  DIRECTORY_SAME_PACKAGE       a file whose package is not that of the first file of its directory
-  ENUM_FIRST_VALUE_ZERO        the first value of an enum, if its number is not 0
-  ENUM_NO_ALLOW_ALIAS          the option allow_alias = true
-  ENUM_PASCAL_CASE             an enum whose name is not PascalCase
-  ENUM_VALUE_PREFIX            a value whose name does not begin with its enum's in UPPER_SNAKE_CASE
-  ENUM_VALUE_UPPER_SNAKE_CASE  a value whose name is not UPPER_SNAKE_CASE
-  ENUM_ZERO_VALUE_SUFFIX       a value 0 whose name does not end in _UNSPECIFIED
-  FIELD_LOWER_SNAKE_CASE       a field whose name is not lower_snake_case
-  FILE_LOWER_SNAKE_CASE        a file whose name is not lower_snake_case
-  IMPORT_NO_PUBLIC             a public import
-  IMPORT_USED                  an import that no reference needs
-  MESSAGE_PASCAL_CASE          a message whose name is not PascalCase
-  ONEOF_LOWER_SNAKE_CASE       a oneof whose name is not lower_snake_case
-  PACKAGE_DEFINED              a file without a package
-  PACKAGE_DIRECTORY_MATCH      a file whose directory is not that of its package's name
-  PACKAGE_LOWER_SNAKE_CASE     a package with a part that is not lower_snake_case
-  PACKAGE_SAME_DIRECTORY       a file whose directory is not that of the first file of its package
-  PACKAGE_VERSION_SUFFIX       a package that does not end in a version
-  RPC_NO_CLIENT_STREAMING      a method with a stream of inputs
-  RPC_NO_SERVER_STREAMING      a method with a stream of outputs
-  RPC_PASCAL_CASE              a method whose name is not PascalCase
-  RPC_REQUEST_RESPONSE_UNIQUE  a method that shares a message with another, or with itself
-  RPC_REQUEST_STANDARD_NAME    a method whose input is not named after it and Request
-  RPC_RESPONSE_STANDARD_NAME   a method whose output is not named after it and Response
-  SERVICE_PASCAL_CASE          a service whose name is not PascalCase
-  SERVICE_SUFFIX               a service whose name does not end in Service
-  SYNTAX_SPECIFIED             a file without a syntax statement
-
-Example: protoref lint schemas IMPORT_USED PACKAGE_DEFINED";
-
 const ROOT: Argument = Argument::One("ROOT", "The folder of the schemas");
 
 const FILE: Argument = Argument::One("FILE", "The path of the schema below the folder");
@@ -63,13 +33,13 @@ const COMMANDS: &[Words] = &[
     Words {
         name: "compile",
         about: "Prints the descriptors of the schemas as JSON",
-        below: "Example: protoref compile schemas",
+        below: help::COMPILE,
         arguments: &[ROOT],
     },
     Words {
         name: "lint",
         about: "Prints what lint rules find in the schemas",
-        below: RULES,
+        below: help::LINT,
         arguments: &[
             ROOT,
             Argument::Many("RULE", "The rules that are asked; all, where none is named"),
@@ -78,7 +48,7 @@ const COMMANDS: &[Words] = &[
     Words {
         name: "rename",
         about: "Gives a symbol a new simple name, where it is declared and in each reference",
-        below: "Example: protoref rename schemas shop.v1.Order.price total_price",
+        below: help::RENAME,
         arguments: &[
             ROOT,
             Argument::One("NAME", "The full name of a symbol, without a dot before it"),
@@ -88,7 +58,7 @@ const COMMANDS: &[Words] = &[
     Words {
         name: "delete-field",
         about: "Deletes a field, and reserves its number and name",
-        below: "Example: protoref delete-field schemas shop.v1.Order.price",
+        below: help::DELETE_FIELD,
         arguments: &[
             ROOT,
             Argument::One("NAME", "The full name of a field, without a dot before it"),
@@ -97,7 +67,7 @@ const COMMANDS: &[Words] = &[
     Words {
         name: "add-import",
         about: "Adds an import to a schema",
-        below: "Example: protoref add-import schemas shop/v1/order.proto shop/v1/item.proto",
+        below: help::ADD_IMPORT,
         arguments: &[
             ROOT,
             FILE,
@@ -107,7 +77,7 @@ const COMMANDS: &[Words] = &[
     Words {
         name: "drop-import",
         about: "Takes an import out of a schema",
-        below: "Example: protoref drop-import schemas shop/v1/order.proto shop/v1/item.proto",
+        below: help::DROP_IMPORT,
         arguments: &[
             ROOT,
             FILE,
@@ -117,25 +87,25 @@ const COMMANDS: &[Words] = &[
     Words {
         name: "undo",
         about: "Undoes the last entry of the journal",
-        below: "Example: protoref undo schemas",
+        below: help::UNDO,
         arguments: &[ROOT],
     },
     Words {
         name: "log",
         about: "Prints the entries of the journal, with the files that each of them changed, and its edit",
-        below: "Example: protoref log schemas",
+        below: help::LOG,
         arguments: &[ROOT],
     },
     Words {
         name: "recover",
         about: "Takes back what an edit or an undo left that was cut off in its midst",
-        below: "Example: protoref recover schemas",
+        below: help::RECOVER,
         arguments: &[ROOT],
     },
     Words {
         name: "migrate",
         about: "Writes a journal of the first version anew in the second, as each edit does",
-        below: "Example: protoref migrate schemas",
+        below: help::MIGRATE,
         arguments: &[ROOT],
     },
 ];
@@ -154,6 +124,7 @@ fn program_alone<'a>(alloc: Global) -> Command<'a>
 {
     Command::new(alloc, "protoref")
         .about("Compiles, lints and edits Protocol Buffers schemas")
+        .after_help(help::PROGRAM)
         .disable_help_subcommand(true)
         .subcommand_required(true)
 }

@@ -3,6 +3,7 @@
 
 mod command_line;
 mod commands;
+mod help;
 mod request;
 
 pub use command_line::read_words;

@@ -1,6 +1,4 @@
-use Rattle.std.proofs.Common.{Option}
 use Rattle.proto_files.proofs.Common.{fault_at}
-use Rattle.proto_store.specs.Stores.{Held}
 use Rattle.protoref_run.proofs.Faulted.{least_is_held}
 use Rattle.protoref_run.proofs.Printing.{tells_fault}
 use Rattle.protoref_run.proofs.opening.faulty.Goals as goal
