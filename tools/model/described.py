@@ -1,6 +1,6 @@
 """Descriptors of a model's schemas as docs/descriptors.md has them, and their text."""
 
-from schemas import Block, Field, Method, Oneof, Option, Reserved, Value, entry_name, number_value, text_value
+from schemas import Block, Extend, Field, Method, Oneof, Option, Reserved, Value, entry_name, number_value, text_value
 
 MAX_NUMBER = 536870911
 MAX_VALUE = 2147483647
@@ -62,6 +62,7 @@ def file_of(workspace, place):
         "messageType": [scene.message(file.package, block) for block in file.blocks("message")],
         "enumType": [scene.enum(block) for block in file.blocks("enum")],
         "service": [scene.service(block) for block in file.blocks("service")],
+        "extension": scene.extensions(file),
         "options": options_of(file.of(Option)),
         "syntax": "proto3" if scene.is_proto3 else None,
     })
@@ -101,6 +102,7 @@ class Scene:
             "field": fields,
             "nestedType": nested,
             "enumType": [self.enum(member) for member in block.blocks("enum")],
+            "extension": self.extensions(block),
             "extensionRange": ranges["extensions"],
             "oneofDecl": [{"name": oneof.name.text} for oneof in oneofs],
             "reservedRange": ranges["reserved"],
@@ -115,6 +117,16 @@ class Scene:
         name = self.meant(field.reference)
         kind = "ENUM" if self.workspace.by_name[name].kind == "enum" else "MESSAGE"
         return {"type": "TYPE_" + kind, "typeName": "." + ".".join(name)}
+
+    def extensions(self, around):
+        found = []
+        for extend in around.of(Extend):
+            extendee = "." + ".".join(self.meant(extend.extendee))
+            for one in extend.fields:
+                described = self.field(one, None, None)
+                del described["jsonName"]
+                found.append({**described, "extendee": extendee})
+        return found
 
     def field(self, field, oneof, entry):
         label = "repeated" if entry else field.label or "optional"

@@ -35,9 +35,7 @@ def answer(workspace, command, *words):
 
 def place_of(workspace, use):
     """The path, line and column of a reference, as they are printed."""
-    file = workspace.files[use.file]
-    before = file.text[: use.reference.first.start]
-    return f"{file.path}:{before.count(chr(10)) + 1}:{len(before) - before.rfind(chr(10))}"
+    return workspace.written_place(use.file, use.reference.first.start)
 
 
 def printed(workspace, command, *words):

@@ -26,16 +26,45 @@ KEYWORDS = (
 TRIVIA = ["\n", "\t", "\r\n", "  ", "\v", "\f"]
 TRIVIA += ["\r\n\r\n", " // } ;\r\n", " /* ; import \"a.proto\"; } */ ", " /* M foo A.B */ ", " // N b;\n", "/**/", " /* é↑ */ ", "//\n", "/* * / ** */"]
 TEXTS = ['"q"', "'fooBar'", '"x"', '"foo" "_bar"', r'"\x41\102"', r'"\"\\\n"', '"é"', '""']
+EXTENSIONS = [
+    [["500", "to", "600"]],
+    [["500", "to", "503", ",", "0x258", "to", "max"]],
+    [["18990", "to", "20010"]],
+    [["510", "to", "520"], ["500", "to", "505", ",", "530", "to", "01100"]],
+]
+LARGEST = 536870911
 KEYS = [scalar for scalar in SCALARS if scalar not in ("float", "double", "bytes")]
 
 
 class Slot:
     """The place of a reference, filled once all names are declared."""
 
-    def __init__(self, file, scope, is_method=False, is_map_value=False, default=None):
+    def __init__(self, file, scope, wants_message=False, is_map_value=False, default=None, extend=None):
         self.file, self.scope = file, scope
-        self.is_method, self.is_map_value, self.default = is_method, is_map_value, default
+        self.wants_message, self.is_map_value, self.default = wants_message, is_map_value, default
+        self.extend = extend
         self.tokens = [".", "X"]
+
+
+class Extend:
+    """The place of an extend block, whose numbers are chosen with what it extends. Where it can extend nothing it is left out."""
+
+    def __init__(self, scope):
+        self.scope, self.extendee, self.fields = scope, None, []
+        self.is_left_out = False
+
+    @property
+    def tokens(self):
+        if self.is_left_out:
+            return []
+        return ["extend", self.extendee, "{", *[token for field in self.fields for token in field], "}"]
+
+
+class Number:
+    """The place of an extension's number."""
+
+    def __init__(self):
+        self.tokens = ["1"]
 
 
 class Default:
@@ -66,6 +95,8 @@ class Maker:
         self.chance = chance
         self.taken = set()
         self.slots = []
+        # The numbers that extensions of a message have, by its full name.
+        self.extended = {}
 
     def rolls(self, share):
         return self.chance.random() < share
@@ -73,6 +104,8 @@ class Maker:
     def workspace(self):
         count = self.chance.choice([1, 1, 1, 2, 2, 3, 3, 4, 5, 6, 7, 8])
         paths = self.chance.sample(PATHS, count)
+        # Extensions are in files without proto3 alone.
+        self.syntaxes = self.chance.choice([["proto3", "proto3", "proto2", ""], ["proto3", "proto2", "proto2", "", ""]])
         packages = [self.chance.choice(PACKAGES[: self.chance.choice([2, 5, 10])]) for _ in paths]
         for package in packages:
             words = package.split(".") if package else []
@@ -100,7 +133,7 @@ class Maker:
 
     def file(self, place, paths, package):
         self.place = place
-        self.syntax = self.chance.choice(["proto3", "proto3", "proto2", ""])
+        self.syntax = self.chance.choice(self.syntaxes)
         tokens = ["syntax", "=", f'"{self.syntax}"', ";"] if self.syntax else []
         heads = []
         for other in self.chance.sample(range(place), min(place, self.chance.choice([0, 1, 2, 3, 4]))):
@@ -128,7 +161,9 @@ class Maker:
         return quote + "".join(letters) + quote
 
     def item(self, above):
-        kind = self.chance.choice(["message"] * 5 + ["enum"] * 2 + ["service"] * 3)
+        kind = self.chance.choice(["message"] * 5 + ["enum"] * 2 + ["service"] * 3 + ["extend"] * 4)
+        if kind == "extend" and self.syntax != "proto3":
+            return [self.extend(above)]
         if kind == "enum":
             return self.enum(above)
         if kind == "service" and self.has_message:
@@ -153,8 +188,10 @@ class Maker:
             members.append(["reserved", *ranges, ";"])
         if self.rolls(0.08):
             members.append([";"])
-        if self.rolls(0.1) and self.syntax != "proto3":
-            members.append(["extensions", "500", "to", "600", ";"])
+        if self.rolls(0.4) and self.syntax != "proto3":
+            members += [["extensions", *ranges, ";"] for ranges in self.chance.choice(EXTENSIONS)]
+        for _ in range(self.chance.choice([0, 0, 0, 1, 1, 2]) if self.syntax != "proto3" else 0):
+            members.append([self.extend(scope)])
         if depth < 3:
             for _ in range(self.chance.choice([0, 0, 1, 1, 2])):
                 members.append(self.message(scope, depth + 1) if self.rolls(0.7) else self.enum(scope))
@@ -190,12 +227,28 @@ class Maker:
         self.jsons.add(json)
         self.numbers += self.chance.choice([1, 1, 1, 2, 7])
         settings = [["json_name", "=", f'"{written}"']] if written else []
-        if self.rolls(0.15):
-            settings.append(["deprecated", "=", self.chance.choice(["true", "false"])])
-        return name, self.chance.choice([str, hex, lambda number: f"0{number:o}"])(self.numbers), settings
+        return name, self.written(self.numbers), settings + self.deprecated()
+
+    def deprecated(self):
+        return [["deprecated", "=", self.chance.choice(["true", "false"])]] if self.rolls(0.15) else []
+
+    def written(self, number):
+        return self.chance.choice([str, hex, lambda number: f"0{number:o}"])(number)
+
+    def extend(self, scope):
+        extend = Extend(scope)
+        extend.extendee = Slot(self.place, scope, wants_message=True, extend=extend)
+        self.slots.append(extend.extendee)
+        for _ in range(0 if self.rolls(0.02) else self.chance.choice([1, 1, 2, 3])):
+            label = [self.chance.choice(["optional", "optional", "repeated"])]
+            extend.fields.append(self.typed(scope, label, self.declared(scope, FIELDS), Number(), self.deprecated()))
+        return extend
 
     def field(self, scope, label):
-        name, number, settings = self.named(scope)
+        return self.typed(scope, label, *self.named(scope))
+
+    def typed(self, scope, label, name, number, settings):
+        """The tokens of a field or an extension."""
         takes_default = self.syntax != "proto3" and label != ["repeated"]
         if self.rolls(0.6):
             default = Default(settings, takes_default)
@@ -250,7 +303,7 @@ class Maker:
         for _ in range(self.chance.choice([0, 1, 2, 4])):
             tokens += ["rpc", self.declared(scope, METHODS)]
             for word in ([], ["returns"]):
-                slot = Slot(self.place, scope, is_method=True)
+                slot = Slot(self.place, scope, wants_message=True)
                 self.slots.append(slot)
                 tokens += [*word, "(", *(["stream"] if self.rolls(0.25) else []), slot, ")"]
             if self.rolls(0.2):
@@ -278,18 +331,42 @@ class Maker:
             if symbol.kind == "enum":
                 is_closed = syntaxes[place] == "proto3" and syntaxes[symbol.file] != "proto3"
                 first = symbol.node.of(Value)[0].number
-                if slot.is_method or is_closed or slot.is_map_value and first != 0:
+                if slot.wants_message or is_closed or slot.is_map_value and first != 0:
                     continue
                 choices += [symbol] * 2
+            if slot.extend and len(self.free_numbers(symbol)) < max(1, len(slot.extend.fields)):
+                continue
             # Symbols of other files are fewer.
             choices += [symbol] * (1 if symbol.file == place else 4)
         if not choices:
             slot.tokens = ["int32"]
+            if slot.extend:
+                slot.extend.is_left_out = True
             return
         symbol = self.chance.choice(choices)
         slot.tokens = self.spelling(workspace, place, slot.scope, symbol.name)
+        if slot.extend:
+            self.number(slot.extend, symbol)
         if slot.default and slot.default.is_allowed and symbol.kind == "enum" and self.rolls(0.7):
             slot.default.value = self.chance.choice(symbol.node.of(Value)).name.text
+
+    def free_numbers(self, symbol):
+        """Some numbers that an extension of a message may have."""
+        taken = self.extended.setdefault(symbol.name, set())
+        found = []
+        for start, end in symbol.node.extension_ranges:
+            end = LARGEST if end is None else end
+            near = {*range(start, min(start + 9, end + 1)), *range(max(start, end - 5), end + 1)}
+            found += sorted(near - taken - set(range(19000, 20000)))
+        return found
+
+    def number(self, extend, symbol):
+        """Gives the extensions of a block numbers that no other extension of the message has."""
+        for field in extend.fields:
+            number = self.chance.choice(self.free_numbers(symbol))
+            self.extended[symbol.name].add(number)
+            place = next(token for token in field if isinstance(token, Number))
+            place.tokens = [self.written(number)]
 
     def spelling(self, workspace, place, scope, name):
         """A way to write the name that means it."""
@@ -310,7 +387,7 @@ class Maker:
             if isinstance(token, str):
                 yield token
             else:
-                yield from token.tokens
+                yield from self.flat(token.tokens)
 
     def plain(self, tokens):
         return " ".join(self.flat(tokens))
@@ -382,6 +459,8 @@ class Renamer:
             self.entry_of_reference: 12,
             self.sibling: 5,
             self.package: 5,
+            self.extension: 10,
+            self.extended: 18,
             self.reserved: 5,
             self.json: 12,
             self.keyword: 5,
@@ -398,7 +477,7 @@ class Renamer:
                 return name if isinstance(name, str) else ".".join(name), to
 
     def pool(self, symbol):
-        return {"field": FIELDS, "value": VALUES, "method": METHODS}.get(symbol.kind, TYPES)
+        return {"field": FIELDS, "extension": FIELDS, "value": VALUES, "method": METHODS}.get(symbol.kind, TYPES)
 
     def any(self, symbols):
         return self.chance.choice(symbols) if symbols else None
@@ -423,6 +502,23 @@ class Renamer:
         name = meant[: len(meant) - self.chance.randrange(len(use.reference.words))]
         is_package = self.workspace.by_name[name].kind == "package"
         return meant if is_package else name, self.chance.choice(TYPES + FRESH)
+
+    def extension(self):
+        symbol = self.any([one for one in self.allowed if one.kind == "extension"])
+        return symbol and (symbol.name, self.chance.choice(FIELDS + TYPES + FRESH))
+
+    def extended(self):
+        """A message that is extended, or what holds it, by the name of something in the block's scope or by another."""
+        found = self.any(self.workspace.extends)
+        if not found:
+            return None
+        file, scope, extend = found
+        use = next(one for one in self.workspace.uses if one.reference is extend.extendee)
+        meant = self.workspace.meaning(use)
+        name = meant[: len(meant) - self.chance.randrange(len(extend.extendee.words))]
+        name = meant if self.workspace.by_name[name].kind == "package" else name
+        near = [one.name[-1] for one in self.workspace.symbols if one.name[: len(scope)] == scope and len(one.name) > len(scope)]
+        return name, self.chance.choice(near * (self.chance.random() < 0.5) + FRESH)
 
     def hits(self):
         """Relative references with the part count of their hit, of those that have a deeper scope."""

@@ -40,6 +40,7 @@ class Editor:
             self.of_oneof: 30,
             self.beside_reserved: 15,
             self.in_full_file: 20,
+            self.extension: 4,
             self.no_field: 8,
             self.no_name: 6,
         }
@@ -69,6 +70,10 @@ class Editor:
 
     def no_field(self):
         found = self.any([one for one in self.workspace.symbols if one.kind != "field"])
+        return found and ".".join(found.name)
+
+    def extension(self):
+        found = self.any([one for one in self.workspace.symbols if one.kind == "extension"])
         return found and ".".join(found.name)
 
     def no_name(self):

@@ -7,7 +7,7 @@ import copy
 from schemas import LISTED, WORD, derived_json, entry_name, fits
 
 MAX_BYTES = 1_048_576
-KINDS = ("message", "enum", "service", "field", "value", "method")
+KINDS = ("message", "enum", "service", "field", "extension", "value", "method")
 
 
 class Rename:
@@ -197,6 +197,10 @@ def map_types(rename, above, holder):
         map_name(rename, above, enum)
         for value in enum["value"]:
             map_name(rename, above, value)
+    for extension in holder.get("extension", []):
+        map_name(rename, above, extension)
+        map_typed(rename, extension)
+        extension["extendee"] = map_meaning(rename, extension["extendee"])
     for key in ("messageType", "nestedType"):
         for message in holder.get(key, []):
             map_message(rename, above, message)
@@ -211,8 +215,13 @@ def map_message(rename, above, message):
         full = map_name(rename, name, field)
         if full == rename.old and rename.target.node.written_json is None:
             field["jsonName"] = rename.new_json
-        if field["type"] == "TYPE_ENUM" and rename.enum and field["typeName"] == "." + ".".join(rename.enum):
-            if field.get("defaultValue") == rename.old[-1]:
-                field["defaultValue"] = rename.to
-        if "typeName" in field:
-            field["typeName"] = map_meaning(rename, field["typeName"])
+        map_typed(rename, field)
+
+
+def map_typed(rename, field):
+    """Maps the type of a field or an extension, and its default."""
+    if field["type"] == "TYPE_ENUM" and rename.enum and field["typeName"] == "." + ".".join(rename.enum):
+        if field.get("defaultValue") == rename.old[-1]:
+            field["defaultValue"] = rename.to
+    if "typeName" in field:
+        field["typeName"] = map_meaning(rename, field["typeName"])

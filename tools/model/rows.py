@@ -6,6 +6,8 @@ are read in the tests.
 import re
 
 P3 = 'syntax = "proto3"; '
+# The faults that the model tells with their places.
+OF_EXTENSIONS = (25, 27, 31, 36, 37, 38)
 ONE = P3 + "message A { string b_c = 1; }"
 ENUMS = (
     "message M { enum E { V = 0; } optional E e = 1 [default = V]; }"
@@ -49,6 +51,16 @@ def rows_of_tests(source):
 
 def values_of_table(table):
     return eval("".join(TEXT.findall(table)), {"__builtins__": {}})
+
+
+def rows_of_faults(source):
+    """The rows that a source of tests has of faults of extensions: texts by path, and the number, the path and the offset."""
+    for table in re.findall(r"^const \w+: &\[\(&str, &str\)\] = (.*?\];)$", source, re.S | re.M):
+        told = values_of_table("[" + ",".join(one for one in TEXT.findall(table) if one[0] == '"') + "]")
+        for given, said in zip(told[::2], told[1::2]):
+            fault = re.fullmatch(r"(\S+):(\d+): (\d+) \w+", said)
+            if fault and int(fault[3]) in OF_EXTENSIONS:
+                yield texts_of(given), int(fault[3]), fault[1], int(fault[2])
 
 
 def parts_of_row(kind, row):
@@ -148,4 +160,21 @@ ROWS = [
             ("V", "message", done("a.proto 42 V message")),
         ],
     ),
+]
+ONE_EXTENSION = "message M { extensions 100 to 199; } extend M { optional int32 x = %s; }"
+OF_TWO = {"a.proto": "message M { extensions 1; }", "b.proto": 'import "a.proto"; extend M { optional int32 x = 1; }'}
+# Files, and the least fault of extensions as it is printed.
+FAULTS = [
+    (ONE_EXTENSION % "100", ""),
+    (ONE_EXTENSION % "99", "a.proto:1:68: 36 NotExtendable"),
+    (ONE_EXTENSION % "200", "a.proto:1:68: 36 NotExtendable"),
+    ("extend M { optional int32 x = 5; } message M { extensions 9 to 1; }", "a.proto:1:31: 36 NotExtendable"),
+    ("message M { reserved 1; extensions 2; } extend M { optional int32 x = 1; }", "a.proto:1:71: 36 NotExtendable"),
+    ("message M { extensions 1; } extend M { optional int32 x = 0x1; repeated M y = 01; }", "a.proto:1:79: 37 DuplicateExtension"),
+    ({**OF_TWO, "c.proto": 'import "a.proto"; package c; extend M { optional int32 x = 1; }'}, "c.proto:1:60: 37 DuplicateExtension"),
+    ("message M { extensions 1; } extend M { required int32 x = 1; }", "a.proto:1:40: 38 RequiredExtension"),
+    ("message M { extensions 1; } extend M { int32 x = 1; }", "a.proto:1:40: 25 Label"),
+    ('message M { extensions 1; } extend M { optional int32 x = 1 [json_name = "q"]; }', "a.proto:1:62: 27 BadOption"),
+    ('message M { extensions 1; } extend M { optional int32 x = 1 [json_name = "x"]; }', "a.proto:1:62: 27 BadOption"),
+    (P3 + "message M {} extend M { required int32 x = 1; }", "a.proto:1:33: 31 NotInProto3"),
 ]

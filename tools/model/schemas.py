@@ -71,6 +71,7 @@ class Field:
     settings: list
     # The bytes of the statement, from its first token through its `;`.
     span: tuple = (0, 0)
+    number_at: int = 0
 
     def setting(self, name):
         return next((option.value for option in self.settings if option.name.text == name), None)
@@ -108,6 +109,15 @@ class Reserved:
 
 
 @dataclass
+class Extend:
+    """A block of extensions."""
+
+    keyword: Token
+    extendee: Reference
+    fields: list
+
+
+@dataclass
 class Block:
     """A message, an enum or a service."""
 
@@ -128,6 +138,10 @@ class Block:
         for member in self.members:
             found += [member] if isinstance(member, Field) else member.fields if isinstance(member, Oneof) else []
         return found
+
+    @property
+    def extension_ranges(self):
+        return [one for member in self.of(Reserved) if member.word == "extensions" for one in member.ranges]
 
     @property
     def reserved_names(self):
@@ -251,6 +265,8 @@ class Reader:
         elif self.takes("package"):
             file.package = tuple(token.text for token in self.dotted())
             file.package_end = self.take_end()
+        elif self.is_next("extend"):
+            file.members.append(self.extend())
         else:
             self.member(file.members, ("message", "enum", "service"))
 
@@ -308,6 +324,21 @@ class Reader:
             {"message": self.in_message, "enum": self.in_enum, "service": self.in_service}[kind](block.members)
         return block
 
+    def extend(self):
+        keyword = self.take()
+        extend = Extend(keyword, self.reference(), [])
+        self.take_text("{")
+        while not self.takes("}"):
+            if self.is_next("map"):
+                raise NoSchema("a map field in an extend")
+            extend.fields.append(self.labeled_field())
+        return extend
+
+    def labeled_field(self):
+        start = self.next().start
+        label = self.take().text if self.is_next("optional", "required", "repeated") else None
+        return self.field(label, start)
+
     def in_message(self, members):
         if self.takes("oneof"):
             oneof = Oneof(self.take("word"), [])
@@ -318,12 +349,12 @@ class Reader:
             members.append(oneof)
         elif self.is_next("reserved", "extensions"):
             members.append(self.reserved())
+        elif self.is_next("extend"):
+            members.append(self.extend())
         elif self.is_next(";", "option", "message", "enum"):
             self.member(members, ("message", "enum"))
         else:
-            start = self.next().start
-            label = self.take().text if self.is_next("optional", "required", "repeated") else None
-            members.append(self.field(label, start))
+            members.append(self.labeled_field())
 
     def field(self, label, start):
         key = None
@@ -337,9 +368,10 @@ class Reader:
             self.take_text(">")
         name = self.take("word")
         self.take_text("=")
-        number = number_value([self.take("number")])
+        written = self.take("number")
         settings = self.settings()
-        return Field(label, key, scalar, reference, name, number, settings, (start, self.take_end()))
+        span = (start, self.take_end())
+        return Field(label, key, scalar, reference, name, number_value([written]), settings, span, written.start)
 
     def reserved(self):
         found = Reserved(self.take().text)
@@ -397,19 +429,21 @@ class Symbol:
     kind: str
     file: Optional[int] = None
     token: Optional[Token] = None
-    # The block around it, and of a field or a value its node.
+    # The block around it, and its node: of a field, an extension or a value that one.
     block: object = field(default=None, compare=False)
     node: object = field(default=None, compare=False)
 
 
 @dataclass
 class Use:
-    """A reference, with its file and the full name of the message or service around it."""
+    """A reference, with its file and the full name of the message or service around it, or of what else is its scope.
+
+    It has the field or the extension whose type it is."""
 
     file: int
     scope: tuple
     reference: Reference
-    is_method: bool = False
+    wants_message: bool = False
     field: Optional[Field] = None
 
 
@@ -425,6 +459,8 @@ class Workspace:
         self.place_of = {file.path: place for place, file in enumerate(self.files)}
         self.symbols = list(self.declared())
         self.by_name = {symbol.name: symbol for symbol in self.symbols}
+        # Extend blocks with their files and scopes, in the order of paths and offsets.
+        self.extends = sorted(self.extended(), key=lambda found: (found[0], found[2].keyword.start))
         self.uses = sorted(self.used(), key=lambda use: (use.file, use.reference.first.start))
         self.shown = [self.shown_in(place) for place in range(len(self.files))]
 
@@ -446,6 +482,9 @@ class Workspace:
             elif isinstance(member, Oneof):
                 yield Symbol(above + (member.name.text,), "oneof", file, member.name, around, member)
                 yield from self.in_members(file, above, around, member.fields)
+            elif isinstance(member, Extend):
+                for one in member.fields:
+                    yield Symbol(above + (one.name.text,), "extension", file, one.name, member, one)
             elif isinstance(member, (Field, Value, Method)):
                 kind = type(member).__name__.lower()
                 yield Symbol(above + (member.name.text,), kind, file, member.name, around, member)
@@ -486,7 +525,21 @@ class Workspace:
 
     # ---- references
 
+    def extended(self):
+        for place, file in enumerate(self.files):
+            for extend in file.of(Extend):
+                yield place, file.package, extend
+        for symbol in self.symbols:
+            if symbol.kind == "message":
+                for extend in symbol.node.of(Extend):
+                    yield symbol.file, symbol.name, extend
+
     def used(self):
+        for file, scope, extend in self.extends:
+            yield Use(file, scope, extend.extendee, wants_message=True)
+            for field in extend.fields:
+                if field.reference:
+                    yield Use(file, scope, field.reference, field=field)
         for symbol in self.symbols:
             if symbol.kind == "message":
                 for field in symbol.node.fields:
@@ -495,7 +548,7 @@ class Workspace:
             elif symbol.kind == "service":
                 for method in symbol.node.of(Method):
                     for reference in (method.input, method.output):
-                        yield Use(symbol.file, symbol.name, reference, is_method=True)
+                        yield Use(symbol.file, symbol.name, reference, wants_message=True)
 
     def hit(self, use, words=None):
         """How many parts the longest prefix of the scope has at which the first word is visible and fits."""
@@ -536,7 +589,33 @@ class Workspace:
             found += self.faults_of_use(use)
         for symbol in self.symbols:
             found += self.faults_of_block(symbol) if symbol.kind in ("message", "enum") else []
-        return found
+        return found + list(self.faults_of_extends())
+
+    def faults_of_extends(self):
+        """Those of extensions, each with its path and offset."""
+        extendee_of = {id(use.reference): self.meaning(use) for use in self.uses if use.wants_message}
+        taken = set()
+        for file, _, extend in self.extends:
+            path = self.files[file].path
+            if self.files[file].syntax == "proto3":
+                yield 31, (path, extend.keyword.start)
+            extendee = self.by_name.get(extendee_of[id(extend.extendee)])
+            for field in extend.fields:
+                if field.label not in ("optional", "repeated"):
+                    yield 38 if field.label else 25, (path, field.span[0])
+                yield from ((27, (path, one.name.start)) for one in field.settings if one.name.text == "json_name")
+                if extendee and extendee.kind == "message":
+                    if not any(is_within(field.number, bounds) for bounds in extendee.node.extension_ranges):
+                        yield 36, (path, field.number_at)
+                    if (extendee.name, field.number) in taken:
+                        yield 37, (path, field.number_at)
+                    taken.add((extendee.name, field.number))
+
+    def written_place(self, place, offset):
+        """Path, line and column, as they are printed."""
+        file = self.files[place]
+        before = file.text[:offset]
+        return f"{file.path}:{before.count(chr(10)) + 1}:{len(before) - before.rfind(chr(10))}"
 
     def reaches(self, start, goal):
         seen, todo = set(), [start]
@@ -555,7 +634,7 @@ class Workspace:
             return [(14, use.reference.words)]
         symbol = self.by_name[meant]
         found = []
-        if use.is_method and symbol.kind == "enum":
+        if use.wants_message and symbol.kind == "enum":
             found.append((15, meant))
         if symbol.kind == "entry":
             found.append((16, meant))
@@ -589,14 +668,23 @@ class Workspace:
         names = block.reserved_names
         found += [(20, name) for name in set(names) if names.count(name) > 1]
         found += [(20, member.name.text) for member in members if member.name.text in names]
-        held = set()
+        held = []
         for reserved in block.of(Reserved):
-            for start, end in reserved.ranges:
-                last = max(start, 2000) if end is None else end
-                found += [(21, number) for number in range(start, last + 1) if number in held]
-                held.update(range(start, last + 1))
-                found += [(19, number) for number in numbers if start <= number and (end is None or number <= end)]
+            for bounds in reserved.ranges:
+                found += [(21, bounds) for other in held if shares(bounds, other)]
+                held.append(bounds)
+                found += [(19, number) for number in numbers if is_within(number, bounds)]
         return found
+
+
+def is_within(number, bounds):
+    start, end = bounds
+    return start <= number and (end is None or number <= end)
+
+
+def shares(bounds, other):
+    """Whether two ranges share a number: then one of them begins within the other."""
+    return is_within(max(bounds[0], other[0]), bounds) and is_within(max(bounds[0], other[0]), other)
 
 
 def fits(kind, words):

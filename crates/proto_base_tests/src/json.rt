@@ -22,6 +22,10 @@ enum Sample {
     MapField,
     /// A message with numbers that are left to extensions, and others that no field may have.
     Ranges,
+    /// A message with numbers that are left to extensions, and an extension of it.
+    Extension,
+    /// Messages, of which one has two extensions of the other in it.
+    NestedExtensions,
     /// An enum with a value, and numbers that no other may have.
     EnumRanges,
     /// A message with a field that has a default and an option.
@@ -51,6 +55,15 @@ const TEXTS: &[(Sample, &str)] = &[
     (
         Sample::Ranges,
         "{\"file\":[{\"messageType\":[{\"extensionRange\":[{\"end\":2,\"start\":1}],\"name\":\"M\",\"reservedRange\":[{\"end\":536870912,\"start\":2}]}],\"name\":\"a.proto\"}]}",
+    ),
+    (
+        Sample::Extension,
+        "{\"file\":[{\"extension\":[{\"extendee\":\".M\",\"label\":\"LABEL_OPTIONAL\",\"name\":\"x\",\"number\":100,\"type\":\"TYPE_INT32\"}],\"messageType\":[{\"extensionRange\":[{\"end\":200,\"start\":100}],\"name\":\"M\"}],\"name\":\"a.proto\"}]}",
+    ),
+    // As protoc writes them, but for the JSON names of the extensions.
+    (
+        Sample::NestedExtensions,
+        "{\"file\":[{\"messageType\":[{\"extensionRange\":[{\"end\":10,\"start\":4}],\"name\":\"M\"},{\"extension\":[{\"extendee\":\".p.M\",\"label\":\"LABEL_REPEATED\",\"name\":\"m\",\"number\":4,\"type\":\"TYPE_MESSAGE\",\"typeName\":\".p.M\"},{\"defaultValue\":\"7\",\"extendee\":\".p.M\",\"label\":\"LABEL_OPTIONAL\",\"name\":\"d\",\"number\":5,\"options\":{\"deprecated\":true},\"type\":\"TYPE_INT32\"}],\"field\":[{\"jsonName\":\"f\",\"label\":\"LABEL_OPTIONAL\",\"name\":\"f\",\"number\":1,\"type\":\"TYPE_INT32\"}],\"name\":\"P\"}],\"name\":\"a.proto\",\"package\":\"p\"}]}",
     ),
     (
         Sample::EnumRanges,
@@ -93,6 +106,7 @@ fn file_of<R: AllocGlobal + Abort>(rt: &R, name: &str, syntax: Syntax) -> FileDe
         message_type: Vec::new(rt.alloc()),
         enum_type: Vec::new(rt.alloc()),
         service: Vec::new(rt.alloc()),
+        extension: Vec::new(rt.alloc()),
         options: FileOptions {
             java_package: None,
             java_outer_classname: None,
@@ -113,6 +127,7 @@ fn message_of<R: AllocGlobal + Abort>(rt: &R, name: &str, map_entry: bool) -> Me
     MessageDescriptor {
         name: owned(rt, name),
         field: Vec::new(rt.alloc()),
+        extension: Vec::new(rt.alloc()),
         nested_type: Vec::new(rt.alloc()),
         enum_type: Vec::new(rt.alloc()),
         extension_range: Vec::new(rt.alloc()),
@@ -139,6 +154,7 @@ fn field_of<R: AllocGlobal + Abort>(
         label: Label::Optional,
         field_type,
         type_name: None,
+        extendee: None,
         default_value: None,
         oneof_index: None,
         json_name: Some(owned(rt, json_name)),
@@ -148,6 +164,19 @@ fn field_of<R: AllocGlobal + Abort>(
             deprecated: None,
         },
     }
+}
+
+fn extension_of<R: AllocGlobal + Abort>(
+    rt: &R,
+    name: &str,
+    number: u32,
+    field_type: FieldType,
+    extendee: &str,
+) -> FieldDescriptor {
+    let mut extension = field_of(rt, name, name, number, field_type);
+    extension.json_name = None;
+    set(rt, &mut extension.extendee, extendee);
+    extension
 }
 
 fn with_field<R: AllocGlobal + Abort>(rt: &R) -> MessageDescriptor {
@@ -181,6 +210,28 @@ fn with_ranges<R: AllocGlobal + Abort>(rt: &R) -> MessageDescriptor {
         end: 536870912,
     };
     push(rt, &mut message.reserved_range, reserved);
+    message
+}
+
+// A message whose numbers from `start` up to `end` are left to extensions.
+fn extendable<R: AllocGlobal + Abort>(rt: &R, start: u32, end: u32) -> MessageDescriptor {
+    let mut message = message_of(rt, "M", false);
+    push(rt, &mut message.extension_range, NumberRange { start, end });
+    message
+}
+
+fn with_extensions<R: AllocGlobal + Abort>(rt: &R) -> MessageDescriptor {
+    let mut message = message_of(rt, "P", false);
+    let mut typed = extension_of(rt, "m", 4, FieldType::Message, ".p.M");
+    typed.label = Label::Repeated;
+    set(rt, &mut typed.type_name, ".p.M");
+    push(rt, &mut message.extension, typed);
+    let mut defaulted = extension_of(rt, "d", 5, FieldType::Int32, ".p.M");
+    set(rt, &mut defaulted.default_value, "7");
+    defaulted.options.deprecated = Some(true);
+    push(rt, &mut message.extension, defaulted);
+    let field = field_of(rt, "f", "f", 1, FieldType::Int32);
+    push(rt, &mut message.field, field);
     message
 }
 
@@ -252,6 +303,20 @@ fn with_message<R: AllocGlobal + Abort>(
     file
 }
 
+fn with_extension<R: AllocGlobal + Abort>(rt: &R) -> FileDescriptor {
+    let mut file = with_message(rt, Syntax::Proto2, extendable(rt, 100, 200));
+    let extension = extension_of(rt, "x", 100, FieldType::Int32, ".M");
+    push(rt, &mut file.extension, extension);
+    file
+}
+
+fn with_nested_extensions<R: AllocGlobal + Abort>(rt: &R) -> FileDescriptor {
+    let mut file = with_message(rt, Syntax::Proto2, extendable(rt, 4, 10));
+    set(rt, &mut file.package, "p");
+    push(rt, &mut file.message_type, with_extensions(rt));
+    file
+}
+
 fn with_enum<R: AllocGlobal + Abort>(rt: &R) -> FileDescriptor {
     let mut file = file_of(rt, "a.proto", Syntax::Proto2);
     push(rt, &mut file.enum_type, enum_of(rt));
@@ -281,6 +346,8 @@ fn put<R: AllocGlobal + Abort>(rt: &R, files: &mut Vec<FileDescriptor>, sample: 
         Sample::Field => with_message(rt, Syntax::Proto3, with_field(rt)),
         Sample::MapField => with_message(rt, Syntax::Proto3, with_map_field(rt)),
         Sample::Ranges => with_message(rt, Syntax::Proto2, with_ranges(rt)),
+        Sample::Extension => with_extension(rt),
+        Sample::NestedExtensions => with_nested_extensions(rt),
         Sample::EnumRanges => with_enum(rt),
         Sample::Default => with_message(rt, Syntax::Proto2, with_default(rt)),
         Sample::PublicImport => with_import(rt),

@@ -97,10 +97,6 @@ const TEXTS: &[(&str, Said)] = &[
         "message M { optional int32 a = 1.5; }",
         Said::Fault(8, "Syntax", 12),
     ),
-    (
-        "extend M { optional int32 a = 1; }",
-        Said::Fault(8, "Syntax", 0),
-    ),
     ("message M { reserved -1; }", Said::Fault(8, "Syntax", 12)),
     ("import \"a.proto\" \"b\";", Said::Fault(8, "Syntax", 0)),
     ("", Said::Tree),
@@ -133,10 +129,56 @@ const TEXTS: &[(&str, Said)] = &[
     ),
 ];
 
+/// Texts with `extend` blocks, each with what is said of it.
+const EXTENDS: &[(&str, Said)] = &[
+    ("extend M { optional int32 a = 1; }", Said::Tree),
+    (
+        "message M { extend .a.M { int32 a = 1; M b = 2 [deprecated = true]; } } extend.N { }",
+        Said::Tree,
+    ),
+    (
+        "message M { extensions 100; } extend M { ; }",
+        Said::Fault(8, "Syntax", 41),
+    ),
+    (
+        "extend M { map<string, string> m = 1; }",
+        Said::Fault(8, "Syntax", 11),
+    ),
+    (
+        "extend M { option deprecated = true; }",
+        Said::Fault(8, "Syntax", 11),
+    ),
+    ("extend M { extend N { } }", Said::Fault(8, "Syntax", 11)),
+    (
+        "extend M { optional group G = 1 { } }",
+        Said::Fault(8, "Syntax", 11),
+    ),
+    (
+        "extend M { oneof o { int32 a = 1; } }",
+        Said::Fault(8, "Syntax", 11),
+    ),
+    ("extend M { reserved 1; }", Said::Fault(8, "Syntax", 11)),
+    ("extend M { };", Said::Tree),
+    (
+        "extend M optional int32 a = 1;",
+        Said::Fault(8, "Syntax", 0),
+    ),
+    ("service S { extend M { } }", Said::Fault(8, "Syntax", 12)),
+    ("extend message { }", Said::Fault(8, "Syntax", 0)),
+    ("message M { extend N = 1; }", Said::Fault(8, "Syntax", 12)),
+];
+
 /// Braces that are too many: a piece of a text, how often it stands there, the same of a piece behind it, and the fault.
 const DEEP: &[(&str, usize, &str, usize, Said)] = &[
     ("message M{", 33, "}", 33, Said::Fault(9, "TooDeep", 329)),
     ("{", 33, "", 0, Said::Fault(9, "TooDeep", 32)),
+    (
+        "message M{",
+        32,
+        "extend M{",
+        1,
+        Said::Fault(9, "TooDeep", 328),
+    ),
     // A `}` with no brace open closes none.
     ("}", 1, "{", 33, Said::Fault(9, "TooDeep", 33)),
 ];
@@ -144,6 +186,9 @@ const DEEP: &[(&str, usize, &str, usize, Said)] = &[
 #[test]
 fn texts_with_and_without_a_tree(rt: HostRuntime) {
     for (text, said) in TEXTS {
+        expect(&rt, is_answer(&rt, text, said), text);
+    }
+    for (text, said) in EXTENDS {
         expect(&rt, is_answer(&rt, text, said), text);
     }
     for (first, count, second, more, said) in DEEP {

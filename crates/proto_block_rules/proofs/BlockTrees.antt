@@ -6,6 +6,7 @@ use Rattle.proto_tree.specs.declared.piece.Header.TheVariants as header
 use Rattle.proto_tree.specs.declared.tree.Block.{Block as Braced}
 use Rattle.proto_tree.specs.declared.tree.EnumItem.{EnumItem}
 use Rattle.proto_tree.specs.declared.tree.EnumItem.TheVariants as enum_item
+use Rattle.proto_tree.specs.declared.tree.Extend.{Extend}
 use Rattle.proto_tree.specs.declared.tree.Field.{Field}
 use Rattle.proto_tree.specs.declared.tree.Member.{Member}
 use Rattle.proto_tree.specs.declared.tree.MethodEnd.{MethodEnd}
@@ -15,6 +16,7 @@ use Rattle.proto_tree.specs.declared.tree.MethodItem.TheVariants as method_item
 use Rattle.proto_tree.specs.declared.tree.ServiceItem.{ServiceItem}
 use Rattle.proto_tree.specs.declared.tree.ServiceItem.TheVariants as service_item
 use Rattle.proto_tree.specs.declared.tree.Signature.{Signature}
+use Rattle.proto_tree.specs.File.{extend_tree, extension_tree}
 use Rattle.proto_tree.proofs.Common.{enum_item_tree, enum_tree, field_tree, member_tree, message_tree, method_by, method_item_tree, oneof_tree, service_item_tree, service_tree, trees, Tree, End, Leaf, Block, joined}
 use Rattle.proto_meaning.specs.Forest.{under}
 use Rattle.proto_findings.proofs.Common.{Found, Reading, reading_of, text}
@@ -89,6 +91,10 @@ module _ (w : Walk) where
   pub finds_of_oneof : (scope : List ℕ) (o : Braced Field) → walk_finds w scope (oneof_tree o) ≡ oneof_finds w.rules.now.chosen r scope o.name
   finds_of_oneof scope o =
       finds_of_flat scope (header.Oneof (record { keyword = o.keyword; name = o.name })) o.open (trees field_tree o.members.items) o.close (no_finds field_tree scope (λ f. refl) o.members.items)
+
+  pub finds_of_extend : (scope : List ℕ) (e : Extend) → walk_finds w scope (extend_tree e) ≡ []
+  finds_of_extend scope e =
+      finds_of_flat scope (header.Extend (record { keyword = e.keyword; extendee = e.extendee })) e.open (trees extension_tree e.fields.items) e.close (no_finds extension_tree scope (λ x. refl) e.fields.items)
 
   pub finds_of_enum : (scope : List ℕ) (e : Braced EnumItem) → walk_finds w scope (enum_tree e) ≡ enum_finds w.rules.now.chosen r scope e.name (trees enum_item_tree e.members.items)
   finds_of_enum scope e =

@@ -34,7 +34,7 @@ all_messages files reads = messages_from files reads 0 reads
 -- ---- what is found
 
 -- what the rules find at a block in a scope, without the blocks in it (a method's block has none),
--- where these are the messages of all methods
+-- where these are the messages of all methods; an extension is no field of a message
 abbrev pub block_finds : List Bool → Reading → List Text → Text → Header → Tree → List Found
 block_finds rules r all scope (header.Message h) within = message_finds rules r scope h.name within
 block_finds rules r all scope (header.Oneof h) within = oneof_finds rules r scope h.name
@@ -42,6 +42,7 @@ block_finds rules r all scope (header.Enum h) within = enum_finds rules r scope 
 block_finds rules r all scope (header.Service h) within =
     service_finds rules r scope h.name ++ methods_finds rules r all scope h.name within
 block_finds rules r all scope (header.Method s) within = []
+block_finds rules r all scope (header.Extend e) within = []
 
 -- what the rules find at some blocks, each in its scope
 abbrev pub blocks_finds : List Bool → Reading → List Text → List Scoped → List Found

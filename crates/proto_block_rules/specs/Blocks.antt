@@ -14,13 +14,15 @@ pub record Scoped : Type 0 where
   pub header : Header
   pub within : Tree
 
--- the scope in a block (what stands in an enum or in a oneof is declared beside it)
+-- the scope in a block (what stands in an enum, in a oneof or in an `extend` block is declared
+-- beside it)
 abbrev pub scope_within : Reading → Text → Header → Text
 scope_within r scope (header.Message h) = under scope (text r h.name)
 scope_within r scope (header.Service h) = under scope (text r h.name)
 scope_within r scope (header.Oneof h) = scope
 scope_within r scope (header.Enum h) = scope
 scope_within r scope (header.Method s) = scope
+scope_within r scope (header.Extend e) = scope
 
 -- the blocks of a tree, each before those in it
 abbrev pub blocks_in : Reading → Text → Tree → List Scoped

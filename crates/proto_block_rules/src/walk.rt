@@ -62,7 +62,7 @@ fn add_members(
 }
 
 #[cycle(members)]
-#[tactic(auto, using(crate::proofs::BlockTrees::finds_of_oneof, crate::proofs::BlockTrees::finds_of_enum))]
+#[tactic(auto, using(crate::proofs::BlockTrees::finds_of_oneof, crate::proofs::BlockTrees::finds_of_enum, crate::proofs::BlockTrees::finds_of_extend))]
 fn add_member(
     alloc: Global,
     found: &mut Vec<Found>,
@@ -77,11 +77,12 @@ fn add_member(
         Member::Message(message) => add_message_block(alloc, found, walk, scope, message),
         Member::Oneof(oneof) => add_oneof(alloc, found, walk.rules, walk.reading, scope, oneof),
         Member::Enum(names) => add_enum(alloc, found, walk.rules, walk.reading, scope, names),
+        Member::Extend(_) => Ok(()),
         _ => Ok(()),
     }
 }
 
-#[tactic(auto, using(crate::proofs::BlockTrees::finds_of_enum, crate::proofs::BlockTrees::finds_of_service))]
+#[tactic(auto, using(crate::proofs::BlockTrees::finds_of_enum, crate::proofs::BlockTrees::finds_of_service, crate::proofs::BlockTrees::finds_of_extend))]
 fn add_item(
     alloc: Global,
     found: &mut Vec<Found>,
@@ -103,6 +104,7 @@ fn add_item(
         Item::Service(service) => {
             add_service(alloc, found, rules, reading, messages, scope, service)
         }
+        Item::Extend(_) => Ok(()),
         _ => Ok(()),
     }
 }

@@ -2,7 +2,7 @@
 use Rattle.std.proofs.Common.{◌≡◌, ◌↔◌, ℕ, Bool, true, false, IsTrue, List, Option, Some, None, option_map, refl, sym, ap, ap₂, ◌∙◌}
 use Rattle.std.proofs.lemmas.Option.{none-some, same_Some}
 use Rattle.proto_meaning.specs.declared.kind.Kind.{Kind}
-use Rattle.proto_meaning.specs.declared.kind.Kind.TheVariants.{Package, Message, Entry, Enum, Service, Field, EntryField, Oneof, Value, Method}
+use Rattle.proto_meaning.specs.declared.kind.Kind.TheVariants.{Package, Message, Entry, Enum, Service, Field, EntryField, Oneof, Value, Method, Extension}
 use Rattle.proto_meaning.proofs.Common.{At, at, is_package}
 use Rattle.proto_names.specs.Linking.{LinkOf, NameOf, name_at, text_at}
 use Rattle.proto_rename_laws.specs.Targets.{may_rename}
@@ -23,6 +23,7 @@ package_stays EntryField e = absurd cc
 package_stays Oneof e = absurd cc
 package_stays Value e = absurd cc
 package_stays Method e = absurd cc
+package_stays Extension e = absurd cc
 
 -- a name with no place of its own is none that may be renamed
 pub unmoved : (l : LinkOf) (row : ℕ) (text : List ℕ) → text_at l row ≡ Some text → ((n : NameOf) → name_at l row ≡ Some n → is_package n.kind ≡ true) → HasUnmoved l text

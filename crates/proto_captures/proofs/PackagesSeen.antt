@@ -6,8 +6,8 @@ use Rattle.proto_files.proofs.Common.{ReadOf, AreRead, read_at, FileOf, file_at}
 use Rattle.proto_imports.proofs.Common.{link_skeleton, names_in, names_of_files, text_of, name_in, plain_join}
 use Rattle.proto_listing.proofs.Common.{items_in, items_below, package_first, same_declared, tree_span}
 use Rattle.proto_meaning.specs.declared.kind.Kind.{Kind}
-use Rattle.proto_meaning.specs.declared.kind.Kind.TheVariants.{Package, Field, Value, Method}
-use Rattle.proto_meaning.proofs.Common.{under, At, at, declared_of, ArePlain, IsPlain, joined, is_package, Symbol, Source, Token, name_of, shifted_declared, spell, symbol_of, Items, no_items, packaged, item, Member, field, map_field, oneof, message, enum, service, Members, no_members, member, Placed, place, placed, all_placed, prefixes, package_of, file_placed, ItemsSpan, map_append, map_map, prefix_whole}
+use Rattle.proto_meaning.specs.declared.kind.Kind.TheVariants.{Package, Field, Value, Method, Extension}
+use Rattle.proto_meaning.proofs.Common.{under, At, at, declared_of, ArePlain, IsPlain, joined, is_package, Symbol, Source, Token, name_of, shifted_declared, spell, symbol_of, Items, no_items, packaged, item, Member, field, map_field, oneof, message, enum, extend, service, Members, no_members, member, Placed, place, placed, all_placed, prefixes, package_of, file_placed, ItemsSpan, map_append, map_map, prefix_whole}
 use Rattle.proto_rename_laws.proofs.Common.{declared_by, declared_there, index_map}
 use Rattle.proto_table.proofs.Search.{joined_more}
 use Rattle.proto_tree.specs.Tree.{End}
@@ -37,6 +37,7 @@ mutual
   none_of (message t ms) path = (refl, none_in ms (path ++ Token t ∷ []))
   none_of (enum t vs) path = (refl, none_tokens path Value refl vs)
   none_of (service t ms) path = (refl, none_tokens (path ++ Token t ∷ []) Method refl ms)
+  none_of (extend ts) path = none_tokens path Extension refl ts
 
   none_in : (ms : Members) (path : List (Source ℕ)) → NoPackages (all_placed path ms)
   none_in no_members path = tt

@@ -61,8 +61,13 @@ fn may_rename(kind: Kind) -> bool
     ensures { result ≡ may_rename kind }
 {
     match kind {
-        Kind::Message | Kind::Enum | Kind::Service | Kind::Field | Kind::Value | Kind::Method =>
-            true,
+        Kind::Message
+        | Kind::Enum
+        | Kind::Service
+        | Kind::Field
+        | Kind::Extension
+        | Kind::Value
+        | Kind::Method => true,
         _ => false,
     }
 }

@@ -1,10 +1,12 @@
 -- The blocks of trees that stand one behind another.
 use Rattle.std.proofs.Common.{◌≡◌, ℕ, false, ◌==◌, ◌<◌, List, [], ◌∷◌, ◌++◌, length, flat_map, refl, sym, ap, ◌∙◌, inl, inr, arith, eqb-true, append-nil}
 use Rattle.proto_faults.proofs.Common.{cases_Bool, flat_map-append}
+use Rattle.proto_tree.specs.declared.tree.Extension.{Extension}
 use Rattle.proto_tree.specs.declared.tree.Field.{Field}
 use Rattle.proto_tree.specs.declared.tree.EnumItem.{EnumItem}
 use Rattle.proto_tree.specs.declared.tree.MethodItem.{MethodItem}
 use Rattle.proto_tree.specs.declared.piece.Header.{Header}
+use Rattle.proto_tree.specs.File.{extension_tree}
 use Rattle.proto_tree.proofs.Common.{Tree, End, Block, joined, trees, field_tree, enum_item_tree, method_item_tree}
 use Rattle.proto_parts.proofs.Common.{BlockOf, blocks_in, statements, Scene, no_block_in_enum, no_block_in_method, no_blocks, blocks_joined}
 use Rattle.proto_numbers.specs.declared.flaw.Flaw.{Flaw}
@@ -40,6 +42,9 @@ flaws_of_method scene h i items j = flaws_of_flat scene h i (trees method_item_t
 
 pub flaws_of_oneof : (scene : Scene) (h : Header) (i : ℕ) (fields : List Field) (j : ℕ) → flaws_in_blocks scene (Block h i (trees field_tree fields) j End) ≡ block_flaws scene h (trees field_tree fields)
 flaws_of_oneof scene h i fields j = flaws_of_flat scene h i (trees field_tree fields) j (no_blocks field_tree (λ f. refl) fields)
+
+pub flaws_of_extend : (scene : Scene) (h : Header) (i : ℕ) (extensions : List Extension) (j : ℕ) → flaws_in_blocks scene (Block h i (trees extension_tree extensions) j End) ≡ block_flaws scene h (trees extension_tree extensions)
+flaws_of_extend scene h i extensions j = flaws_of_flat scene h i (trees extension_tree extensions) j (no_blocks extension_tree (λ x. refl) extensions)
 
 pub no_fields : (fields : List Field) → is_empty (statements (trees field_tree fields)) ≡ (length fields == 0)
 no_fields [] = refl

@@ -14,11 +14,12 @@ use Rattle.proto_tree.specs.declared.tree.Signed.{Signed}
 use Rattle.proto_tree.specs.declared.tree.Value.{Value}
 use Rattle.proto_tree.specs.Tree.{Tree}
 use Rattle.proto_parts.proofs.Common.{is_named, is_one_of, FieldOf, OptionOf, BlockOf, statements, fields_in, values_in, closed_ranges, enum_ranges, reserved_names_in, options_in, blocks_in, Scene, text, number_at, signed_at, uncapped, has_label}
+use Rattle.proto_parts.specs.declared.options.Element.{Element}
 use Rattle.proto_parts.specs.declared.options.Element.TheVariants as element
 use Rattle.proto_numbers.specs.declared.flaw.Flaw.{Flaw}
 use Rattle.proto_checks.specs.Capped.{CapsKeepTheLeast}
 use Rattle.proto_numbers.proofs.Common.{flaw, flaw_if, marked, first_of_signed, number_of_field, number_of_value, range_of, enum_range_of, most_field, least_value, most_value, is_within, is_field_number, is_value_number, outside, is_sound_range, broken_ranges, reserved_numbers, overlaps, repeated_numbers, end_of, field_number_flaws, Alike, AlikeCaps, equal_alike, within_alike, caps_back, past_or_none, capped, alike_at, alike_signed, alike_end, field_limit, value_limit}
-use Rattle.proto_checks.specs.Common.{option_flaws, packed_flaws, default_flaws, proto3_defaults, wrong_default, type_flaws, is_default_of, is_scalar_default, holds_number, signed_32, signed_64, unsigned_32, unsigned_64, field_flaws, name_flaws, json_clashes, extension_flaws, message_flaws, allows_alias, alias_flaws, first_value_flaws, value_number_flaws, value_option_flaws, is_empty, enum_flaws, block_flaws, file_flaws}
+use Rattle.proto_checks.specs.Common.{extend_flaws, flaws_of_extension, required_extensions, option_flaws, packed_flaws, default_flaws, proto3_defaults, wrong_default, type_flaws, is_default_of, is_scalar_default, holds_number, signed_32, signed_64, unsigned_32, unsigned_64, field_flaws, name_flaws, json_clashes, extension_flaws, message_flaws, allows_alias, alias_flaws, first_value_flaws, value_number_flaws, value_option_flaws, is_empty, enum_flaws, block_flaws, file_flaws}
 use Rattle.proto_numbers.proofs.CappedCovers.{Beneath, Covered, covered_equal, covered_join, covered_more, covered_unless, covered_flat, least_kept}
 use Rattle.proto_numbers.proofs.CappedRanges.{outside_here, outside_same, covered_repeated, broken_here, broken_same, sound_same, inside_same, covered_overlaps, covered_reserved}
 use Rattle.proto_checks.proofs.KnownNames.{flat_map_same}
@@ -73,9 +74,9 @@ module _ (scene : Scene) (c d : Option ℕ) (caps : AlikeCaps c d) where
   default_same : (f : FieldOf) → default_flaws one f ≡ default_flaws two f
   default_same f = ap (λ l. if scene.is_proto3 then [] else l) (wrong_default_same f (find (is_named (text scene) (codes "default")) f.options))
 
-  field_same : (f : FieldOf) → field_flaws one f ≡ field_flaws two f
-  field_same f =
-      ap (λ l. type_flaws one f ++ (option_flaws one element.Field f.options ++ (packed_flaws one f ++ (l ++ proto3_defaults one f)))) (default_same f)
+  field_same : (on : Element) (f : FieldOf) → field_flaws one on f ≡ field_flaws two on f
+  field_same on f =
+      ap (λ l. type_flaws one f ++ (option_flaws one on f.options ++ (packed_flaws one f ++ (l ++ proto3_defaults one f)))) (default_same f)
 
   -- ---- messages
 
@@ -144,10 +145,10 @@ module _ (scene : Scene) (c d : Option ℕ) (caps : AlikeCaps c d) where
   covered_message within =
       let fs : List FieldOf = fields_in within in
       let rs : List (Range ℕ) = flat_map closed_ranges (statements within) in
-      let fields : List Flaw = flat_map (field_flaws two) fs in
+      let fields : List Flaw = flat_map (field_flaws two element.Field) fs in
       let rest : List Flaw = name_flaws scene (reserved_names_in within) (map (λ f. f.name) fs) ++ (json_clashes scene fs ++ (extension_flaws scene within ++ option_flaws scene element.Message (options_in within))) in
-      covered_join (message_flaws two within) (flat_map (field_flaws one) fs) fields (parts fs rs c ++ rest) (parts fs rs d ++ rest)
-      (covered_equal (message_flaws two within) (flat_map (field_flaws one) fs) fields (flat_map_same (field_flaws one) (field_flaws two) field_same fs))
+      covered_join (message_flaws two within) (flat_map (field_flaws one element.Field) fs) fields (parts fs rs c ++ rest) (parts fs rs d ++ rest)
+      (covered_equal (message_flaws two within) (flat_map (field_flaws one element.Field) fs) fields (flat_map_same (field_flaws one element.Field) (field_flaws two element.Field) (field_same element.Field) fs))
       (covered_join (message_flaws two within) (parts fs rs c) (parts fs rs d) rest rest
       (covered_more (parts fs rs d) (message_flaws two within) (parts fs rs c) (parts fs rs d) (in_second fields (parts fs rs d) rest) (covered_fields fs rs))
       (covered_equal (message_flaws two within) rest rest refl))
@@ -253,12 +254,26 @@ module _ (scene : Scene) (c d : Option ℕ) (caps : AlikeCaps c d) where
       (covered_more (value_parts within vs rs d) (enum_flaws two name within) (value_parts within vs rs c) (value_parts within vs rs d) (in_second empty (value_parts within vs rs d) rest) (covered_values within vs rs))
       (covered_equal (enum_flaws two name within) rest rest refl))
 
+  -- ---- `extend` blocks: their flaws are the same
+
+  extension_same : (f : FieldOf) → flaws_of_extension one f ≡ flaws_of_extension two f
+  extension_same f = ap (λ l. required_extensions one f.label ++ l) (field_same element.Extension f)
+
+  extend_same : (keyword : ℕ) (within : Tree) → extend_flaws one keyword within ≡ extend_flaws two keyword within
+  extend_same keyword within =
+      let fs : List FieldOf = fields_in within in
+      let wrong : List Flaw = flaw_if scene.is_proto3 kind.NotInProto3 keyword in
+      ap (λ l. wrong ++ (l ++ flat_map (flaws_of_extension one) fs))
+      (outside_same is_field_number field_limit (λ x. x.number) (λ (f : FieldOf). number_at one f.number) (λ (f : FieldOf). number_at two f.number) (λ f. alike_at scene c d caps f.number) fs)
+      ∙ ap (λ l. wrong ++ (outside is_field_number (map (number_of_field two) fs) ++ l)) (flat_map_same (flaws_of_extension one) (flaws_of_extension two) extension_same fs)
+
   -- ---- the file
 
   covered_block : (h : Header) (within : Tree) → Covered (block_flaws two h within) (block_flaws one h within) (block_flaws two h within)
   covered_block (header.Message h) within = covered_message within
   covered_block (header.Oneof h) within = covered_equal (block_flaws two (header.Oneof h) within) (block_flaws one (header.Oneof h) within) (block_flaws two (header.Oneof h) within) refl
   covered_block (header.Enum h) within = covered_enum h.name within
+  covered_block (header.Extend e) within = covered_equal (block_flaws two (header.Extend e) within) (block_flaws one (header.Extend e) within) (block_flaws two (header.Extend e) within) (extend_same e.keyword within)
   covered_block whole within = covered_equal (block_flaws two whole within) (block_flaws one whole within) (block_flaws two whole within) refl
 
   pub covered_file : (tree : Tree) → Covered (file_flaws two tree) (file_flaws one tree) (file_flaws two tree)

@@ -33,7 +33,7 @@ use Rattle.proto_numbers.specs.declared.flaw.Flaw.{Flaw}
 use Rattle.proto_numbers.specs.declared.numbers.NumberAt.{NumberAt}
 use Rattle.proto_parts.specs.declared.ranges.RangeAt.{RangeAt}
 use Rattle.proto_numbers.proofs.Common.{after_earlier, flaw_if, marked, broken_ranges, enum_range_of, first_of_signed, is_field_number, is_inside, is_sound_range, is_value_number, least_value, most_field, most_value, number_of_field, number_of_value, outside, overlaps, range_of, repeated_numbers, reserved_numbers, share, field_number_flaws}
-use Rattle.proto_checks.specs.Common.{default_flaws, field_flaws, has_closed_enum, lacks_label, map_key_flaws, misplaced_options, option_flaws, packed_flaws, proto3_defaults, repeated_options, required_flaws, starts_wrong, type_flaws, type_token, wrong_default, alias_flaws, allows_alias, block_flaws, enum_flaws, extension_flaws, file_flaws, first_value_flaws, is_empty, json_clashes, message_flaws, name_flaws, reserved_again, value_number_flaws, value_option_flaws, with_reserved_name}
+use Rattle.proto_checks.specs.Common.{extend_flaws, flaws_of_extension, required_extensions, default_flaws, field_flaws, has_closed_enum, lacks_label, map_key_flaws, misplaced_options, option_flaws, packed_flaws, proto3_defaults, repeated_options, required_flaws, starts_wrong, type_flaws, type_token, wrong_default, alias_flaws, allows_alias, block_flaws, enum_flaws, extension_flaws, file_flaws, first_value_flaws, is_empty, json_clashes, message_flaws, name_flaws, reserved_again, value_number_flaws, value_option_flaws, with_reserved_name}
 
 -- ---- lists
 
@@ -362,10 +362,10 @@ module _ (Here : ℕ → Type 0) where
         go true on = flaw_here _ kind.BadDefault o.name h.0
         go false on = on
 
-    field_stands : (f : FieldOf) → FieldHere f → Stand (field_flaws scene f)
-    field_stands f h =
+    field_stands : (on : Element) (f : FieldOf) → FieldHere f → Stand (field_flaws scene on f)
+    field_stands on f h =
         join (type_flaws scene f) _ (types_stand f h)
-        (join (option_flaws scene element.Field f.options) _ (options_stand element.Field f.options h.of_options)
+        (join (option_flaws scene on f.options) _ (options_stand on f.options h.of_options)
         (join (packed_flaws scene f) _ (each (λ o. Here o.name) _ (λ o m. flaw_here _ kind.BadOption o.name m) f.options h.of_options)
         (join (default_flaws scene f) (proto3_defaults scene f)
         (either scene.is_proto3 [] (wrong_default scene f (find (is_named (text scene) (codes "default")) f.options)) tt (wrong_default_stand f f.options h.of_options (is_named (text scene) (codes "default"))))
@@ -392,7 +392,7 @@ module _ (Here : ℕ → Type 0) where
         let f = all_fields_here 0 within m in
         let r = mapped (λ x. Here x.first) (λ x. Here x.token) (range_of scene) (λ x h. h) (flat_map closed_ranges (statements within)) (parts_here (λ x. Here x.first) closed_ranges closed_here within m) in
         let n = mapped FieldHere (λ x. Here x.token) (number_of_field scene) (λ x h. h.of_number) fs f in
-        join (flat_map (field_flaws scene) fs) _ (each FieldHere (field_flaws scene) field_stands fs f)
+        join (flat_map (field_flaws scene element.Field) fs) _ (each FieldHere (field_flaws scene element.Field) (field_stands element.Field) fs f)
         (join (field_number_flaws rs ns) _ (field_numbers_here rs ns r n)
         (join (name_flaws scene (reserved_names_in within) (map (λ x. x.name) fs)) _ (names_stand (reserved_names_in within) (map (λ x. x.name) fs) (parts_here Here reserved_names reserved_here within m) (field_names_here fs f))
         (join (json_clashes scene fs) _ (json_stand fs f)
@@ -428,6 +428,21 @@ module _ (Here : ℕ → Type 0) where
         (each Value_here (value_option_flaws scene) (λ x h. options_stand element.EnumValue (settings_of x.settings) (value_parts x h).1.1) vs v)
         (options_stand element.Enum (options_in within) (parts_here (λ o. Here o.name) statement_options option_here within m)))))
 
+    required_extension_stands : (o : Option ℕ) → Maybe_here o → Stand (required_extensions scene o)
+    required_extension_stands None h = tt
+    required_extension_stands (Some t) h = flaw_here _ kind.RequiredExtension t h
+
+    extension_stands : (f : FieldOf) → FieldHere f → Stand (flaws_of_extension scene f)
+    extension_stands f h = join (required_extensions scene f.label) _ (required_extension_stands f.label h.of_label) (field_stands element.Extension f h)
+
+    extend_stands : (keyword : ℕ) (within : Tree) → Here keyword → Marks (flat within) → Stand (extend_flaws scene keyword within)
+    extend_stands keyword within here m =
+        let fs : List FieldOf = fields_in within in
+        let f = all_fields_here 0 within m in
+        join (flaw_if scene.is_proto3 kind.NotInProto3 keyword) _ (flaw_here scene.is_proto3 kind.NotInProto3 keyword here)
+        (join (outside is_field_number (map (number_of_field scene) fs)) _ (outside_here is_field_number (map (number_of_field scene) fs) (mapped FieldHere (λ x. Here x.token) (number_of_field scene) (λ x h. h.of_number) fs f))
+        (each FieldHere (flaws_of_extension scene) extension_stands fs f))
+
     block_stands : (b : BlockOf) → BlockHere b → Stand (block_flaws scene b.header b.within)
     block_stands b h = go b.header h.of_header
       where
@@ -437,6 +452,7 @@ module _ (Here : ℕ → Type 0) where
         go (header.Enum x) m = enum_stands x.name b.within m.1.0 h.of_within
         go (header.Service x) m = options_stand element.Service (options_in b.within) (parts_here (λ o. Here o.name) statement_options option_here b.within h.of_within)
         go (header.Method s) m = options_stand element.Method (options_in b.within) (parts_here (λ o. Here o.name) statement_options option_here b.within h.of_within)
+        go (header.Extend e) m = extend_stands e.keyword b.within m.0 h.of_within
 
     file_stands : (tree : Tree) → Marks (flat tree) → Stand (file_flaws scene tree)
     file_stands tree m =

@@ -15,7 +15,7 @@ use Rattle.proto_numbers.specs.declared.flaw.Flaw.{Flaw}
 use Rattle.proto_numbers.specs.declared.numbers.NumberAt.{NumberAt}
 use Rattle.proto_parts.specs.declared.ranges.RangeAt.{RangeAt}
 use Rattle.proto_numbers.proofs.Common.{flaw, flaw_if, after_earlier, marked, number_of_field, number_of_value, range_of, enum_range_of, most_field, least_value, most_value, is_field_number, is_value_number, outside, is_sound_range, broken_ranges, is_inside, reserved_numbers, share, overlaps, repeated_numbers, field_number_flaws}
-use Rattle.proto_checks.specs.Common.{option_flaws, type_token, lacks_label, required_flaws, no_map_keys, map_key_flaws, starts_wrong, has_closed_enum, may_be_packed, packed_flaws, may_default, wrong_default, default_flaws, proto3_defaults, type_flaws, field_flaws, name_flaws, json_clashes, extension_flaws, message_flaws, allows_alias, alias_flaws, first_value_flaws, is_empty, value_number_flaws, value_option_flaws, enum_flaws, block_flaws, file_flaws}
+use Rattle.proto_checks.specs.Common.{extend_flaws, flaws_of_extension, required_extensions, option_flaws, type_token, lacks_label, required_flaws, no_map_keys, map_key_flaws, starts_wrong, has_closed_enum, may_be_packed, packed_flaws, may_default, wrong_default, default_flaws, proto3_defaults, type_flaws, field_flaws, name_flaws, json_clashes, extension_flaws, message_flaws, allows_alias, alias_flaws, first_value_flaws, is_empty, value_number_flaws, value_option_flaws, enum_flaws, block_flaws, file_flaws}
 
 abbrev IsOfChecks : Flaw → Type 0
 IsOfChecks f = phase_of f.kind ≡ 6
@@ -100,10 +100,10 @@ of_default scene f = either scene.is_proto3 none (of_wrong_default scene f (find
 of_proto3_default : (scene : Scene) (f : FieldOf) → AreOfChecks (proto3_defaults scene f)
 of_proto3_default scene f = each_if (λ (o : OptionOf). scene.is_proto3 && is_named (text scene) (codes "default") o) kind.NotInProto3 (λ o. o.name) f.options refl
 
-of_field : (scene : Scene) (f : FieldOf) → AreOfChecks (field_flaws scene f)
-of_field scene f =
+of_field : (scene : Scene) (on : Element) (f : FieldOf) → AreOfChecks (field_flaws scene on f)
+of_field scene on f =
     both (of_type scene f)
-    (both (of_options scene element.Field f.options)
+    (both (of_options scene on f.options)
     (both (of_packed scene f)
     (both (of_default scene f)
     (of_proto3_default scene f))))
@@ -131,7 +131,7 @@ of_extensions scene within = each_if (λ (t : ℕ). scene.is_proto3) kind.NotInP
 
 of_message : (scene : Scene) (within : Tree) → AreOfChecks (message_flaws scene within)
 of_message scene within =
-    both (each (field_flaws scene) (fields_in within) (of_field scene))
+    both (each (field_flaws scene element.Field) (fields_in within) (of_field scene element.Field))
     (both (of_field_numbers (map (range_of scene) (flat_map closed_ranges (statements within))) (map (number_of_field scene) (fields_in within)))
     (both (of_names scene (reserved_names_in within) (map (λ (f : FieldOf). f.name) (fields_in within)))
     (both (of_json_names scene (fields_in within))
@@ -165,6 +165,18 @@ of_enum scene name within =
     (both (each (value_option_flaws scene) (values_in within) (of_value scene))
     (of_options scene element.Enum (options_in within)))))
 
+-- ---- `extend` blocks
+
+of_required_extension : (scene : Scene) (label : Option ℕ) → AreOfChecks (required_extensions scene label)
+of_required_extension scene None = none
+of_required_extension scene (Some t) = one_if (bytes_eq (text scene t) (codes "required")) kind.RequiredExtension t refl
+
+of_extend : (scene : Scene) (keyword : ℕ) (within : Tree) → AreOfChecks (extend_flaws scene keyword within)
+of_extend scene keyword within =
+    both (one_if scene.is_proto3 kind.NotInProto3 keyword refl)
+    (both (of_limits is_field_number (map (number_of_field scene) (fields_in within)))
+    (each (flaws_of_extension scene) (fields_in within) (λ f. both (of_required_extension scene f.label) (of_field scene element.Extension f))))
+
 -- ---- blocks, and the file
 
 of_block : (scene : Scene) (h : Header) (within : Tree) → AreOfChecks (block_flaws scene h within)
@@ -173,6 +185,7 @@ of_block scene (header.Oneof h) within = one_if (is_empty (statements within)) k
 of_block scene (header.Enum h) within = of_enum scene h.name within
 of_block scene (header.Service h) within = of_options scene element.Service (options_in within)
 of_block scene (header.Method s) within = of_options scene element.Method (options_in within)
+of_block scene (header.Extend e) within = of_extend scene e.keyword within
 
 of_file : (scene : Scene) (tree : Tree) → AreOfChecks (file_flaws scene tree)
 of_file scene tree =

@@ -1,4 +1,4 @@
--- What is wrong with one field: its label, its type, its options and its default.
+-- What is wrong with one field, or one extension: its label, its type, its options and its default.
 use Rattle.std.specs.Prelude.{ℕ, ℤ, pos, negsuc, ◌^◌, ◌-◌, Bool, false, not, ◌&&◌, if◌then◌else◌, List, [], ◌∷◌, ◌++◌, map, flat_map, find, Option, Some, None, is_some, is_none, codes}
 use Rattle.std.specs.Str.{bytes_eq}
 use Rattle.proto_faults.specs.Texts.{Text}
@@ -198,11 +198,25 @@ type_flaws scene f =
     ++ (flaw_if (starts_wrong scene f) kind.FirstNotZero (type_token f.kind)
     ++ flaw_if (has_closed_enum scene f) kind.ClosedEnum (type_token f.kind))))
 
--- what is wrong with a field: its label, its type, its options and its default
-abbrev pub field_flaws : Scene → FieldOf → List Flaw
-field_flaws scene f =
+-- what is wrong with a field, or with an extension, which may have other options: its label, its
+-- type, its options and its default
+abbrev pub field_flaws : Scene → Element → FieldOf → List Flaw
+field_flaws scene on f =
     type_flaws scene f
-    ++ (option_flaws scene element.Field f.options
+    ++ (option_flaws scene on f.options
     ++ (packed_flaws scene f
     ++ (default_flaws scene f
     ++ proto3_defaults scene f)))
+
+-- ---- extensions
+
+-- 38 RequiredExtension at the label of an extension that is `required`
+abbrev pub required_extensions : Scene → Option ℕ → List Flaw
+required_extensions scene None = []
+required_extensions scene (Some t) =
+    flaw_if (bytes_eq (text scene t) (codes "required")) kind.RequiredExtension t
+
+-- what is wrong with an extension: its label, and what is wrong with a field
+abbrev pub flaws_of_extension : Scene → FieldOf → List Flaw
+flaws_of_extension scene f =
+    required_extensions scene f.label ++ field_flaws scene element.Extension f

@@ -1,5 +1,5 @@
--- What is wrong with a file, block by block: its messages, oneofs, enums, services and methods, and
--- its own options.
+-- What is wrong with a file, block by block: its messages, oneofs, enums, services, methods and
+-- `extend` blocks, and its own options.
 use Rattle.std.specs.Prelude.{ℕ, pos, Bool, true, false, not, ◌&&◌, if◌then◌else◌, List, [], ◌∷◌, ◌++◌, map, flat_map, codes}
 use Rattle.std.specs.List.{list_any}
 use Rattle.std.specs.Ordering.{int_eq}
@@ -18,8 +18,8 @@ use Rattle.proto_numbers.specs.declared.flaw.Flaw.{Flaw}
 use Rattle.proto_numbers.specs.declared.numbers.NumberAt.{NumberAt}
 use Rattle.proto_parts.specs.declared.ranges.RangeAt.{RangeAt}
 use Rattle.proto_numbers.specs.Flaws.{flaw_if, after_earlier, marked}
-use Rattle.proto_numbers.specs.NumberFlaws.{field_number_flaws, number_of_field, number_of_value, range_of, enum_range_of, least_value, most_value, is_value_number, outside, broken_ranges, reserved_numbers, overlaps, repeated_numbers}
-use Rattle.proto_checks.specs.FieldFlaws.{field_flaws, option_flaws}
+use Rattle.proto_numbers.specs.NumberFlaws.{field_number_flaws, number_of_field, number_of_value, range_of, enum_range_of, least_value, most_value, is_field_number, is_value_number, outside, broken_ranges, reserved_numbers, overlaps, repeated_numbers}
+use Rattle.proto_checks.specs.FieldFlaws.{field_flaws, flaws_of_extension, option_flaws}
 
 -- ---- names
 
@@ -59,7 +59,7 @@ extension_flaws scene within =
 -- what is wrong with a message: its fields, numbers and ranges, names, `extensions` and options
 abbrev pub message_flaws : Scene → Tree → List Flaw
 message_flaws scene within =
-    flat_map (field_flaws scene) (fields_in within)
+    flat_map (field_flaws scene element.Field) (fields_in within)
     ++ (field_number_flaws
     (map (range_of scene) (flat_map closed_ranges (statements within)))
     (map (number_of_field scene) (fields_in within))
@@ -119,6 +119,16 @@ enum_flaws scene name within =
     ++ (flat_map (value_option_flaws scene) (values_in within)
     ++ option_flaws scene element.Enum (options_in within))))
 
+-- ---- `extend` blocks
+
+-- what is wrong with an `extend` block, the token of whose keyword is given: 31 NotInProto3 there
+-- in a proto3 file, the numbers of its extensions that no field may have, and each extension
+abbrev pub extend_flaws : Scene → ℕ → Tree → List Flaw
+extend_flaws scene keyword within =
+    flaw_if scene.is_proto3 kind.NotInProto3 keyword
+    ++ (outside is_field_number (map (number_of_field scene) (fields_in within))
+    ++ flat_map (flaws_of_extension scene) (fields_in within))
+
 -- ---- blocks, and the file
 
 -- what is wrong with a block, but for the blocks in it: of a oneof without a field 29 EmptyOneof
@@ -129,6 +139,7 @@ block_flaws scene (header.Oneof h) within =
 block_flaws scene (header.Enum h) within = enum_flaws scene h.name within
 block_flaws scene (header.Service h) within = option_flaws scene element.Service (options_in within)
 block_flaws scene (header.Method s) within = option_flaws scene element.Method (options_in within)
+block_flaws scene (header.Extend e) within = extend_flaws scene e.keyword within
 
 -- what is wrong with all blocks of a tree
 abbrev pub flaws_in_blocks : Scene → Tree → List Flaw

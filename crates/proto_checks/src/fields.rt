@@ -1,8 +1,8 @@
-//! What is wrong with one field: its label, its type, its options and its default.
+//! What is wrong with one field, or one extension: its label, its type, its options and its
+//! default.
 
 ghost use Rattle.std.specs.Prelude.{◌≡◌, ◌++◌, map, option_map, OnOk};
 ghost use Rattle.proto_parts.specs.Views.{enum_of, field_of, option_of};
-ghost use Rattle.proto_parts.specs.declared.options.Element.TheVariants as element;
 ghost use Rattle.proto_checks.specs.FieldFlaws.{type_token, enum_of_type, lacks_label, required_flaws, map_key_flaws, starts_wrong, has_closed_enum, is_unpackable, is_packable_type, may_be_packed, default_flaws, option_flaws, packed_flaws, proto3_defaults, type_flaws, field_flaws};
 
 use crate::defaults::{add_default_flaws, add_proto3_defaults};
@@ -156,38 +156,40 @@ fn add_packed_flaws(
 
 // ---- all of it
 
-// What is wrong with the options of a field.
+// What is wrong with the options of a field or an extension.
 fn add_flaws_of_options(
     alloc: Global,
     found: &mut Vec<Flaw>,
     scene: &Scene,
+    element: Element,
     field: FieldAt,
     options: &[OptionAt],
 ) -> Result<(), NoMemory>
     requires { map option_of options.now ≡ (field_of field).options }
     ensures { OnOk result (found.new.items ≡ found.old.items
-        ++ (option_flaws scene.now element.Field (field_of field.entry).options
+        ++ (option_flaws scene.now element (field_of field.entry).options
         ++ (packed_flaws scene.now (field_of field.entry)
         ++ (default_flaws scene.now (field_of field.entry)
         ++ proto3_defaults scene.now (field_of field.entry))))) }
 {
-    add_option_flaws(alloc, found, scene, Element::Field, options)?;
+    add_option_flaws(alloc, found, scene, element, options)?;
     add_packed_flaws(found, scene, field, options)?;
     add_default_flaws(found, scene, field, options)?;
     add_proto3_defaults(found, scene, field, options)
 }
 
-/// Adds what is wrong with a field.
+/// Adds what is wrong with a field, or with an extension, which may have other options.
 pub(crate) fn add_field_flaws(
     alloc: Global,
     found: &mut Vec<Flaw>,
     scene: &Scene,
+    element: Element,
     field: FieldAt,
 ) -> Result<(), NoMemory>
     ensures { OnOk result (found.new.items ≡ found.old.items
-        ++ field_flaws scene.now (field_of field.entry)) }
+        ++ field_flaws scene.now element (field_of field.entry)) }
 {
     add_type_flaws(found, scene, field)?;
     let options = options_between(alloc, field.settings)?;
-    add_flaws_of_options(alloc, found, scene, field, &options)
+    add_flaws_of_options(alloc, found, scene, element, field, &options)
 }

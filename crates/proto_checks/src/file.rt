@@ -1,17 +1,18 @@
 //! What is wrong with a file, block by block.
 
 ghost use Rattle.std.specs.Prelude.{◌≡◌, ◌++◌, IfOk, OnOk};
-ghost use Rattle.proto_tree.specs.File.{enum_tree, item_tree, member_tree, message_tree, method_tree, oneof_tree, service_item_tree, service_tree, tree_of_file, trees};
+ghost use Rattle.proto_tree.specs.File.{enum_tree, extend_tree, item_tree, member_tree, message_tree, method_tree, oneof_tree, service_item_tree, service_tree, tree_of_file, trees};
 ghost use Rattle.proto_checks.specs.FileFlaws.{file_flaws, flaws_in_blocks};
 
 use crate::enums::add_enum_flaws;
+use crate::extends::add_extend_flaws;
 use crate::messages::add_message_flaws;
 use crate::options::add_option_flaws;
 use proto_faults::{FaultKind, NoMemory};
 use proto_numbers::{Flaw, add_if};
 use proto_parts::{Element, Scene, file_options, method_options, service_options};
 use proto_tree::{
-    Enum, File, Item, Member, Message, Method, MethodEnd, Oneof, Service, ServiceItem,
+    Enum, Extend, File, Item, Member, Message, Method, MethodEnd, Oneof, Service, ServiceItem,
 };
 use std::alloc::Global;
 
@@ -35,6 +36,20 @@ fn add_oneof(found: &mut Vec<Flaw>, scene: &Scene, oneof: &Oneof) -> Result<(), 
 {
     let is_empty = oneof.members.is_empty();
     add_if(found, is_empty, FaultKind::EmptyOneof, oneof.name)
+}
+
+// ---- `extend` blocks
+
+fn add_extend(
+    alloc: Global,
+    found: &mut Vec<Flaw>,
+    scene: &Scene,
+    extend: &Extend,
+) -> Result<(), NoMemory>
+    ensures { OnOk result (found.new.items ≡ found.old.items
+        ++ flaws_in_blocks scene.now (extend_tree extend.now)) }
+{
+    add_extend_flaws(alloc, found, scene, extend)
 }
 
 // ---- services
@@ -147,6 +162,7 @@ fn add_member(
         Member::Message(message) => add_message(alloc, found, scene, message),
         Member::Enum(enumeration) => add_enum(alloc, found, scene, enumeration),
         Member::Oneof(oneof) => add_oneof(found, scene, oneof),
+        Member::Extend(extend) => add_extend(alloc, found, scene, extend),
         _ => Ok(()),
     }
 }
@@ -166,6 +182,7 @@ fn add_item(
         Item::Message(message) => add_message(alloc, found, scene, message),
         Item::Enum(enumeration) => add_enum(alloc, found, scene, enumeration),
         Item::Service(service) => add_service(alloc, found, scene, service),
+        Item::Extend(extend) => add_extend(alloc, found, scene, extend),
         _ => Ok(()),
     }
 }

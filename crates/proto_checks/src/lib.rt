@@ -3,6 +3,7 @@
 
 mod defaults;
 mod enums;
+mod extends;
 mod fields;
 mod file;
 mod json_clashes;

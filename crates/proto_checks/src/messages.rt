@@ -31,10 +31,10 @@ fn add_each_field(
     fields: &[FieldAt],
 ) -> Result<(), NoMemory>
     ensures { OnOk result (found.new.items ≡ found.old.items
-        ++ flat_map (field_flaws scene.now) (map field_of fields.now)) }
+        ++ flat_map (field_flaws scene.now element.Field) (map field_of fields.now)) }
 {
     for field in fields {
-        add_field_flaws(alloc, found, scene, *field)?;
+        add_field_flaws(alloc, found, scene, Element::Field, *field)?;
     }
     Ok(())
 }

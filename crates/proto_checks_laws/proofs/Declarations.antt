@@ -5,6 +5,7 @@ use Rattle.proto_tree.specs.declared.context.Context.{Context}
 use Rattle.proto_tree.specs.declared.context.Context.TheVariants as context
 use Rattle.proto_tree.specs.declared.context.Kind.{Kind}
 use Rattle.proto_tree.specs.declared.context.Kind.TheVariants as kind
+use Rattle.proto_tree.specs.declared.piece.Extending.{Extending}
 use Rattle.proto_tree.specs.declared.piece.Header.{Header}
 use Rattle.proto_tree.specs.declared.piece.Header.TheVariants as header
 use Rattle.proto_tree.specs.declared.piece.Heading.{Heading}
@@ -12,12 +13,12 @@ use Rattle.proto_tree.specs.declared.piece.Statement.{Statement}
 use Rattle.proto_tree.specs.declared.piece.Statement.TheVariants as statement
 use Rattle.proto_tree.specs.declared.tree.Value.{Value as ValueParts}
 use Rattle.proto_tree.proofs.Common.{IsOuter, dotted, Tree, End, Leaf, Block, IsWellFormed, after, allows, field_kind, header_kind, statement_kind, last_outer}
-use Rattle.proto_meaning.specs.declared.kind.Kind.TheVariants.{Message, Entry, Enum, Service, Field, Oneof, Value, Method}
-use Rattle.proto_meaning.proofs.Common.{Source, Token, EntryOf, Items, Members, Placed, all_placed, enum, field, file_placed, items_placed, map_field, message, oneof, package_of, place, placed, prefixes, service}
+use Rattle.proto_meaning.specs.declared.kind.Kind.TheVariants.{Message, Entry, Enum, Service, Field, Oneof, Value, Method, Extension}
+use Rattle.proto_meaning.proofs.Common.{Source, Token, EntryOf, Items, Members, Placed, all_placed, enum, extend, field, file_placed, items_placed, map_field, message, oneof, package_of, place, placed, prefixes, service}
 use Rattle.proto_listing.specs.FromTree.{add_statement, block_names, field_names, file_statement, items_in, members_in, method_names, no_names, picked, value_names}
 use Rattle.proto_parts.specs.Parts.{BlockOf, FieldOf, blocks_in, fields_from, fields_in, map_field as field_of_map, plain_field, statement_fields, statements, values_in}
 use Rattle.proto_checks.proofs.FlawTokens.{both}
-use Rattle.proto_checks_laws.specs.Declarations.{BlocksAreDeclared, FieldsAreDeclared, IsDeclared, IsDeclaredField, ValuesAreDeclared}
+use Rattle.proto_checks_laws.specs.Declarations.{BlocksAreDeclared, FieldsAreDeclared, IsDeclared, IsDeclaredField, IsDeclaredIn, ValuesAreDeclared}
 use Rattle.proto_checks_laws.proofs.Outermost.{no_method, no_oneof}
 
 differ : false ≡ true → ⊥
@@ -53,6 +54,9 @@ in_service = record { stays = λ k. refl }
 
 in_method : IsInner context.Method
 in_method = record { stays = λ k. refl }
+
+in_extend : IsInner context.Extend
+in_extend = record { stays = λ k. refl }
 
 no_values : (c : Context) → IsInner c → (allows c kind.Value ≡ true → ⊥) → (t : Tree) → IsWellFormed c t → values_in t ≡ []
 no_values c inner none End w = refl
@@ -112,24 +116,45 @@ none_in_method : (h : Header) → allows context.Method (header_kind h) ≡ true
 none_in_method (header.Message h) e = differ e
 none_in_method whole e = differ e
 
+none_in_extend : (h : Header) → allows context.Extend (header_kind h) ≡ true → ⊥
+none_in_extend (header.Message h) e = differ e
+none_in_extend whole e = differ e
+
+-- plain fields alone stand here: those of a oneof or of an `extend` block
+record HasPlainFields (c : Context) : Type 0 where
+  inner : IsInner c
+  map_out : allows c kind.MapField ≡ true → ⊥
+  block_out : (h : Header) → allows c (header_kind h) ≡ true → ⊥
+
+of_oneof : HasPlainFields context.Oneof
+of_oneof = record { inner = in_oneof; map_out = λ e. differ e; block_out = none_in_oneof }
+
+of_extend : HasPlainFields context.Extend
+of_extend = record { inner = in_extend; map_out = λ e. differ e; block_out = none_in_extend }
+
 -- ---- fields and values of one block
+
+module _ (c : Context) (plain : HasPlainFields c) where
+  -- each has a name among those of the block, and is no map field
+  named_there : (o : Option ℕ) (t : Tree) → IsWellFormed c t → (f : FieldOf) → Contains (flat_map (statement_fields o) (statements t)) f → Contains (picked field_names no_names t) f.name × (f.map_key ≡ None)
+  named_there o End w f d = absurd (omega (arith, d.1))
+  named_there o (Leaf (statement.Field g) rest) w f d = elim (contains_cases (plain_field o g) f (flat_map (statement_fields o) (statements rest)) d) [
+    | inl q ↦ subst (λ (z : FieldOf). Contains (g.name ∷ picked field_names no_names rest) z.name × (z.map_key ≡ None)) q (contains_head g.name (picked field_names no_names rest), refl)
+    | inr x ↦ let r = named_there o rest (leaf_behind c plain.inner (statement.Field g) rest w) f x in (contains_later g.name f.name (picked field_names no_names rest) r.0, r.1)
+  ]
+  named_there o (Leaf (statement.MapField g) rest) w f d = absurd (plain.map_out w.0)
+  named_there o (Leaf s rest) w f d = named_there o rest (leaf_behind c plain.inner s rest w) f d
+  named_there o (Block h i within j rest) w f d = absurd (plain.block_out h w.0)
+
+  -- no block stands there, so they are those of its statements
+  flat_fields : (n : ℕ) (t : Tree) → IsWellFormed c t → fields_from n t ≡ flat_map (statement_fields None) (statements t)
+  flat_fields n End w = refl
+  flat_fields n (Leaf s rest) w = ap (λ (fs : List FieldOf). statement_fields None s ++ fs) (flat_fields n rest (leaf_behind c plain.inner s rest w))
+  flat_fields n (Block h i within j rest) w = absurd (plain.block_out h w.0)
 
 -- of the fields of a oneof, wherever it stands
 pub oneof_field : (o : Option ℕ) (t : Tree) → IsWellFormed context.Oneof t → (f : FieldOf) → Contains (flat_map (statement_fields o) (statements t)) f → Contains (picked field_names no_names t) f.name × (f.map_key ≡ None)
-oneof_field o End w f c = absurd (omega (arith, c.1))
-oneof_field o (Leaf (statement.Field g) rest) w f c = elim (contains_cases (plain_field o g) f (flat_map (statement_fields o) (statements rest)) c) [
-  | inl q ↦ subst (λ (z : FieldOf). Contains (g.name ∷ picked field_names no_names rest) z.name × (z.map_key ≡ None)) q (contains_head g.name (picked field_names no_names rest), refl)
-  | inr d ↦ let r = oneof_field o rest w.1 f d in (contains_later g.name f.name (picked field_names no_names rest) r.0, r.1)
-]
-oneof_field o (Leaf (statement.MapField g) rest) w f c = absurd (differ w.0)
-oneof_field o (Leaf _ rest) w f c = oneof_field o rest w.1 f c
-oneof_field o (Block h i within j rest) w f c = absurd (none_in_oneof h w.0)
-
--- in a oneof no block stands, so its fields are those of its statements
-flat_fields : (n : ℕ) (t : Tree) → IsWellFormed context.Oneof t → fields_from n t ≡ flat_map (statement_fields None) (statements t)
-flat_fields n End w = refl
-flat_fields n (Leaf s rest) w = ap (λ (fs : List FieldOf). statement_fields None s ++ fs) (flat_fields n rest w.1)
-flat_fields n (Block h i within j rest) w = absurd (none_in_oneof h w.0)
+oneof_field = named_there context.Oneof of_oneof
 
 value_name : (t : Tree) (v : ValueParts) → Contains (values_in t) v → Contains (picked value_names no_names t) v.name
 value_name End v c = absurd (omega (arith, c.1))
@@ -175,6 +200,8 @@ field_declared path n (Block (header.Message h) i within j rest) w f c =
     declared_behind path (placed path (message h.name (members_in within))) (all_placed path (members_in rest)) f (field_declared path n rest w.2 f c)
 field_declared path n (Block (header.Enum h) i within j rest) w f c =
     declared_behind path (placed path (enum h.name (picked value_names no_names within))) (all_placed path (members_in rest)) f (field_declared path n rest w.2 f c)
+field_declared path n (Block (header.Extend e) i within j rest) w f c =
+    declared_behind path (placed path (extend (picked field_names no_names within))) (all_placed path (members_in rest)) f (field_declared path n rest w.2 f c)
 field_declared path n (Block whole i within j rest) w f c = field_declared path n rest w.2 f c
 
 -- ---- the blocks of a message
@@ -216,7 +243,7 @@ module _ (declared : List Placed) where
   oneof_is path h within w i = (
     path,
     i (place path (Token h.name) Oneof) (0, omega arith, refl),
-    λ f c. field_inside (placed path (oneof h.name (picked field_names no_names within))) i path f (beside_oneof path h None within w f (subst (λ fs. Contains fs f) (flat_fields 0 within w) c)),
+    λ f c. field_inside (placed path (oneof h.name (picked field_names no_names within))) i path f (beside_oneof path h None within w f (subst (λ fs. Contains fs f) (flat_fields context.Oneof of_oneof 0 within w) c)),
     no_values context.Oneof in_oneof (λ e. differ e) within w,
   )
 
@@ -229,6 +256,15 @@ module _ (declared : List Placed) where
             (contains_later (place path (Token h.name) Enum) (place path (Token v.name) Value) (map (λ i. place path (Token i) Value) vs) (contains_map (λ i. place path (Token i) Value) vs v.name (value_name within v c))),
         no_fields context.Enum in_enum enum_fields 0 within w,
       )
+
+  extend_is : (path : List (Source ℕ)) (e : Extending) (within : Tree) → IsWellFormed context.Extend within → Inside (placed path (extend (picked field_names no_names within))) → IsDeclared declared (header.Extend e) within
+  extend_is path e within w i = (
+    path,
+    λ f c. i (place path (Token f.name) Extension)
+        (contains_map (λ t. place path (Token t) Extension) (picked field_names no_names within) f.name
+        (named_there context.Extend of_extend None within w f (subst (λ fs. Contains fs f) (flat_fields context.Extend of_extend 0 within w) c)).0),
+    no_values context.Extend in_extend (λ e. differ e) within w,
+  )
 
   members_behind : (path : List (Source ℕ)) (s : Statement) (ms : Members) → Inside (all_placed path (add_statement s ms)) → Inside (all_placed path ms)
   members_behind path (statement.Field f) ms i = aft (placed path (field f.name)) (all_placed path ms) i
@@ -255,6 +291,12 @@ module _ (declared : List Placed) where
       let mine = placed path (enum h.name (picked value_names no_names within)) in (
         enum_is path h within w.1 (fore mine (all_placed path (members_in rest)) i),
         both Block_is (blocks_in within) (blocks_in rest) (nothing (blocks_in within) (no_blocks context.Enum in_enum none_in_enum within w.1))
+            (members_are path rest w.2 (aft mine (all_placed path (members_in rest)) i)),
+      )
+  members_are path (Block (header.Extend e) opens within closes rest) w i =
+      let mine = placed path (extend (picked field_names no_names within)) in (
+        extend_is path e within w.1 (fore mine (all_placed path (members_in rest)) i),
+        both Block_is (blocks_in within) (blocks_in rest) (nothing (blocks_in within) (no_blocks context.Extend in_extend none_in_extend within w.1))
             (members_are path rest w.2 (aft mine (all_placed path (members_in rest)) i)),
       )
   members_are path (Block whole opens within closes rest) w i = absurd (differ w.0)
@@ -318,6 +360,12 @@ module _ (declared : List Placed) where
             (contains_map (λ x. place (path ++ Token h.name ∷ []) (Token x) Method) ms m d))))
             (items_are path (after c kind.OpenService) (last_outer (Block (header.Service h) opens within closes End) c o) rest w.2 (aft (placed path (service h.name (picked method_names block_names within))) (items_placed path (items_in rest)) i)),
       )
+  items_are path c o (Block (header.Extend e) opens within closes rest) w i =
+      let mine = placed path (extend (picked field_names no_names within)) in (
+        extend_is path e within w.1 (fore mine (items_placed path (items_in rest)) i),
+        both Block_is (blocks_in within) (blocks_in rest) (nothing (blocks_in within) (no_blocks context.Extend in_extend none_in_extend within w.1))
+            (items_are path (after c kind.OpenExtend) (last_outer (Block (header.Extend e) opens within closes End) c o) rest w.2 (aft mine (items_placed path (items_in rest)) i)),
+      )
   items_are path c o (Block (header.Oneof h) opens within closes rest) w i = absurd (no_oneof c o w.0)
   items_are path c o (Block (header.Method s) opens within closes rest) w i = absurd (no_method c o w.0)
 
@@ -330,13 +378,14 @@ blocks_are_declared tree ls spells b c =
     All-contains (Block_is declared) (blocks_in tree) b (All-from_recursion (Block_is declared) (blocks_in tree) all) c
 
 pub fields_are_declared : FieldsAreDeclared
-fields_are_declared tree ls spells b f cb cf = by b.header (blocks_are_declared tree ls spells b cb)
+fields_are_declared tree ls spells b f cb cf = by b.header refl (blocks_are_declared tree ls spells b cb)
   where
-    by : (h : Header) → IsDeclared (file_placed (items_in tree)) h b.within → (path : List (Source ℕ)) × IsDeclaredField (file_placed (items_in tree)) path f
-    by (header.Message h) d = (d.0 ++ Token h.name ∷ [], d.2 f cf)
-    by (header.Oneof h) d = (d.0, d.2 f cf)
-    by (header.Enum h) d = absurd (none_in (fields_in b.within) f d.3 cf)
-    by whole d = absurd (none_in (fields_in b.within) f d.2 cf)
+    by : (h : Header) → b.header ≡ h → IsDeclared (file_placed (items_in tree)) h b.within → (path : List (Source ℕ)) × IsDeclaredIn (file_placed (items_in tree)) path b f
+    by (header.Message h) is d = (d.0 ++ Token h.name ∷ [], inl (d.2 f cf))
+    by (header.Oneof h) is d = (d.0, inl (d.2 f cf))
+    by (header.Enum h) is d = absurd (none_in (fields_in b.within) f d.3 cf)
+    by (header.Extend e) is d = (d.0, inr (e, is, d.1 f cf))
+    by whole is d = absurd (none_in (fields_in b.within) f d.2 cf)
 
 pub values_are_declared : ValuesAreDeclared
 values_are_declared tree ls spells b v cb cv = by b.header refl (blocks_are_declared tree ls spells b cb)
@@ -344,4 +393,5 @@ values_are_declared tree ls spells b v cb cv = by b.header refl (blocks_are_decl
     by : (k : Header) → b.header ≡ k → IsDeclared (file_placed (items_in tree)) k b.within
         → (h : Heading) × (path : List (Source ℕ)) × (b.header ≡ header.Enum h) × Contains (file_placed (items_in tree)) (place path (Token h.name) Enum) × Contains (file_placed (items_in tree)) (place path (Token v.name) Value)
     by (header.Enum h) e d = (h, d.0, e, d.1, d.2 v cv)
+    by (header.Extend x) e d = absurd (none_in (values_in b.within) v d.2 cv)
     by whole e d = absurd (none_in (values_in b.within) v d.3 cv)

@@ -25,7 +25,7 @@ use Rattle.proto_numbers.specs.declared.flaw.Flaw.{Flaw}
 use Rattle.proto_numbers.specs.declared.numbers.NumberAt.{NumberAt}
 use Rattle.proto_parts.specs.declared.ranges.RangeAt.{RangeAt}
 use Rattle.proto_numbers.proofs.Common.{after_earlier, flaw_if, marked, bound_of, broken_ranges, end_of, enum_range_of, first_of_signed, is_field_number, is_inside, is_value_number, least_value, most_field, most_value, number_of_field, number_of_value, outside, overlaps, range_of, repeated_numbers, reserved_numbers, share, field_number_flaws}
-use Rattle.proto_checks.proofs.Common.{default_flaws, enum_of_type, field_flaws, holds_number, is_default_of, is_of_proto2, is_packable_type, is_past_zero, is_scalar_default, is_unpackable, is_value_of, lacks_label, map_key_flaws, may_be_packed, may_default, no_map_keys, option_flaws, required_flaws, type_flaws, type_token, wrong_default, allows_alias, block_flaws, enum_flaws, file_flaws, first_value_flaws, is_empty, json_clashes, message_flaws, name_flaws, value_number_flaws, value_option_flaws}
+use Rattle.proto_checks.proofs.Common.{default_flaws, enum_of_type, extend_flaws, field_flaws, flaws_of_extension, holds_number, is_default_of, is_of_proto2, is_packable_type, is_past_zero, is_scalar_default, is_unpackable, is_value_of, lacks_label, map_key_flaws, may_be_packed, may_default, no_map_keys, option_flaws, required_extensions, required_flaws, type_flaws, type_token, wrong_default, allows_alias, block_flaws, enum_flaws, file_flaws, first_value_flaws, is_empty, json_clashes, message_flaws, name_flaws, value_number_flaws, value_option_flaws}
 use Rattle.proto_checks_laws.specs.Imports.{ImportsMoveFlaws, IsMoved, moved}
 use Rattle.proto_checks_laws.proofs.MovedParts.{any_kept, closed_ranges_moved, empty_kept, enum_ranges_moved, extension_words_moved, fields_moved, file_blocks_moved, file_options_moved, find_moved, flat_kept, flat_moved, maps_kept, maps_moved, move_block_of, move_field_of, move_option_of, none_kept, options_moved, reserved_names_moved, settings_moved, some_kept, statements_moved, values_moved}
 use Rattle.proto_checks.proofs.OptionNames.{earlier_map}
@@ -254,10 +254,10 @@ module _ (g : Move) (a b : Scene) (is : IsMoved g a b) where
       go None = none
       go (Some o) = if_moved g kind.BadDefault o.name (ap not (may_default_moved f o))
 
-  pub field_moved : (f : FieldOf) → Moves g (field_flaws b (move_field_of g f)) (field_flaws a f)
-  field_moved f =
+  pub field_moved : (on : Element) (f : FieldOf) → Moves g (field_flaws b on (move_field_of g f)) (field_flaws a on f)
+  field_moved on f =
       join (types_moved f)
-      (join (option_flaws_moved element.Field f.options refl)
+      (join (option_flaws_moved on f.options refl)
       (join (each g (move_option_of g) _ _ (λ o. if_moved g kind.BadOption o.name (ap₂ (λ v w. v && not w) (named_moved (codes "packed") o) (packed_moved f))) f.options refl)
       (join (default_moved f)
       (each g (move_option_of g) _ _ (λ o. if_moved g kind.NotInProto3 o.name (ap₂ (λ v w. v && w) version (named_moved (codes "default") o))) f.options refl))))
@@ -301,7 +301,7 @@ module _ (g : Move) (a b : Scene) (is : IsMoved g a b) where
       let rs : List (Range ℕ) = flat_map closed_ranges (statements within) in
       let f : fields_in (move_tree g within) ≡ map (move_field_of g) fs = fields_moved g 0 within in
       let r : flat_map closed_ranges (statements (move_tree g within)) ≡ map (move_range g g) rs = closed_ranges_moved g within in
-      join (each g (move_field_of g) (field_flaws a) (field_flaws b) field_moved fs f)
+      join (each g (move_field_of g) (field_flaws a element.Field) (field_flaws b element.Field) (field_moved element.Field) fs f)
       (join (field_numbers_moved g (map (range_of a) rs) (map (number_of_field a) fs)
       (ap (map (range_of b)) r ∙ maps_moved (move_range g g) (move_range_at g) (range_of a) (range_of b) range_moved rs)
       (ap (map (number_of_field b)) f ∙ maps_moved (move_field_of g) (move_number_at g) (number_of_field a) (number_of_field b) field_number_moved fs))
@@ -350,6 +350,24 @@ module _ (g : Move) (a b : Scene) (is : IsMoved g a b) where
       (join (each g (move_value g) (value_option_flaws a) (value_option_flaws b) (λ x. option_flaws_moved element.EnumValue (settings_of x.settings) (settings_moved g x.settings)) vs v)
       (option_flaws_moved element.Enum (options_in within) (options_moved g within)))))
 
+  -- ---- `extend` blocks
+
+  required_extension_moved : (o : Option ℕ) → Moves g (required_extensions b (move_option g o)) (required_extensions a o)
+  required_extension_moved None = none
+  required_extension_moved (Some t) = if_moved g kind.RequiredExtension t (ap (λ w. bytes_eq w (codes "required")) (is.texts t))
+
+  extension_moved : (f : FieldOf) → Moves g (flaws_of_extension b (move_field_of g f)) (flaws_of_extension a f)
+  extension_moved f = join (required_extension_moved f.label) (field_moved element.Extension f)
+
+  extend_moved : (keyword : ℕ) (within : Tree) → Moves g (extend_flaws b (g keyword) (move_tree g within)) (extend_flaws a keyword within)
+  extend_moved keyword within =
+      let fs : List FieldOf = fields_in within in
+      let f : fields_in (move_tree g within) ≡ map (move_field_of g) fs = fields_moved g 0 within in
+      join (if_moved g kind.NotInProto3 keyword version)
+      (join (outside_moved g is_field_number (map (number_of_field a) fs)
+      (ap (map (number_of_field b)) f ∙ maps_moved (move_field_of g) (move_number_at g) (number_of_field a) (number_of_field b) field_number_moved fs))
+      (each g (move_field_of g) (flaws_of_extension a) (flaws_of_extension b) extension_moved fs f))
+
   -- ---- blocks, and the file
 
   pub block_moved : (h : Header) (within : Tree) → Moves g (block_flaws b (move_header g h) (move_tree g within)) (block_flaws a h within)
@@ -358,6 +376,7 @@ module _ (g : Move) (a b : Scene) (is : IsMoved g a b) where
   block_moved (header.Enum h) within = enum_flaws_moved h.name within
   block_moved (header.Service h) within = option_flaws_moved element.Service (options_in within) (options_moved g within)
   block_moved (header.Method s) within = option_flaws_moved element.Method (options_in within) (options_moved g within)
+  block_moved (header.Extend e) within = extend_moved e.keyword within
 
   file_moved : (s t : Tree) → options_in t ≡ map (move_option_of g) (options_in s) → blocks_in t ≡ map (move_block_of g) (blocks_in s) → Moves g (file_flaws b t) (file_flaws a s)
   file_moved s t os bs = join (option_flaws_moved element.File (options_in s) os) (each g (move_block_of g) _ _ (λ x. block_moved x.header x.within) (blocks_in s) bs)

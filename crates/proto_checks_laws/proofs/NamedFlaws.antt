@@ -13,7 +13,7 @@ use Rattle.proto_numbers.specs.declared.flaw.Flaw.{Flaw}
 use Rattle.proto_numbers.specs.declared.numbers.NumberAt.{NumberAt}
 use Rattle.proto_parts.specs.declared.ranges.RangeAt.{RangeAt}
 use Rattle.proto_numbers.proofs.Common.{after_earlier, flaw, flaw_if, marked, broken_ranges, enum_range_of, field_number_flaws, is_field_number, is_value_number, least_value, most_field, most_value, number_of_field, number_of_value, outside, overlaps, range_of, repeated_numbers, reserved_numbers, share}
-use Rattle.proto_checks.proofs.Common.{default_flaws, field_flaws, has_closed_enum, lacks_label, map_key_flaws, may_be_packed, may_default, option_flaws, required_flaws, starts_wrong, type_flaws, type_token, wrong_default, alias_flaws, allows_alias, block_flaws, enum_flaws, file_flaws, first_value_flaws, json_clashes, message_flaws, name_flaws, value_number_flaws, value_option_flaws}
+use Rattle.proto_checks.proofs.Common.{default_flaws, extend_flaws, field_flaws, flaws_of_extension, has_closed_enum, lacks_label, map_key_flaws, may_be_packed, may_default, option_flaws, required_extensions, required_flaws, starts_wrong, type_flaws, type_token, wrong_default, alias_flaws, allows_alias, block_flaws, enum_flaws, file_flaws, first_value_flaws, json_clashes, message_flaws, name_flaws, value_number_flaws, value_option_flaws}
 use Rattle.proto_checks_laws.specs.Renamed.{but_names, is_of_names}
 use Rattle.proto_checks_laws.specs.NamedFlaws.{FlawsOfNames, NoFlawComesIn, flaws_of_block, of_names}
 
@@ -96,10 +96,10 @@ module _ (s : Scene) where
       by None = nothing
       by (Some o) = if_all kind.BadDefault refl (not (may_default s f o)) o.name
 
-  field_leaves : (f : FieldOf) → Leaves (field_flaws s f) (default_flaws s f)
-  field_leaves f =
+  field_leaves : (on : Element) (f : FieldOf) → Leaves (field_flaws s on f) (default_flaws s f)
+  field_leaves on f =
       none_before (types_none f)
-      (none_before (options_none element.Field f.options)
+      (none_before (options_none on f.options)
       (none_before (each_none (λ (o : OptionOf). flaw_if (is_named (text s) (codes "packed") o && not (may_be_packed s f)) kind.BadOption o.name) (λ o. if_none kind.BadOption refl _ o.name) f.options)
       (none_behind (default_all f)
       (each_none (λ (o : OptionOf). flaw_if (s.is_proto3 && is_named (text s) (codes "default") o) kind.NotInProto3 o.name) (λ o. if_none kind.NotInProto3 refl _ o.name) f.options))))
@@ -126,7 +126,7 @@ module _ (s : Scene) where
 
   message_leaves : (within : Tree) → Leaves (message_flaws s within) (flat_map (default_flaws s) (fields_in within) ++ (name_flaws s (reserved_names_in within) (map (λ f. f.name) (fields_in within)) ++ json_clashes s (fields_in within)))
   message_leaves within =
-      join (each (field_flaws s) (default_flaws s) field_leaves (fields_in within))
+      join (each (field_flaws s element.Field) (default_flaws s) (field_leaves element.Field) (fields_in within))
       (none_before (field_numbers_none (map (range_of s) (flat_map closed_ranges (statements within))) (map (number_of_field s) (fields_in within)))
       (join (names_all (reserved_names_in within) (map (λ f. f.name) (fields_in within)))
       (none_behind (clashes_all (fields_in within))
@@ -159,12 +159,23 @@ module _ (s : Scene) where
       (none_before (each_none (value_option_flaws s) (λ v. options_none element.EnumValue (settings_of v.settings)) (values_in within))
       (options_none element.Enum (options_in within)))))
 
+  required_extension_none : (o : Option ℕ) → Leaves (required_extensions s o) []
+  required_extension_none None = nothing
+  required_extension_none (Some t) = if_none kind.RequiredExtension refl _ t
+
+  extend_leaves : (keyword : ℕ) (within : Tree) → Leaves (extend_flaws s keyword within) (flat_map (default_flaws s) (fields_in within))
+  extend_leaves keyword within =
+      none_before (if_none kind.NotInProto3 refl s.is_proto3 keyword)
+      (none_before (outside_none is_field_number (map (number_of_field s) (fields_in within)))
+      (each (flaws_of_extension s) (default_flaws s) (λ f. none_before (required_extension_none f.label) (field_leaves element.Extension f)) (fields_in within)))
+
   block_leaves : (h : Header) (within : Tree) → Leaves (block_flaws s h within) (flaws_of_block s h within)
   block_leaves (header.Message h) within = message_leaves within
   block_leaves (header.Enum h) within = enum_leaves h.name within
   block_leaves (header.Oneof h) within = if_none kind.EmptyOneof refl _ h.name
   block_leaves (header.Service h) within = options_none element.Service (options_in within)
   block_leaves (header.Method x) within = options_none element.Method (options_in within)
+  block_leaves (header.Extend e) within = extend_leaves e.keyword within
 
 pub flaws_of_names : FlawsOfNames
 flaws_of_names s tree =

@@ -24,8 +24,8 @@ use Rattle.proto_parts.specs.declared.options.ValueKind.TheVariants as value_kin
 use Rattle.proto_numbers.specs.declared.flaw.Flaw.{Flaw}
 use Rattle.proto_numbers.specs.declared.numbers.NumberAt.{NumberAt}
 use Rattle.proto_parts.specs.declared.ranges.RangeAt.{RangeAt}
-use Rattle.proto_numbers.proofs.Common.{after_earlier, flaw, flaw_if, marked, bound_of, broken_ranges, end_of, enum_range_of, first_of_signed, is_value_number, least_value, most_field, most_value, number_of_field, number_of_value, outside, overlaps, range_of, repeated_numbers, reserved_numbers, field_number_flaws}
-use Rattle.proto_checks.proofs.Common.{default_flaws, enum_of_type, field_flaws, is_packable_type, is_unpackable, map_key_flaws, may_default, no_map_keys, option_flaws, required_flaws, type_flaws, type_token, wrong_default, block_flaws, enum_flaws, file_flaws, first_value_flaws, json_clashes, message_flaws, name_flaws, value_number_flaws, value_option_flaws, aft, fore}
+use Rattle.proto_numbers.proofs.Common.{after_earlier, flaw, flaw_if, marked, bound_of, broken_ranges, end_of, enum_range_of, first_of_signed, is_field_number, is_value_number, least_value, most_field, most_value, number_of_field, number_of_value, outside, overlaps, range_of, repeated_numbers, reserved_numbers, field_number_flaws}
+use Rattle.proto_checks.proofs.Common.{default_flaws, enum_of_type, extend_flaws, field_flaws, flaws_of_extension, is_packable_type, is_unpackable, map_key_flaws, may_default, no_map_keys, option_flaws, required_extensions, required_flaws, type_flaws, type_token, wrong_default, block_flaws, enum_flaws, file_flaws, first_value_flaws, json_clashes, message_flaws, name_flaws, value_number_flaws, value_option_flaws, aft, fore}
 use Rattle.proto_checks_laws.specs.Renamed.{DifferInNames, NamesDecideThreeKinds, SameButValues, asked_tokens, block_tokens, but_names, constant_tokens, end_tokens, enum_tokens, field_tokens, header_tokens, is_of_names, message_tokens, option_tokens, range_tokens, scalar_tokens, up_to_tokens, value_tokens}
 
 -- ---- flaws that are the same but for those of names
@@ -144,6 +144,7 @@ module _ (named : ℕ → Bool) (a b : Scene) (differ : DifferInNames named a b)
   fits_default element.Service c = refl
   fits_default element.EnumValue c = refl
   fits_default element.Field c = refl
+  fits_default element.Extension c = refl
   fits_default element.Enum c = refl
   fits_default element.Method c = refl
 
@@ -214,13 +215,13 @@ module _ (named : ℕ → Bool) (a b : Scene) (differ : DifferInNames named a b)
         right (scalar_tokens f.kind) numbered typed,
       )
 
-  field_same : (f : FieldOf) → Kept (field_tokens a f) → SameBut (field_flaws a f) (field_flaws b f)
-  field_same f k =
+  field_same : (on : Element) (f : FieldOf) → Kept (field_tokens a f) → SameBut (field_flaws a on f) (field_flaws b on f)
+  field_same on f k =
       let kept = field_kept f k in
       let os = kept.3.1 in
       let packed = ap₂ (λ v w. v && w) (label_same (codes "repeated") f.label kept.0) (packable_same f.kind kept.2) in
       join (types_same f kept.0 kept.1)
-      (join (options_same element.Field f.options os)
+      (join (options_same on f.options os)
       (join (each (option_tokens a) _ _ (λ o h. equal (ap₂ (λ v w. flaw_if (v && not w) kind.BadOption o.name) (named_same (codes "packed") o h) packed)) f.options os)
       (join (both_none (default_none a f) (default_none b f))
       (each (option_tokens a) _ _ (λ o h. equal (ap₂ (λ v w. flaw_if (v && w) kind.NotInProto3 o.name) differ.version (named_same (codes "default") o h))) f.options os))))
@@ -266,7 +267,7 @@ module _ (named : ℕ → Bool) (a b : Scene) (differ : DifferInNames named a b)
       let fields : List ℕ = flat_map (field_tokens a) fs in
       let ranges : List ℕ = flat_map (range_tokens (λ t. t)) rs in
       let f = left fields ranges k in
-      join (each (field_tokens a) (field_flaws a) (field_flaws b) field_same fs f)
+      join (each (field_tokens a) (field_flaws a element.Field) (field_flaws b element.Field) (field_same element.Field) fs f)
       (join (equal (ap₂ field_number_flaws (maps (range_tokens (λ t. t)) (range_of a) (range_of b) range_same rs (right fields ranges k)) (maps (field_tokens a) (number_of_field a) (number_of_field b) field_number_same fs f)))
       (join (both_none (names_none a (reserved_names_in within) (map (λ x. x.name) fs)) (names_none b (reserved_names_in within) (map (λ x. x.name) fs)))
       (join (both_none (clashes_none a fs) (clashes_none b fs))
@@ -297,6 +298,20 @@ module _ (named : ℕ → Bool) (a b : Scene) (differ : DifferInNames named a b)
           (join (equal (ap₂ (λ v (ns : List NumberAt). if v then [] else marked kind.AliasNotAllowed (map (λ x. x.token) ns) (repeated_numbers ns)) (anys (option_tokens a) _ _ alias_same (options_in within) os) n))
           (equal (ap₂ (λ ranges numbers. reserved_numbers ranges numbers ++ (broken_ranges least_value most_value ranges ++ overlaps ranges)) r n))))
 
+  required_extension_same : (o : Option ℕ) → Kept (option_to_list o) → required_extensions a o ≡ required_extensions b o
+  required_extension_same None k = refl
+  required_extension_same (Some t) k = ap (λ w. flaw_if (bytes_eq w (codes "required")) kind.RequiredExtension t) (differ.texts t k.0)
+
+  extension_same : (f : FieldOf) → Kept (field_tokens a f) → SameBut (flaws_of_extension a f) (flaws_of_extension b f)
+  extension_same f k = join (equal (required_extension_same f.label (field_kept f k).0)) (field_same element.Extension f k)
+
+  extend_same : (keyword : ℕ) (within : Tree) → Kept (flat_map (field_tokens a) (fields_in within)) → SameBut (extend_flaws a keyword within) (extend_flaws b keyword within)
+  extend_same keyword within k =
+      let fs : List FieldOf = fields_in within in
+      join (equal (ap (λ v. flaw_if v kind.NotInProto3 keyword) differ.version))
+      (join (equal (ap (outside is_field_number) (maps (field_tokens a) (number_of_field a) (number_of_field b) field_number_same fs k)))
+      (each (field_tokens a) (flaws_of_extension a) (flaws_of_extension b) extension_same fs k))
+
   block_same : (x : BlockOf) → Kept (block_tokens a x) → SameBut (block_flaws a x.header x.within) (block_flaws b x.header x.within)
   block_same x k = go x.header (left (header_tokens a x.header x.within) (flat_map (option_tokens a) (options_in x.within)) k)
     where
@@ -309,6 +324,7 @@ module _ (named : ℕ → Bool) (a b : Scene) (differ : DifferInNames named a b)
       go (header.Enum h) m = enum_same h.name x.within m os
       go (header.Service h) m = options_same element.Service (options_in x.within) os
       go (header.Method s) m = options_same element.Method (options_in x.within) os
+      go (header.Extend e) m = extend_same e.keyword x.within m
 
   file_same : (tree : Tree) → Kept (asked_tokens a tree) → SameBut (file_flaws a tree) (file_flaws b tree)
   file_same tree k =

@@ -346,6 +346,7 @@ module _ (tree : Tree) where
         both Asked (flat_map (value_tokens scene) vs) (flat_map (range_tokens (λ (s : Signed). s.number)) rs)
         (flattened ValueHas Asked (value_tokens scene) value_asked vs (parts_have ValueHas statement_values values_have within r))
         (flattened SignedHas Asked (range_tokens (λ (s : Signed). s.number)) (λ x. of_role is_number refl (range_tokens (λ (s : Signed). s.number) x)) rs (parts_have SignedHas enum_ranges enum_ranges_have within r))
+    header_asked (header.Extend e) within r = flattened FieldHas Asked (field_tokens scene) field_asked (fields_in within) (all_fields_have 0 within r)
     header_asked whole within r = tt
 
     block_asked : (b : BlockOf) → BlockRun b → AreAsked (block_tokens scene b)

@@ -16,7 +16,7 @@ abbrev pub of_names : List Flaw → List Flaw
 of_names flaws = filter (λ (f : Flaw). is_of_names f.kind) flaws
 
 -- the flaws of a block that names decide: of a message those of defaults, reserved names and JSON
--- names, of an enum those of reserved names
+-- names, of an enum those of reserved names, of an `extend` block those of defaults
 abbrev pub flaws_of_block : Scene → Header → Tree → List Flaw
 flaws_of_block scene (header.Message h) within =
     flat_map (default_flaws scene) (fields_in within)
@@ -27,6 +27,8 @@ flaws_of_block scene (header.Enum h) within =
 flaws_of_block scene (header.Oneof h) within = []
 flaws_of_block scene (header.Service h) within = []
 flaws_of_block scene (header.Method s) within = []
+flaws_of_block scene (header.Extend e) within =
+    flat_map (default_flaws scene) (fields_in within)
 
 -- The flaws of a file that names decide are those of its blocks.
 abbrev pub FlawsOfNames : Type 0

@@ -97,13 +97,14 @@ enum_tokens scene within =
     flat_map (value_tokens scene) (values_in within)
     ++ flat_map (range_tokens (λ (s : Signed). s.number)) (flat_map enum_ranges (statements within))
 
--- of a block but for its options
+-- of a block but for its options: of an `extend` block what is of its extensions
 abbrev pub header_tokens : Scene → Header → Tree → List ℕ
 header_tokens scene (header.Message h) within = message_tokens scene within
 header_tokens scene (header.Enum h) within = enum_tokens scene within
 header_tokens scene (header.Oneof h) within = []
 header_tokens scene (header.Service h) within = []
 header_tokens scene (header.Method s) within = []
+header_tokens scene (header.Extend e) within = flat_map (field_tokens scene) (fields_in within)
 
 -- of a block with its options
 abbrev pub block_tokens : Scene → BlockOf → List ℕ

@@ -1,14 +1,17 @@
 -- What holds of a file as the code reads it holds of it as it is read, with its numbers as they are.
-use Rattle.std.proofs.Common.{◌≡◌, ℕ, suc, ◌+◌, ◌<◌, List, [], ◌∷◌, length, get_or, map, Option, Some, None, refl, sym, ap, subst, ◌∙◌, arith, Contains}
+use Rattle.std.proofs.Common.{◌≡◌, ℕ, suc, ◌+◌, ◌<◌, List, [], ◌∷◌, ◌++◌, length, get_or, map, Option, Some, None, refl, sym, ap, subst, ◌∙◌, arith, Contains}
+use Rattle.proto_faults.proofs.Common.{Vec}
 use Rattle.proto_tree.specs.Tree.{Tree}
 use Rattle.proto_files.proofs.Common.{FileOf, file_at, Each, ReadOf, AreRead, read_at, IsTreeOf, same_tree}
 use Rattle.proto_parts.proofs.Common.{past, Scene}
 use Rattle.proto_checks.specs.FileFlaws.{file_flaws}
 use Rattle.proto_numbers.specs.Flaws.{IsLeast}
 use Rattle.proto_numbers.specs.declared.flaw.Flaw.{Flaw}
-use Rattle.proto_checks.proofs.CappedFlaws.{caps_keep_the_least}
+use Rattle.proto_extensions.specs.Extensions.{workspace_flaws}
+use Rattle.proto_extensions.specs.Listed.{AreWorkspaceFlaws}
+use Rattle.proto_extensions.proofs.CappedExtensions.{caps_keep_the_least}
 use Rattle.proto_described.proofs.CappedDescriptors.{caps_keep_the_descriptor}
-use Rattle.proto_desc.specs.Common.{described_from, flaws_of, IsFaultOf, IsFileError}
+use Rattle.proto_desc.specs.Common.{AreOfWorkspace, described_from, flaws_of, IsFaultOf, IsFileError}
 use Rattle.proto_scenes.specs.Scenes.{IsSceneOf}
 use Rattle.proto_faults.specs.declared.fault.SchemaFault.{SchemaFault}
 use Rattle.proto_faults.specs.declared.fault.SchemaFault.TheVariants.{Schema, NoMemory}
@@ -22,11 +25,12 @@ abbrev pub described_at : List FileOf → List ReadOf → ℕ → Tree → FileD
 described_at files reads k tree = file_described (scene_of None files reads k) (file_at files k).path tree
 
 module _ (files : List FileOf) (file : ℕ) (within : file < length files) (scene : Scene) (is : IsSceneOf files file scene) (tree : Tree) (of_file : IsTreeOf (file_at files file).bytes tree) (reads : List ReadOf) (are : AreRead files reads) where
-  pub least_of_file : (o : Option Flaw) → IsLeast (Contains (file_flaws scene tree)) o → IsLeast (Contains (flaws_of files reads file)) o
-  least_of_file o least =
-      caps_keep_the_least (scene_of (Some past) files reads file) (read_at reads file).tree o refl
-      (subst (λ (s : Scene). IsLeast (Contains (file_flaws s (read_at reads file).tree)) o) (is reads are)
-      (subst (λ (t : Tree). IsLeast (Contains (file_flaws scene t)) o) (sym (same_tree files reads file tree are within of_file)) least))
+  pub least_of_file : (flaws : List Flaw) → AreOfWorkspace files file flaws → (o : Option Flaw) → IsLeast (Contains (file_flaws scene tree ++ flaws)) o → IsLeast (Contains (flaws_of files reads file)) o
+  least_of_file flaws others o least =
+      caps_keep_the_least files reads file o
+      (subst (λ (s : Scene). IsLeast (Contains (file_flaws s (read_at reads file).tree ++ workspace_flaws (Some past) files reads file)) o) (is reads are)
+      (subst (λ (fs : List Flaw). IsLeast (Contains (file_flaws scene (read_at reads file).tree ++ fs)) o) (others reads are)
+      (subst (λ (t : Tree). IsLeast (Contains (file_flaws scene t ++ flaws)) o) (sym (same_tree files reads file tree are within of_file)) least)))
 
   pub described_of_file : file_described scene (file_at files file).path tree ≡ described_at files reads file (read_at reads file).tree
   described_of_file =
@@ -53,3 +57,8 @@ all_described files reads ds e h =
 pub file_error : (files : List FileOf) (file : ℕ) (f : Flaw) (e : SchemaFault) → IsFaultOf files file f e → ((reads : List ReadOf) → AreRead files reads → IsLeast (Contains (flaws_of files reads file)) (Some f)) → IsFileError files file e
 file_error files file f (Schema fault) is least = record { flaw = f; fault = is; least = least }
 file_error files file f NoMemory is least = tt
+
+-- the flaws given for a file are those that its workspace decides
+pub flaws_at : (files : List FileOf) (given : List (Vec Flaw)) (file : ℕ) → file < length files → AreWorkspaceFlaws files given → (flaws : Vec Flaw) → flaws ≡ get_or given file flaws → (listed : List Flaw) → listed ≡ flaws.items → AreOfWorkspace files file listed
+flaws_at files given file l h flaws is listed same = λ reads are.
+    (same ∙ ap (λ (v : Vec Flaw). v.items) is ∙ h.each reads are file flaws (omega (arith, l, h.len)))

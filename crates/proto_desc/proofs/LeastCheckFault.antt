@@ -6,10 +6,8 @@ use Rattle.proto_files.proofs.Common.{FaultAt, ComesBefore, IsLeastFault, HasNoF
 use Rattle.proto_imports.proofs.LeastLinkFault.{file_before, one_file, one_token, token_before}
 use Rattle.proto_numbers.specs.Flaws.{IsLeast, comes_before}
 use Rattle.proto_numbers.specs.declared.flaw.Flaw.{Flaw}
-use Rattle.proto_checks.proofs.FlawTokens.{flaw_within}
-use Rattle.proto_checks.proofs.Phases.{flaws_are_of_checks}
+use Rattle.proto_extensions.proofs.WorkspaceFlaws.{all_of_checks, all_within}
 use Rattle.proto_desc.specs.Common.{CheckFaults, of_flaw, fault_of, flaws_of, IsCheckError, HasNoFlaw, IsFileError}
-use Rattle.proto_scenes.specs.SceneOf.{scene_of}
 use Rattle.proto_faults.specs.declared.fault.SchemaFault.{SchemaFault}
 use Rattle.proto_faults.specs.declared.fault.SchemaFault.TheVariants.{Schema, NoMemory}
 
@@ -42,10 +40,10 @@ module _ (files : List FileOf) (reads : List ReadOf) (are : AreRead files reads)
       record { file = file; flaw = f; within = within; there = subst (λ (q : List ReadOf). Contains (flaws_of files q file) f) e c; is = ap (λ (q : List ReadOf). fault_of files q file f) e }
 
   phase_is : (file : ℕ) (f : Flaw) → Contains (flaws_of files reads file) f → phase_of f.kind ≡ 6
-  phase_is file f c = flaws_are_of_checks (scene_of None files reads file) (read_at reads file).tree f c
+  phase_is file f c = all_of_checks None files reads file f c
 
   token_there : (file : ℕ) → file < length files → (f : Flaw) → Contains (flaws_of files reads file) f → f.token < length (read_at reads file).tokens
-  token_there file within f c = flaw_within (file_at files file).bytes (read_at reads file).tokens (read_at reads file).tree (are.trees file within) (scene_of None files reads file) f c
+  token_there file within f c = all_within None files reads file are within f c
 
   pub no_fault : ((k : ℕ) → k < length files → HasNoFlaw files k) → HasNoFault (CheckFaults files)
   no_fault none y h = let s = said y h in none s.file s.within reads are s.flaw s.there

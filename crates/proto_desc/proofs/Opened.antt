@@ -1,14 +1,13 @@
 -- What opening files answers: the first step that finds a fault has the least of all.
 use Rattle.std.proofs.Common.{◌≡◌, ◌<◌, ◌⊎◌, inl, inr, ⊎_elim, List, None, Result, Ok, Err, IfOk, IfErr, sym, subst, arith, IsPermutation}
 use Rattle.proto_faults.proofs.Common.{IsPermutation-sym, IsPermutation-trans, All-permutation, length_permutation, phase_of}
-use Rattle.proto_files.proofs.Common.{FaultAt, fault_at, ComesBefore, IsLeastFault, HasNoFault, IsFilesError, FileOf, paths_of, AreWorkspaceFiles, PathFaults, ReadFaults, IsWorkspacePath, comes_before_cases, one_order, paths_are_phase_0, texts_are_phase_1, grammar_is_phase_2, read_at}
+use Rattle.proto_files.proofs.Common.{FaultAt, fault_at, ComesBefore, IsLeastFault, HasNoFault, IsFilesError, FileOf, paths_of, AreWorkspaceFiles, PathFaults, ReadFaults, IsWorkspacePath, comes_before_cases, one_order, paths_are_phase_0, texts_are_phase_1, grammar_is_phase_2}
 use Rattle.proto_files.proofs.OneLeast.{least_is_one}
 use Rattle.proto_faults.specs.declared.fault.SchemaFault.{SchemaFault}
 use Rattle.proto_faults.specs.declared.fault.SchemaFault.TheVariants.{Schema, NoMemory}
 use Rattle.proto_imports.proofs.Common.{IsLinkError, LinkFaults, of_import, of_name, of_reference, import_found, name_found, reference_found}
-use Rattle.proto_checks.proofs.Phases.{flaws_are_of_checks}
+use Rattle.proto_extensions.proofs.WorkspaceFlaws.{all_of_checks}
 use Rattle.proto_desc.specs.Checked.{CheckFaults, of_flaw, IsCheckError}
-use Rattle.proto_desc.specs.SceneOf.{scene_of}
 use Rattle.proto_desc.specs.Opening.{AreReadOf, IsOpenError, NoOpenFault, OneOpenFault}
 use Rattle.proto_desc.specs.Whole.{IsSortedOf, FileFaults, of_read, of_link as of_linking, of_check as of_checking, WorkspaceFaults, of_path, of_files as of_sorted}
 
@@ -27,8 +26,7 @@ link_phase files x (of_reference reads f z are_read stands h) =
     let e : phase_of x.kind ≡ 5 = (reference_found files reads are_read f h).in_phase x.kind stands.number in (omega (arith, e), omega (arith, e))
 
 check_phase : (files : List FileOf) (x : FaultAt) → CheckFaults files x → phase_of x.kind ≡ 6
-check_phase files x (of_flaw reads file f are_read within there) =
-    flaws_are_of_checks (scene_of None files reads file) (read_at reads file).tree f there
+check_phase files x (of_flaw reads file f are_read within there) = all_of_checks None files reads file f there
 
 file_phase : (files : List FileOf) (x : FaultAt) → FileFaults files x → 0 < phase_of x.kind
 file_phase files x (of_read z h) = (read_phase files x h).0

@@ -4,8 +4,10 @@ use Rattle.std.specs.List.{Contains}
 use Rattle.proto_files.specs.Faults.{fault_at}
 use Rattle.proto_files.specs.GivenFiles.{FileOf}
 use Rattle.proto_files.specs.FilesRead.{ReadOf, AreRead}
+use Rattle.proto_parts.specs.Numbers.{past}
 use Rattle.proto_numbers.specs.Flaws.{IsLeast}
 use Rattle.proto_numbers.specs.declared.flaw.Flaw.{Flaw}
+use Rattle.proto_extensions.specs.Extensions.{workspace_flaws}
 use Rattle.proto_desc.specs.Checked.{fault_of, flaws_of}
 use Rattle.proto_faults.specs.declared.fault.SchemaFault.{SchemaFault}
 use Rattle.proto_faults.specs.declared.fault.SchemaFault.TheVariants.{Schema, NoMemory}
@@ -15,6 +17,13 @@ abbrev pub HasNoFlaw : List FileOf → ℕ → Type 0
 HasNoFlaw files file =
     (reads : List ReadOf) → AreRead files reads
     → (f : Flaw) → Contains (flaws_of files reads file) f → ⊥
+
+-- these are the flaws of the file at a place that its workspace decides, with numbers up to a cap
+-- past every limit
+abbrev pub AreOfWorkspace : List FileOf → ℕ → List Flaw → Type 0
+AreOfWorkspace files file flaws =
+    (reads : List ReadOf) → AreRead files reads
+    → flaws ≡ workspace_flaws (Some past) files reads file
 
 -- the error is want of memory, or the flaw as a fault of the file
 abbrev pub IsFaultOf : List FileOf → ℕ → Flaw → SchemaFault → Type 0

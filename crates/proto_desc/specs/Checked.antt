@@ -5,7 +5,7 @@ use Rattle.proto_text.specs.Texts.{offset_at}
 use Rattle.proto_files.specs.Faults.{FaultAt, IsLeastFault, fault_at}
 use Rattle.proto_files.specs.GivenFiles.{FileOf, file_at}
 use Rattle.proto_files.specs.FilesRead.{ReadOf, AreRead, read_at}
-use Rattle.proto_checks.specs.FileFlaws.{file_flaws}
+use Rattle.proto_extensions.specs.Extensions.{all_flaws}
 use Rattle.proto_numbers.specs.declared.flaw.Flaw.{Flaw}
 use Rattle.proto_described.specs.Described.{file_described}
 use Rattle.proto_descriptors.specs.Descriptors.{FileDesc}
@@ -13,9 +13,10 @@ use Rattle.proto_scenes.specs.SceneOf.{scene_of}
 use Rattle.proto_faults.specs.declared.fault.SchemaFault.{SchemaFault}
 use Rattle.proto_faults.specs.declared.fault.SchemaFault.TheVariants.{Schema, NoMemory}
 
--- what is wrong with a file of the workspace
+-- what is wrong with a file of the workspace: with the file alone, and with the numbers of its
+-- extensions, which the workspace decides
 abbrev pub flaws_of : List FileOf → List ReadOf → ℕ → List Flaw
-flaws_of files reads file = file_flaws (scene_of None files reads file) (read_at reads file).tree
+flaws_of files reads file = all_flaws None files reads file
 
 -- a flaw as a fault of the file at an offset
 abbrev pub fault_of : List FileOf → List ReadOf → ℕ → Flaw → FaultAt

@@ -1,6 +1,6 @@
 //! Checking linked files, with their descriptors or without.
 
-ghost use Rattle.std.specs.Prelude.{◌<◌, length, map, IfOk, IfErr};
+ghost use Rattle.std.specs.Prelude.{◌<◌, ◌++◌, length, map, IfOk, IfErr};
 ghost use Rattle.std.specs.List.{Contains};
 ghost use Rattle.proto_tree.specs.File.{tree_of_file};
 ghost use Rattle.proto_files.specs.Faults.{HasNoFault};
@@ -9,14 +9,16 @@ ghost use Rattle.proto_checks.specs.FileFlaws.{file_flaws};
 ghost use Rattle.proto_numbers.specs.Flaws.{IsLeast};
 ghost use Rattle.proto_desc.specs.Checked.{AreDescribed, CheckFaults, IsCheckError};
 ghost use Rattle.proto_scenes.specs.Scenes.{AreScenes, IsSceneOf};
-ghost use Rattle.proto_desc.specs.CheckSteps.{HasNoFlaw, IsFaultOf, IsFileError};
+ghost use Rattle.proto_desc.specs.CheckSteps.{AreOfWorkspace, HasNoFlaw, IsFaultOf, IsFileError};
 ghost use Rattle.proto_scenes.specs.Enums.{IsEnumTable};
+ghost use Rattle.proto_extensions.specs.Listed.{AreWorkspaceFlaws};
 ghost use Rattle.proto_descriptors.specs.Views.{file_desc, files_desc};
 
 use crate::described::file_descriptor;
 use indexmap::IndexMap;
 use proto_checks::{Flaw, file_flaws, least};
 use proto_descriptors::{Descriptors, FileDescriptor};
+use proto_extensions::workspace_flaws;
 use proto_faults::{NoMemory, SchemaFault};
 use proto_files::{Files, are_read, fault_at_token};
 use proto_parts::Scene;
@@ -36,30 +38,51 @@ fn fault(alloc: Global, files: &Files, file: usize, flaw: Flaw) -> SchemaFault
     fault_at_token(alloc, files, file as u32, flaw.token, flaw.kind)
 }
 
-fn least_flaw(alloc: Global, scene: &Scene, tree: &File) -> Result<Option<Flaw>, NoMemory>
-    ensures { IfOk result
-        (λ flaw. IsLeast (Contains (file_flaws scene.now (tree_of_file tree.now))) flaw) }
+/// The least flaw of a file, beside those that its workspace decides.
+fn least_flaw(
+    alloc: Global,
+    scene: &Scene,
+    tree: &File,
+    of_workspace: &[Flaw],
+) -> Result<Option<Flaw>, NoMemory>
+    ensures { IfOk result (λ flaw. IsLeast
+        (Contains (file_flaws scene.now (tree_of_file tree.now) ++ of_workspace.now)) flaw) }
 {
-    let found = file_flaws(alloc, scene, tree)?;
+    let mut found = file_flaws(alloc, scene, tree)?;
+    found.extend_from_slice(of_workspace)?;
     Ok(least(&found))
 }
 
 /// Whether a file has no flaw; else its least one.
-fn check_file(alloc: Global, files: &Files, scene: &Scene, file: usize) -> Result<(), SchemaFault>
+fn check_file(
+    alloc: Global,
+    files: &Files,
+    scene: &Scene,
+    of_workspace: &[Flaw],
+    file: usize,
+) -> Result<(), SchemaFault>
     requires file { file < length files.now }
     requires scene { IsSceneOf files.now file scene.now }
+    requires flaws { AreOfWorkspace files.now file of_workspace.now }
     ensures clean { IfOk result (λ _. HasNoFlaw files.now file) }
     ensures fault { IfErr result (IsFileError files.now file) }
 {
-    match least_flaw(alloc, scene, files.tree(file))? {
+    match least_flaw(alloc, scene, files.tree(file), of_workspace)? {
         Some(flaw) => Err(fault(alloc, files, file, flaw)),
         None => Ok(()),
     }
 }
 
-/// Whether no file has a flaw; else the least one of the first that has.
-fn check_files(alloc: Global, files: &Files, scenes: &[Scene]) -> Result<(), SchemaFault>
-    requires { AreScenes files.now scenes.now }
+/// Whether no file has a flaw, where those that the workspace decides are given for each; else the
+/// least one of the first that has.
+fn check_each(
+    alloc: Global,
+    files: &Files,
+    scenes: &[Scene],
+    of_workspace: &[Vec<Flaw>],
+) -> Result<(), SchemaFault>
+    requires scenes { AreScenes files.now scenes.now }
+    requires flaws { AreWorkspaceFlaws files.now of_workspace.now }
     ensures clean { IfOk result (λ _. HasNoFault (CheckFaults files.now)) }
     ensures fault { IfErr result (IsCheckError files.now) }
 {
@@ -68,9 +91,25 @@ fn check_files(alloc: Global, files: &Files, scenes: &[Scene]) -> Result<(), Sch
     are_read(files);
     let _count = files.len();
     for file in 0..files.len() {
-        check_file(alloc, files, &scenes[file], file)?;
+        check_file(alloc, files, &scenes[file], &of_workspace[file], file)?;
     }
     Ok(())
+}
+
+/// Whether no file has a flaw; else the least one of the first that has.
+fn check_files(
+    alloc: Global,
+    files: &Files,
+    link: &Link,
+    scenes: &[Scene],
+) -> Result<(), SchemaFault>
+    requires link { IsLinkOf files.now link.now }
+    requires scenes { AreScenes files.now scenes.now }
+    ensures clean { IfOk result (λ _. HasNoFault (CheckFaults files.now)) }
+    ensures fault { IfErr result (IsCheckError files.now) }
+{
+    let of_workspace = workspace_flaws(alloc, files, link, scenes)?;
+    check_each(alloc, files, scenes, &of_workspace)
 }
 
 /// The descriptors of the files, in the order of their paths.
@@ -82,7 +121,7 @@ fn descriptors(
     requires { AreScenes files.now scenes.now }
     ensures { IfOk result (λ ds. AreDescribed files.now (map file_desc ds.items)) }
 {
-    let mut descriptors = Vec::new(alloc);
+    let mut descriptors = Vec::with_capacity(alloc, files.len())?;
     for file in 0..files.len() {
         let path = files.path(file);
         descriptors.push(file_descriptor(alloc, &scenes[file], path, files.tree(file))?)?;
@@ -104,7 +143,7 @@ fn check_with(
     ensures fault { IfErr result (IsCheckError files.now) }
 {
     let scenes = scenes(alloc, files, link, table)?;
-    check_files(alloc, files, &scenes)?;
+    check_files(alloc, files, link, &scenes)?;
     let file = descriptors(alloc, files, &scenes)?;
     Ok(Descriptors { file })
 }
@@ -134,7 +173,7 @@ fn pass_checks_with(
     ensures fault { IfErr result (IsCheckError files.now) }
 {
     let scenes = scenes(alloc, files, link, table)?;
-    check_files(alloc, files, &scenes)
+    check_files(alloc, files, link, &scenes)
 }
 
 /// Whether the checks of linked files find no fault; else the least fault by path, offset and

@@ -5,7 +5,9 @@ ghost use Rattle.proto_tree.specs.File.{item_tree, tree_of_file, trees};
 ghost use Rattle.proto_described.specs.Described.{file_described, messages_described, package_prefix};
 ghost use Rattle.proto_descriptors.specs.Views.{file_desc, messages_desc};
 
-use crate::described_items::{enum_descriptors, message_descriptors, prefix, service_descriptors};
+use crate::described_items::{
+    enum_descriptors, extension_descriptors, message_descriptors, prefix, service_descriptors,
+};
 use crate::file_options::{syntax, written_options};
 use crate::head::head;
 use proto_descriptors::{FileDescriptor, MessageDescriptor};
@@ -50,6 +52,7 @@ pub fn file_descriptor(
         message_type,
         enum_type: enum_descriptors(alloc, scene, items)?,
         service: service_descriptors(alloc, scene, items)?,
+        extension: extension_descriptors(alloc, scene, items)?,
         options: written_options(alloc, scene, file)?,
         syntax: syntax(scene),
     })

@@ -1,12 +1,15 @@
-//! The messages, enums and services right in a file, and what stands before their names.
+//! The messages, enums, services and extensions right in a file, and what stands before their
+//! names.
 
 ghost use Rattle.std.specs.Prelude.{◌≡◌, ◌++◌, map, option_map, option_to_list, string_bytes, IfOk, OnOk};
 ghost use Rattle.proto_tree.specs.File.{item_tree, trees};
-ghost use Rattle.proto_described.specs.Described.{enums_described, messages_described, package_prefix, services_described};
-ghost use Rattle.proto_descriptors.specs.Views.{enum_desc, messages_desc, service_desc};
+ghost use Rattle.proto_described.specs.Described.{enums_described, extensions_described, messages_described, package_prefix, services_described};
+ghost use Rattle.proto_descriptors.specs.Views.{enum_desc, field_desc, messages_desc, service_desc};
 
-use proto_described::{absolute, message_descriptor, push_enum, service_descriptor};
-use proto_descriptors::{EnumDescriptor, MessageDescriptor, ServiceDescriptor};
+use proto_described::{
+    absolute, message_descriptor, push_enum, push_extensions, service_descriptor,
+};
+use proto_descriptors::{EnumDescriptor, FieldDescriptor, MessageDescriptor, ServiceDescriptor};
 use proto_faults::NoMemory;
 use proto_parts::Scene;
 use proto_tree::Item;
@@ -44,6 +47,7 @@ pub(crate) fn message_descriptors(
             descriptors.push(descriptor)?;
         }
     }
+    descriptors.shrink_to_fit();
     Ok(descriptors)
 }
 
@@ -76,6 +80,7 @@ pub(crate) fn enum_descriptors(
     for item in items {
         push_item_enum(alloc, scene, &mut descriptors, item)?;
     }
+    descriptors.shrink_to_fit();
     Ok(descriptors)
 }
 
@@ -106,6 +111,38 @@ pub(crate) fn service_descriptors(
     let mut descriptors = Vec::new(alloc);
     for item in items {
         push_service(alloc, scene, &mut descriptors, item)?;
+    }
+    Ok(descriptors)
+}
+
+fn push_item_extensions(
+    alloc: Global,
+    scene: &Scene,
+    found: &mut Vec<FieldDescriptor>,
+    item: &Item,
+) -> Result<(), NoMemory>
+    ensures { OnOk result (map field_desc found.new.items
+        ≡ map field_desc found.old.items ++ extensions_described scene.now (item_tree item.now)) }
+{
+    match item {
+        Item::Extend(extend) => push_extensions(alloc, scene, found, extend),
+        _ => Ok(()),
+    }
+}
+
+/// The extensions right in a file.
+// As `extension_descriptors` of proto_described, over items in place of members.
+pub(crate) fn extension_descriptors(
+    alloc: Global,
+    scene: &Scene,
+    items: &[Item],
+) -> Result<Vec<FieldDescriptor>, NoMemory>
+    ensures { IfOk result (λ ds. map field_desc ds.items
+        ≡ extensions_described scene.now (trees item_tree items.now)) }
+{
+    let mut descriptors = Vec::new(alloc);
+    for item in items {
+        push_item_extensions(alloc, scene, &mut descriptors, item)?;
     }
     Ok(descriptors)
 }

@@ -1,5 +1,5 @@
 -- The descriptor of a file is the same with one cap and another, each past every limit (for the crates above).
-use Rattle.std.proofs.Common.{◌≡◌, ◌⊎◌, ℕ, ◌+◌, ◌-◌, ◌^◌, ℤ, pos, negsuc, nat_abs, true, false, if◌then◌else◌, List, [], ◌∷◌, map, flat_map, Option, Some, None, option_map, codes, refl, sym, ◌∙◌, ap, inl, inr}
+use Rattle.std.proofs.Common.{◌≡◌, ◌⊎◌, ℕ, ◌+◌, ◌-◌, ◌^◌, ℤ, pos, negsuc, nat_abs, true, false, if◌then◌else◌, List, [], ◌∷◌, ◌++◌, map, flat_map, Option, Some, None, option_map, codes, refl, sym, ◌∙◌, ap, inl, inr}
 use Rattle.proto_faults.proofs.Common.{signed_decimal, cases_Bool}
 use Rattle.proto_tree.specs.declared.piece.Header.TheVariants as header
 use Rattle.proto_tree.specs.declared.piece.Statement.TheVariants as statement
@@ -11,11 +11,11 @@ use Rattle.proto_tree.specs.declared.tree.Value.{Value}
 use Rattle.proto_tree.specs.Tree.{Tree, End, Leaf, Block}
 use Rattle.proto_listing.specs.FromTree.{items_in}
 use Rattle.proto_meaning.specs.Tree.{package_of}
-use Rattle.proto_parts.proofs.Common.{value_named, FieldOf, statements, fields_in, values_in, reserved_ranges, extension_ranges, enum_ranges, Scene, text, number_at, signed_at}
+use Rattle.proto_parts.proofs.Common.{value_named, FieldOf, statements, fields_in, values_in, reserved_ranges, extension_ranges, enum_ranges, Scene, text, number_at, signed_at, json_name_of}
 use Rattle.proto_numbers.proofs.Common.{is_within, most_field, most_value, least_value, range_of, enum_range_of, end_of, Alike, AlikeCaps, is_near, within_alike, near_within, same_near, past_or_none, capped, alike_at, alike_signed, alike_end}
 use Rattle.proto_described.specs.Capped.{CapsKeepTheDescriptor}
 use Rattle.proto_descriptors.specs.Descriptors.{NoMessages, Message}
-use Rattle.proto_described.specs.Described.{field_number, value_number, default_number, number_range, value_range, default_text, below, field_described, value_described, enum_described, enums_described, entry_described, message_described, messages_described, package_named, package_prefix, file_described}
+use Rattle.proto_described.specs.Described.{field_number, value_number, default_number, number_range, value_range, default_text, below, type_text, field_with, field_described, extension_described, extensions_described, value_described, enum_described, enums_described, entry_described, message_described, messages_described, package_named, package_prefix, file_described}
 
 -- ---- numbers
 
@@ -70,11 +70,21 @@ module _ (scene : Scene) (c d : Option ℕ) (caps : AlikeCaps c d) where
   default_same (constant.Word w) = refl
   default_same (constant.Text j) = refl
 
-  field_same : (full : List ℕ) (f : FieldOf) → field_described one full f ≡ field_described two full f
-  field_same full f = λ i. record (field_described one full f) {
+  with_same : (full : List ℕ) (extendee json_name : Option (List ℕ)) (f : FieldOf) → field_with one full extendee json_name f ≡ field_with two full extendee json_name f
+  with_same full extendee json_name f = λ i. record (field_with one full extendee json_name f) {
     number = field_number_same (number_at one f.number) (number_at two f.number) (alike_at scene c d caps f.number) i;
     default_value = option_map_same (default_text one) (default_text two) default_same (value_named (text scene) (codes "default") f.options) i;
   }
+
+  field_same : (full : List ℕ) (f : FieldOf) → field_described one full f ≡ field_described two full f
+  field_same full f = with_same full None (Some (json_name_of scene f)) f
+
+  extensions_same : (tree : Tree) → extensions_described one tree ≡ extensions_described two tree
+  extensions_same End = refl
+  extensions_same (Leaf s rest) = extensions_same rest
+  extensions_same (Block (header.Extend e) opens within closes rest) =
+      λ i. map_same (extension_described one e.extendee) (extension_described two e.extendee) (with_same [] (Some (type_text scene e.extendee)) None) (fields_in within) i ++ extensions_same rest i
+  extensions_same (Block h opens within closes rest) = extensions_same rest
 
   value_same : (v : Value) → value_described one v ≡ value_described two v
   value_same v = λ i. record (value_described one v) { number = value_number_same (signed_at one v.number) (signed_at two v.number) (alike_signed scene c d caps v.number) i }
@@ -94,6 +104,7 @@ module _ (scene : Scene) (c d : Option ℕ) (caps : AlikeCaps c d) where
   message_same : (full : List ℕ) (name : ℕ) (within : Tree) → message_described one full name within ≡ message_described two full name within
   message_same full name within = λ i. record (message_described one full name within) {
     field = map_same (field_described one full) (field_described two full) (field_same full) (fields_in within) i;
+    extension = extensions_same within i;
     enum_type = enums_same within i;
     extension_range = ranges (flat_map extension_ranges (statements within)) i;
     reserved_range = ranges (flat_map reserved_ranges (statements within)) i;
@@ -115,6 +126,7 @@ module _ (scene : Scene) (c d : Option ℕ) (caps : AlikeCaps c d) where
   file_same path tree = λ i. record (file_described one path tree) {
     message_type = messages_same (package_prefix (package_named scene (package_of (items_in tree)))) tree i;
     enum_type = enums_same tree i;
+    extension = extensions_same tree i;
   }
 
 pub caps_keep_the_descriptor : CapsKeepTheDescriptor

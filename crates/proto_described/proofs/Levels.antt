@@ -1,12 +1,14 @@
 -- What stands right in a message or a file, of trees that stand one behind another (for the crates above).
 use Rattle.std.proofs.Common.{◌≡◌, ℕ, ◌+◌, ◌<◌, ◌≤◌, List, [], ◌∷◌, ◌++◌, length, get_or, take, drop, refl, sym, ap, ◌∙◌, map, append_assoc, Option, option_to_list, append-nil}
 use Rattle.std.proofs.lemmas.List.{at_drop_more, at_drop_all, map-append, take_more}
+use Rattle.proto_faults.proofs.Turns.{pushed_more}
 use Rattle.proto_tree.specs.declared.piece.Statement.TheVariants as statement
 use Rattle.proto_tree.specs.declared.piece.Header.TheVariants as header
 use Rattle.proto_tree.proofs.Common.{trees, Tree, End, Leaf, Block, joined}
-use Rattle.proto_parts.proofs.Common.{Scene, text, options_in}
-use Rattle.proto_described.specs.Described.{below, enum_described, enums_described, oneof_names, entry_described, message_described, messages_described, method_described, methods_described, service_described, services_described}
+use Rattle.proto_parts.proofs.Common.{Scene, text, fields_in, options_in}
+use Rattle.proto_described.specs.Described.{below, enum_described, enums_described, extension_described, extensions_described, oneof_names, entry_described, message_described, messages_described, method_described, methods_described, service_described, services_described}
 use Rattle.proto_descriptors.proofs.Common.{MessageTree, message_desc, message_step, message_tree, messages_desc, EnumDesc, MessageDesc, Messages, NoMessages, Message, MethodDesc, ServiceDesc}
+use Rattle.proto_descriptors.specs.Descriptors.{FieldDesc}
 use Rattle.proto_descriptors.specs.declared.message.MessageDescriptor.{MessageDescriptor}
 use Rattle.proto_descriptors.specs.declared.message.MessageDescriptor.TheOpen.{MessageDescriptor-F}
 use Rattle.proto_descriptors.specs.declared.message.MessageDescriptor.TheFolds.{fold-roll-MessageDescriptor}
@@ -17,6 +19,14 @@ enums_joined scene End u = refl
 enums_joined scene (Leaf s rest) u = enums_joined scene rest u
 enums_joined scene (Block (header.Enum h) i within j rest) u = ap (λ (ds : List EnumDesc). enum_described scene h.name within ∷ ds) (enums_joined scene rest u)
 enums_joined scene (Block whole i within j rest) u = enums_joined scene rest u
+
+pub extensions_joined : (scene : Scene) (t u : Tree) → extensions_described scene (joined t u) ≡ extensions_described scene t ++ extensions_described scene u
+extensions_joined scene End u = refl
+extensions_joined scene (Leaf s rest) u = extensions_joined scene rest u
+extensions_joined scene (Block (header.Extend e) i within j rest) u =
+    let own : List FieldDesc = map (extension_described scene e.extendee) (fields_in within) in
+    ap (λ (ds : List FieldDesc). own ++ ds) (extensions_joined scene rest u) ∙ sym (append_assoc own (extensions_described scene rest) (extensions_described scene u))
+extensions_joined scene (Block whole i within j rest) u = extensions_joined scene rest u
 
 pub oneofs_joined : (scene : Scene) (t u : Tree) → oneof_names scene (joined t u) ≡ oneof_names scene t ++ oneof_names scene u
 oneofs_joined scene End u = refl
@@ -60,6 +70,12 @@ pub mapped_turn : {A B D : Type 0} (read : D → B) (described : A → B) (items
 mapped_turn read described items i x y found next d l e new is before =
     ap (map read) new ∙ map-append read found (d ∷ []) ∙ ap (λ (b : _). map read found ++ b ∷ []) (is ∙ ap described e) ∙ ap (λ (bs : List _). bs ++ described (get_or items i y) ∷ []) before
     ∙ sym (ap (map described) (take_more items i y l) ∙ map-append described (take i items) (get_or items i y ∷ []))
+
+-- the same behind what was made before
+pub mapped_behind : {A B D : Type 0} (read : D → B) (described : A → B) (before : List B) (items : List A) (i : ℕ) (x y : A) (found next : List D) (d : D) → i < length items → x ≡ get_or items i y → next ≡ found ++ d ∷ []
+    → read d ≡ described x → map read found ≡ before ++ map described (take i items) → map read next ≡ before ++ map described (take (i + 1) items)
+mapped_behind read described before items i x y found next d l e new is same =
+    pushed_more described before items i x y (map read found) (map read next) l e (ap (map read) new ∙ map-append read found (d ∷ []) ∙ ap (λ (b : _). map read found ++ b ∷ []) is) same
 
 -- the same where what is made is kept as it is
 pub pushed_turn : {A D : Type 0} (made : A → D) (items : List A) (i : ℕ) (x : A) (found next : List D) (d : D) → i < length items → next ≡ found ++ d ∷ []
@@ -116,10 +132,11 @@ described_all view scene full items i ds whole l before =
 pub level_of : (m : MessageDescriptor-F MessageDescriptor) → message_tree (roll-MessageDescriptor m) ≡ record { message = message_desc m; nested_type = messages_desc m.nested_type.items }
 level_of m = fold-roll-MessageDescriptor MessageTree message_step m
 
-pub same_parts : (a b : MessageDesc) → a.name ≡ b.name → a.field ≡ b.field → a.enum_type ≡ b.enum_type → a.extension_range ≡ b.extension_range → a.oneof_decl ≡ b.oneof_decl → a.reserved_range ≡ b.reserved_range → a.reserved_name ≡ b.reserved_name → a.options ≡ b.options → a ≡ b
-same_parts a b n f e x o r w s = λ i. record {
+pub same_parts : (a b : MessageDesc) → a.name ≡ b.name → a.field ≡ b.field → a.extension ≡ b.extension → a.enum_type ≡ b.enum_type → a.extension_range ≡ b.extension_range → a.oneof_decl ≡ b.oneof_decl → a.reserved_range ≡ b.reserved_range → a.reserved_name ≡ b.reserved_name → a.options ≡ b.options → a ≡ b
+same_parts a b n f d e x o r w s = λ i. record {
   name = n i;
   field = f i;
+  extension = d i;
   enum_type = e i;
   extension_range = x i;
   oneof_decl = o i;

@@ -1,5 +1,5 @@
--- The descriptor of a file that is linked, from its tree and what is read of it: fields, enums,
--- messages, services and the file itself.
+-- The descriptor of a file that is linked, from its tree and what is read of it: fields,
+-- extensions, enums, messages, services and the file itself.
 use Rattle.std.specs.Prelude.{ℕ, suc, ◌+◌, ℤ, pos, negsuc, nat_abs, ◌^◌, ◌-◌, Bool, true, false, ◌&&◌, ◌||◌, if◌then◌else◌, List, [], ◌∷◌, ◌++◌, map, flat_map, Option, Some, None, option_map, is_some, codes}
 use Rattle.std.specs.Fmt.{signed_decimal}
 use Rattle.std.specs.Str.{bytes_eq}
@@ -104,7 +104,11 @@ abbrev pub type_name_of : Scene → WrittenType → Option Text
 type_name_of scene (written_type.Scalar t) = None
 type_name_of scene (written_type.Reference r) = option_map (λ m. absolute m.name) (meant_by scene r)
 
--- ---- fields
+-- the full name that a reference means, behind a dot
+abbrev pub type_text : Scene → Reference → Text
+type_text scene r = or_nothing (option_map (λ m. absolute m.name) (meant_by scene r))
+
+-- ---- fields and extensions
 
 -- the field is a map: it has a type of keys
 abbrev pub is_map : FieldOf → Bool
@@ -140,21 +144,41 @@ field_options scene options = record {
   deprecated = truth_option (text scene) (codes "deprecated") options;
 }
 
--- a field of the message with this full name
-abbrev pub field_described : Scene → Text → FieldOf → FieldDesc
-field_described scene full f = record {
+-- a field, with what is said of its message: its full name, the extendee of an extension and the
+-- JSON name of any other field
+abbrev pub field_with : Scene → Text → Option Text → Option Text → FieldOf → FieldDesc
+field_with scene full extendee json_name f = record {
   name = text scene f.name;
   number = field_number (number_at scene f.number);
   label = label_of scene f;
   field_type = field_type_of scene f;
   type_name = field_type_name scene full f;
+  extendee = extendee;
   default_value =
       option_map (default_text scene) (value_named (text scene) (codes "default") f.options);
   oneof_index = f.oneof;
-  json_name = Some (json_name_of scene f);
+  json_name = json_name;
   proto3_optional = scene.is_proto3 && has_label scene (codes "optional") f;
   options = field_options scene f.options;
 }
+
+-- a field of the message with this full name
+abbrev pub field_described : Scene → Text → FieldOf → FieldDesc
+field_described scene full f = field_with scene full None (Some (json_name_of scene f)) f
+
+-- an extension of what the reference means, which it names behind a dot; it has no JSON name, and
+-- is no map field, which alone asks for the message around it
+abbrev pub extension_described : Scene → Reference → FieldOf → FieldDesc
+extension_described scene extendee f = field_with scene [] (Some (type_text scene extendee)) None f
+
+-- the extensions right in a message or a file, block by block
+abbrev pub extensions_described : Scene → Tree → List FieldDesc
+extensions_described scene End = []
+extensions_described scene (Leaf s rest) = extensions_described scene rest
+extensions_described scene (Block (header.Extend e) opens within closes rest) =
+    map (extension_described scene e.extendee) (fields_in within)
+    ++ extensions_described scene rest
+extensions_described scene (Block h opens within closes rest) = extensions_described scene rest
 
 -- ---- enums
 
@@ -216,6 +240,7 @@ abbrev pub message_described : Scene → Text → ℕ → Tree → MessageDesc
 message_described scene full name within = record {
   name = text scene name;
   field = map (field_described scene full) (fields_in within);
+  extension = extensions_described scene within;
   enum_type = enums_described scene within;
   extension_range =
       map (λ r. number_range (range_of scene r)) (flat_map extension_ranges (statements within));
@@ -234,6 +259,7 @@ entry_field word number kind type_name = record {
   label = label.Optional;
   field_type = kind;
   type_name = type_name;
+  extendee = None;
   default_value = None;
   oneof_index = None;
   json_name = Some word;
@@ -248,6 +274,7 @@ entry_described scene f = record {
   field =
       entry_field key_word 1 (scalar_type (text scene f.key)) None
       ∷ entry_field value_word 2 (type_of scene f.value) (type_name_of scene f.value) ∷ [];
+  extension = [];
   enum_type = [];
   extension_range = [];
   oneof_decl = [];
@@ -272,10 +299,6 @@ messages_described scene full (Block h opens within closes rest) =
     messages_described scene full rest
 
 -- ---- services
-
--- the full name that a reference means, behind a dot
-abbrev pub type_text : Scene → Reference → Text
-type_text scene r = or_nothing (option_map (λ m. absolute m.name) (meant_by scene r))
 
 -- the level of a word; a word that names none is the unknown level
 abbrev pub level_named : Text → IdempotencyLevel
@@ -384,6 +407,7 @@ file_described scene path tree = record {
       (package_prefix (package_named scene (package_of (items_in tree)))) tree;
   enum_type = enums_described scene tree;
   service = services_described scene tree;
+  extension = extensions_described scene tree;
   options = file_options scene (options_in tree);
   syntax = if scene.is_proto3 then syntax.Proto3 else syntax.Proto2;
 }

@@ -32,6 +32,7 @@ fn entry_field(
         label: Label::Optional,
         field_type: kind,
         type_name,
+        extendee: None,
         default_value: None,
         oneof_index: None,
         json_name: Some(String::from_str(alloc, word)?),
@@ -73,6 +74,7 @@ pub(crate) fn entry_descriptor(
     Ok(MessageDescriptor {
         name: entry_name(alloc, scene.text(field.name))?,
         field: entry_fields(alloc, scene, field)?,
+        extension: Vec::new(alloc),
         nested_type: Vec::new(alloc),
         enum_type: Vec::new(alloc),
         extension_range: Vec::new(alloc),

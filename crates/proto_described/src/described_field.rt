@@ -1,4 +1,4 @@
-//! The descriptors of fields.
+//! The descriptors of fields and of extensions.
 
 ghost use Rattle.std.specs.Prelude.{◌≡◌, codes, map, option_map, IfOk};
 ghost use Rattle.std.specs.String.{string_bytes};
@@ -6,9 +6,10 @@ ghost use Rattle.proto_parts.specs.Options.{value_named};
 ghost use Rattle.proto_parts.specs.Scenes.{text};
 ghost use Rattle.proto_parts.specs.Views.{field_of, option_of};
 ghost use Rattle.proto_parts.specs.Labels.{has_label};
-ghost use Rattle.proto_described.specs.Described.{label_of, field_type_of, field_type_name, default_text, field_options, field_described};
+ghost use Rattle.proto_described.specs.Described.{label_of, field_type_of, field_type_name, default_text, field_options, field_with, field_described, extension_described};
 ghost use Rattle.proto_descriptors.specs.Views.{field_desc};
 
+use crate::described_names::type_text;
 use crate::described_numbers::{default_number, field_number};
 use crate::described_type::{type_name, type_of};
 use proto_case::entry_name;
@@ -19,7 +20,7 @@ use proto_parts::{
     FieldAt, OptionAt, Scene, has_label, json_name, option_named, options_between, text_value,
     truth_option,
 };
-use proto_tree::Constant;
+use proto_tree::{Constant, Reference};
 use std::alloc::Global;
 
 fn label_of(scene: &Scene, field: FieldAt) -> Label
@@ -106,21 +107,56 @@ pub(crate) fn field_descriptor(
     ensures { IfOk result (λ d. field_desc d
         ≡ field_described scene.now full.now (field_of field.entry)) }
 {
-    let options = options_between(alloc, field.settings)?;
-    field_with(alloc, scene, full, field, &options)
+    let json_name = json_name(alloc, scene, field)?;
+    field_with(alloc, scene, full, None, Some(json_name), field)
 }
 
-// The same, with the options at the field.
+/// The descriptor of an extension of the message that the reference means.
+pub(crate) fn extension_descriptor(
+    alloc: Global,
+    scene: &Scene,
+    extendee: &Reference,
+    field: FieldAt,
+) -> Result<FieldDescriptor, NoMemory>
+    ensures { IfOk result (λ d. field_desc d
+        ≡ extension_described scene.now extendee.now (field_of field.entry)) }
+{
+    let extendee = type_text(alloc, scene, extendee)?;
+    field_with(alloc, scene, "", Some(extendee), None, field)
+}
+
+// A field, with what is said of its message: its full name, the extendee of an extension and the
+// JSON name of any other field.
 fn field_with(
     alloc: Global,
     scene: &Scene,
     full: &str,
+    extendee: Option<String>,
+    json_name: Option<String>,
+    field: FieldAt,
+) -> Result<FieldDescriptor, NoMemory>
+    ensures { IfOk result (λ d. field_desc d
+        ≡ field_with scene.now full.now (option_map string_bytes extendee)
+        (option_map string_bytes json_name) (field_of field.entry)) }
+{
+    let options = options_between(alloc, field.settings)?;
+    field_with_options(alloc, scene, full, extendee, json_name, field, &options)
+}
+
+// The same, with the options at the field.
+fn field_with_options(
+    alloc: Global,
+    scene: &Scene,
+    full: &str,
+    extendee: Option<String>,
+    json_name: Option<String>,
     field: FieldAt,
     options: &[OptionAt],
 ) -> Result<FieldDescriptor, NoMemory>
     requires { map option_of options.now ≡ (field_of field).options }
     ensures { IfOk result (λ d. field_desc d
-        ≡ field_described scene.now full.now (field_of field.entry)) }
+        ≡ field_with scene.now full.now (option_map string_bytes extendee)
+        (option_map string_bytes json_name) (field_of field.entry)) }
 {
     Ok(FieldDescriptor {
         name: String::from_str(alloc, scene.text(field.name))?,
@@ -128,9 +164,10 @@ fn field_with(
         label: label_of(scene, field),
         field_type: field_type_of(scene, field),
         type_name: field_type_name(alloc, scene, full, field)?,
+        extendee,
         default_value: default_value(alloc, scene, options)?,
         oneof_index: field.oneof,
-        json_name: Some(json_name(alloc, scene, field)?),
+        json_name,
         proto3_optional: scene.is_proto3() && has_label(scene, "optional", field),
         options: field_options(scene, options),
     })

@@ -5,11 +5,12 @@ ghost use Rattle.proto_tree.specs.File.{member_tree, trees, message_tree as writ
 ghost use Rattle.proto_parts.specs.Parts.{extension_ranges, fields_in, options_in, reserved_names_in, reserved_ranges, statements};
 ghost use Rattle.proto_parts.specs.Scenes.{value};
 ghost use Rattle.proto_numbers.specs.NumberFlaws.{range_of};
-ghost use Rattle.proto_described.specs.Described.{enums_described, field_described, message_described, message_options, messages_described, number_range, oneof_names};
+ghost use Rattle.proto_described.specs.Described.{enums_described, extensions_described, field_described, message_described, message_options, messages_described, number_range, oneof_names};
 ghost use Rattle.proto_descriptors.specs.Views.{enum_desc, field_desc, message_tree, messages_desc, oneof_desc};
 
 use crate::described_entry::entry_descriptor;
 use crate::described_enum::push_enum;
+use crate::described_extensions::push_extensions;
 use crate::described_field::field_descriptor;
 use crate::described_names::strings;
 use crate::described_numbers::number_range;
@@ -80,7 +81,7 @@ fn nested_message(
     }
 }
 
-// The fields, the enums and the oneofs right in a message.
+// The fields, the extensions, the enums and the oneofs right in a message.
 fn declared_parts(
     alloc: Global,
     scene: &Scene,
@@ -89,6 +90,7 @@ fn declared_parts(
 ) -> Result<
     (
         Vec<FieldDescriptor>,
+        Vec<FieldDescriptor>,
         Vec<EnumDescriptor>,
         Vec<OneofDescriptor>,
     ),
@@ -96,15 +98,18 @@ fn declared_parts(
 >
     ensures fields { IfOk result (λ d. map field_desc d.0.items
         ≡ map (field_described scene.now full.now) (fields_in (trees member_tree members.now))) }
-    ensures enums { IfOk result (λ d. map enum_desc d.1.items
+    ensures extensions { IfOk result (λ d. map field_desc d.1.items
+        ≡ extensions_described scene.now (trees member_tree members.now)) }
+    ensures enums { IfOk result (λ d. map enum_desc d.2.items
         ≡ enums_described scene.now (trees member_tree members.now)) }
-    ensures oneofs { IfOk result (λ d. map oneof_desc d.2.items
+    ensures oneofs { IfOk result (λ d. map oneof_desc d.3.items
         ≡ oneof_names scene.now (trees member_tree members.now)) }
 {
     let fields = field_descriptors(alloc, scene, full, members)?;
+    let extensions = extension_descriptors(alloc, scene, members)?;
     let enums = enum_descriptors(alloc, scene, members)?;
     let oneofs = oneof_descriptors(alloc, scene, members)?;
-    Ok((fields, enums, oneofs))
+    Ok((fields, extensions, enums, oneofs))
 }
 
 // The numbers that are left to extensions, and the numbers and the names that no field may have.
@@ -144,11 +149,12 @@ fn message_around(
           nested_type = messages_desc nested.items;
         }) }
 {
-    let (field, enum_type, oneof_decl) = declared_parts(alloc, scene, full, members)?;
+    let (field, extension, enum_type, oneof_decl) = declared_parts(alloc, scene, full, members)?;
     let (extension_range, reserved_range, reserved_name) = reserved_parts(alloc, scene, members)?;
     Ok(MessageDescriptor {
         name: String::from_str(alloc, scene.text(name))?,
         field,
+        extension,
         nested_type: nested,
         enum_type,
         extension_range,
@@ -172,6 +178,36 @@ fn field_descriptors(
     let mut descriptors = Vec::with_capacity(alloc, fields.len())?;
     for field in &fields {
         descriptors.push(field_descriptor(alloc, scene, full, *field)?)?;
+    }
+    Ok(descriptors)
+}
+
+fn push_member_extensions(
+    alloc: Global,
+    scene: &Scene,
+    found: &mut Vec<FieldDescriptor>,
+    member: &Member,
+) -> Result<(), NoMemory>
+    ensures { OnOk result (map field_desc found.new.items ≡ map field_desc found.old.items
+        ++ extensions_described scene.now (member_tree member.now)) }
+{
+    match member {
+        Member::Extend(extend) => push_extensions(alloc, scene, found, extend),
+        _ => Ok(()),
+    }
+}
+
+fn extension_descriptors(
+    alloc: Global,
+    scene: &Scene,
+    members: &[Member],
+) -> Result<Vec<FieldDescriptor>, NoMemory>
+    ensures { IfOk result (λ ds. map field_desc ds.items
+        ≡ extensions_described scene.now (trees member_tree members.now)) }
+{
+    let mut descriptors = Vec::new(alloc);
+    for member in members {
+        push_member_extensions(alloc, scene, &mut descriptors, member)?;
     }
     Ok(descriptors)
 }

@@ -1,9 +1,10 @@
-//! What stands in the descriptors of messages, enums and services, from their trees and what is
-//! read of their file.
+//! What stands in the descriptors of messages, enums, services and extensions, from their trees and
+//! what is read of their file.
 #![tactic(auto)]
 
 mod described_entry;
 mod described_enum;
+mod described_extensions;
 mod described_field;
 mod described_message;
 mod described_names;
@@ -13,6 +14,7 @@ mod described_type;
 pub mod laws;
 
 pub use described_enum::push_enum;
+pub use described_extensions::push_extensions;
 pub use described_message::message_descriptor;
 pub use described_names::absolute;
 pub use described_service::service_descriptor;

@@ -15,13 +15,15 @@ use Rattle.proto_descriptors.specs.declared.message.NumberRange.{NumberRange}
 use Rattle.proto_descriptors.specs.declared.service.MethodOptions.{MethodOptions}
 use Rattle.proto_descriptors.specs.declared.service.ServiceOptions.{ServiceOptions}
 
--- a field; `type_name` is a full name behind a dot, `oneof_index` a place in `oneof_decl`, from 0
+-- a field, or an extension, which alone has an `extendee` and has no `json_name`; `type_name` and
+-- `extendee` are full names behind a dot, `oneof_index` is a place in `oneof_decl`, from 0
 pub record FieldDesc : Type 0 where
   pub name : Text
   pub number : ℕ
   pub label : Label
   pub field_type : FieldType
   pub type_name : Option Text
+  pub extendee : Option Text
   pub default_value : Option Text
   pub oneof_index : Option ℕ
   pub json_name : Option Text
@@ -46,6 +48,7 @@ pub record EnumDesc : Type 0 where
 pub record MessageDesc : Type 0 where
   pub name : Text
   pub field : List FieldDesc
+  pub extension : List FieldDesc
   pub enum_type : List EnumDesc
   pub extension_range : List NumberRange
   pub oneof_decl : List Text
@@ -95,5 +98,6 @@ pub record FileDesc : Type 0 where
   pub message_type : Messages
   pub enum_type : List EnumDesc
   pub service : List ServiceDesc
+  pub extension : List FieldDesc
   pub options : FileOptionsDesc
   pub syntax : Syntax

@@ -23,6 +23,7 @@ field_desc f = record {
   label = f.label;
   field_type = f.field_type;
   type_name = option_map string_bytes f.type_name;
+  extendee = option_map string_bytes f.extendee;
   default_value = option_map string_bytes f.default_value;
   oneof_index = f.oneof_index;
   json_name = option_map string_bytes f.json_name;
@@ -63,6 +64,7 @@ abbrev pub message_desc : {A : Type 0} → MessageDescriptor-F A → MessageDesc
 message_desc m = record {
   name = string_bytes m.name;
   field = map field_desc m.field.items;
+  extension = map field_desc m.extension.items;
   enum_type = map enum_desc m.enum_type.items;
   extension_range = m.extension_range.items;
   oneof_decl = map oneof_desc m.oneof_decl.items;
@@ -127,6 +129,7 @@ file_desc f = record {
   message_type = messages_desc f.message_type.items;
   enum_type = map enum_desc f.enum_type.items;
   service = map service_desc f.service.items;
+  extension = map field_desc f.extension.items;
   options = file_options_desc f.options;
   syntax = f.syntax;
 }

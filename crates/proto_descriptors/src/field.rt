@@ -1,9 +1,9 @@
-//! Fields of messages.
+//! Fields of messages, and extensions.
 
 ghost use Rattle.std.specs.Prelude.{◌≡◌};
 ghost use Rattle.proto_descriptors.specs.Names.{label_name, field_type_name};
 
-/// A field.
+/// A field, or an extension: a field that an `extend` block gives another message.
 #[derive(Drop)]
 pub struct FieldDescriptor {
     /// The name that its declaration gives it.
@@ -16,11 +16,14 @@ pub struct FieldDescriptor {
     pub field_type: FieldType,
     /// The full name of the message or enum, behind a dot.
     pub type_name: Option<String>,
+    /// The full name of the message that an extension extends, behind a dot: none at other fields.
+    pub extendee: Option<String>,
     /// The default as text: decimal, `true` or `false`, the string, or the name of an enum's value.
     pub default_value: Option<String>,
     /// The place of its oneof in the message's `oneof_decl`, from 0.
     pub oneof_index: Option<usize>,
-    /// The name in JSON texts: the one that is written, or the field's own in camel case.
+    /// The name in JSON texts: the one that is written, or the field's own in camel case. An
+    /// extension has none.
     pub json_name: Option<String>,
     /// Whether a proto3 field says `optional`.
     pub proto3_optional: bool,

@@ -4,6 +4,7 @@ ghost use Rattle.std.specs.Prelude.{◌≡◌};
 ghost use Rattle.proto_descriptors.specs.Names.{optimize_mode_name};
 
 use crate::enumeration::EnumDescriptor;
+use crate::field::FieldDescriptor;
 use crate::message::MessageDescriptor;
 use crate::service::ServiceDescriptor;
 
@@ -31,6 +32,8 @@ pub struct FileDescriptor {
     pub enum_type: Vec<EnumDescriptor>,
     /// The services.
     pub service: Vec<ServiceDescriptor>,
+    /// The extensions right in the file.
+    pub extension: Vec<FieldDescriptor>,
     /// The options right in the file.
     pub options: FileOptions,
     /// The language version.

@@ -10,6 +10,8 @@ pub struct MessageDescriptor {
     pub name: String,
     /// The fields, those of its oneofs among them.
     pub field: Vec<FieldDescriptor>,
+    /// The extensions that stand right in it, whichever message they extend.
+    pub extension: Vec<FieldDescriptor>,
     /// The messages right in it, and the entries of its map fields.
     pub nested_type: Vec<MessageDescriptor>,
     /// The enums right in it.

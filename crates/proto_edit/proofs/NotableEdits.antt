@@ -16,8 +16,8 @@ use Rattle.proto_files.proofs.Common.{HasNoFault, AreRead, ReadOf, read_at, AreW
 use Rattle.proto_files.specs.WorkspacePaths.{is_workspace_path}
 use Rattle.proto_files.proofs.WorkspacePathTest.{is_path_from_test, test_from_is_path}
 use Rattle.proto_meaning.specs.declared.kind.Kind.{Kind}
-use Rattle.proto_meaning.specs.declared.kind.Kind.TheVariants.{Field, Value, Method}
-use Rattle.proto_meaning.proofs.Common.{Fault, ImportFault, fault, file_of, unknown, At, at, all_declared, declared_of, file_declared, joined, Declared, EntryOf, Given, Source, Token, name_of, shifted_declared, spell, Items, Member, Members, Placed, all_placed, enum, field, file_placed, item, items_placed, map_field, member, message, no_items, no_members, oneof, package_of, packaged, place, placed, prefixes, service, map_append, file_stands}
+use Rattle.proto_meaning.specs.declared.kind.Kind.TheVariants.{Field, Value, Method, Extension}
+use Rattle.proto_meaning.proofs.Common.{Fault, ImportFault, fault, file_of, unknown, At, at, all_declared, declared_of, file_declared, joined, Declared, EntryOf, Given, Source, Token, name_of, shifted_declared, spell, Items, Member, Members, Placed, all_placed, enum, extend, field, file_placed, item, items_placed, map_field, member, message, no_items, no_members, oneof, package_of, packaged, place, placed, prefixes, service, map_append, file_stands}
 use Rattle.proto_listing.proofs.Common.{items_in, last_token, whole, token_last}
 use Rattle.proto_listing.proofs.ReadWords.{placed_worded}
 use Rattle.proto_imports.proofs.Common.{LinkFaults, names_in, of_import, text_of, name_in}
@@ -115,6 +115,7 @@ mutual
   written_of (message t ms) path h = ((λ e. below path t h), written_in ms (path ++ Token t ∷ []) (below path t h))
   written_of (enum t vs) path h = ((λ e. below path t h), written_tokens path Value vs h)
   written_of (service t ms) path h = ((λ e. below path t h), written_tokens (path ++ Token t ∷ []) Method ms (below path t h))
+  written_of (extend ts) path h = written_tokens path Extension ts h
 
   written_in : (ms : Members) (path : List (Source ℕ)) → AreTokens path → AreWritten (all_placed path ms)
   written_in no_members path h = tt

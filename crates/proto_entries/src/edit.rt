@@ -9,8 +9,9 @@ ghost use Rattle.proto_entries.specs.EditsAsked.{asked, add_import, IsDotted, Is
 use proto_files::is_workspace_path;
 use proto_text::is_word;
 
-/// An edit of a workspace. Full names have no leading dot.
-#[derive(Drop)]
+/// An edit of a workspace. Full names have no leading dot. One that was refused can be asked again
+/// by a clone of it.
+#[derive(Clone, Debug, PartialEq, Eq, Drop)]
 pub enum Edit {
     /// The symbol of this full name gets a new simple name.
     Rename { name: String, to: String },

@@ -16,7 +16,7 @@ use std::marker::Model;
 
 /// A changed file: its path, its lengths in bytes before and after, and its splices, whose places
 /// count in the old text.
-#[derive(Drop)]
+#[derive(Debug, Drop)]
 pub struct Change {
     pub path: String,
     pub before: u32,
@@ -154,7 +154,7 @@ fn is_entry(changes: &[Change]) -> bool
 }
 
 /// What an edit changed, file by file in path order: enough to undo it.
-#[derive(Drop)]
+#[derive(Debug, Drop)]
 pub struct Entry {
     changes: Vec<Change>,
 }

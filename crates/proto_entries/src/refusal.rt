@@ -54,9 +54,10 @@ pub enum Refusal {
 
 impl fmt::Display for Refusal {
     fn fmt<W: fmt::Write>(&self, f: &mut fmt::Formatter<W>) -> fmt::Result {
+        write!(f, "{} {}: {}", self.number(), self.name(), self.text())?;
         match self.place() {
-            None => f.write_str(self.text()),
-            Some((path, offset)) => write!(f, "{}: {path}: byte {offset}", self.text()),
+            None => Ok(()),
+            Some((path, offset)) => write!(f, ": {path}: byte {offset}"),
         }
     }
 }

@@ -1,12 +1,12 @@
 -- The numbers, names and phases of the faults of schemas: the table of this product.
 use Rattle.std.specs.Prelude.{ℕ, codes}
 use Rattle.proto_faults.specs.declared.fault.FaultKind.{FaultKind}
-use Rattle.proto_faults.specs.declared.fault.FaultKind.TheVariants.{TooLarge, NotUtf8, BadChar, OpenComment, OpenString, BadEscape, BadNumber, Syntax, TooDeep, UnknownImport, DoubleImport, ImportCycle, DuplicateName, Unresolved, WrongKind, MapEntryRef, NumberRange, DuplicateNumber, ReservedNumber, ReservedName, RangeOverlap, EmptyEnum, FirstNotZero, ClosedEnum, Label, BadMap, BadOption, BadDefault, EmptyOneof, JsonClash, NotInProto3, AliasNotAllowed, BadPath, DoublePath, TooManyFiles}
+use Rattle.proto_faults.specs.declared.fault.FaultKind.TheVariants.{TooLarge, NotUtf8, BadChar, OpenComment, OpenString, BadEscape, BadNumber, Syntax, TooDeep, UnknownImport, DoubleImport, ImportCycle, DuplicateName, Unresolved, WrongKind, MapEntryRef, NumberRange, DuplicateNumber, ReservedNumber, ReservedName, RangeOverlap, EmptyEnum, FirstNotZero, ClosedEnum, Label, BadMap, BadOption, BadDefault, EmptyOneof, JsonClash, NotInProto3, AliasNotAllowed, BadPath, DoublePath, TooManyFiles, NotExtendable, DuplicateExtension, RequiredExtension}
 use Rattle.proto_faults.specs.declared.fault.SchemaFault.{SchemaFault}
 use Rattle.proto_faults.specs.declared.fault.SchemaFault.TheVariants as answer
 use Rattle.proto_faults.specs.Texts.{Text}
 
--- the number of each fault: 1 to 35, no two the same
+-- the number of each fault: 1 to 38, no two the same
 abbrev pub number_of : FaultKind → ℕ
 number_of TooLarge = 1
 number_of NotUtf8 = 2
@@ -43,6 +43,9 @@ number_of AliasNotAllowed = 32
 number_of BadPath = 33
 number_of DoublePath = 34
 number_of TooManyFiles = 35
+number_of NotExtendable = 36
+number_of DuplicateExtension = 37
+number_of RequiredExtension = 38
 
 -- the word that stands for each fault where one is printed
 abbrev pub name_of : FaultKind → Text
@@ -81,6 +84,9 @@ name_of AliasNotAllowed = codes "AliasNotAllowed"
 name_of BadPath = codes "BadPath"
 name_of DoublePath = codes "DoublePath"
 name_of TooManyFiles = codes "TooManyFiles"
+name_of NotExtendable = codes "NotExtendable"
+name_of DuplicateExtension = codes "DuplicateExtension"
+name_of RequiredExtension = codes "RequiredExtension"
 
 -- the phase that finds each fault: 0 paths, 1 text, 2 grammar, 3 imports, 4 names, 5 references,
 -- 6 checks
@@ -120,10 +126,13 @@ phase_of AliasNotAllowed = 6
 phase_of BadPath = 0
 phase_of DoublePath = 0
 phase_of TooManyFiles = 0
+phase_of NotExtendable = 6
+phase_of DuplicateExtension = 6
+phase_of RequiredExtension = 6
 
 -- ---- what is answered in place of files, a link, descriptors or a schema
 
--- the number of the fault, from 1 to 35; for want of memory, which is no fault of a schema, 0
+-- the number of the fault, from 1 to 38; for want of memory, which is no fault of a schema, 0
 abbrev pub answer_number : SchemaFault → ℕ
 answer_number (answer.Schema fault) = number_of fault.kind
 answer_number answer.NoMemory = 0

@@ -39,7 +39,7 @@ pub enum FaultKind {
     DuplicateName,
     /// 14: a reference that means nothing.
     Unresolved,
-    /// 15: a method's reference that means an enum.
+    /// 15: a reference of a method or of an `extend` that means an enum.
     WrongKind,
     /// 16: a reference that means a generated map entry.
     MapEntryRef,
@@ -81,11 +81,17 @@ pub enum FaultKind {
     DoublePath,
     /// 35: more files than a workspace holds.
     TooManyFiles,
+    /// 36: an extension whose number is inside no extension range of what it extends.
+    NotExtendable,
+    /// 37: an extension whose number an earlier one of the same message has.
+    DuplicateExtension,
+    /// 38: an extension with the label `required`.
+    RequiredExtension,
 }
 
 impl fmt::Display for FaultKind {
     fn fmt<W: fmt::Write>(&self, f: &mut fmt::Formatter<W>) -> fmt::Result {
-        f.write_str(self.text())
+        write!(f, "{} {}: {}", self.number(), self.name(), self.text())
     }
 }
 
@@ -109,7 +115,7 @@ impl FaultKind {
             FaultKind::ImportCycle => "an import that leads back to its file",
             FaultKind::DuplicateName => "a full name that an earlier declaration or a package has",
             FaultKind::Unresolved => "a reference that means nothing",
-            FaultKind::WrongKind => "a method's reference that means an enum",
+            FaultKind::WrongKind => "a reference of a method or of an `extend` that means an enum",
             FaultKind::MapEntryRef => "a reference that means a generated map entry",
             FaultKind::NumberRange => "a number or a range outside its limits",
             FaultKind::DuplicateNumber => "a field number that an earlier field has",
@@ -131,10 +137,15 @@ impl FaultKind {
             FaultKind::BadPath => "a path that is no workspace path",
             FaultKind::DoublePath => "a path that is given twice",
             FaultKind::TooManyFiles => "more files than a workspace holds",
+            FaultKind::NotExtendable =>
+                "an extension's number inside no extension range of what it extends",
+            FaultKind::DuplicateExtension =>
+                "an extension's number that an earlier one of the same message has",
+            FaultKind::RequiredExtension => "a required extension",
         }
     }
 
-    /// The number of the fault, from 1 to 35.
+    /// The number of the fault, from 1 to 38.
     pub fn number(self) -> u32
         ensures { result ≡ number_of self }
     {
@@ -174,6 +185,9 @@ impl FaultKind {
             FaultKind::BadPath => 33,
             FaultKind::DoublePath => 34,
             FaultKind::TooManyFiles => 35,
+            FaultKind::NotExtendable => 36,
+            FaultKind::DuplicateExtension => 37,
+            FaultKind::RequiredExtension => 38,
         }
     }
 
@@ -217,6 +231,9 @@ impl FaultKind {
             FaultKind::BadPath => "BadPath",
             FaultKind::DoublePath => "DoublePath",
             FaultKind::TooManyFiles => "TooManyFiles",
+            FaultKind::NotExtendable => "NotExtendable",
+            FaultKind::DuplicateExtension => "DuplicateExtension",
+            FaultKind::RequiredExtension => "RequiredExtension",
         }
     }
 
@@ -261,13 +278,16 @@ impl FaultKind {
             FaultKind::BadPath => 0,
             FaultKind::DoublePath => 0,
             FaultKind::TooManyFiles => 0,
+            FaultKind::NotExtendable => 6,
+            FaultKind::DuplicateExtension => 6,
+            FaultKind::RequiredExtension => 6,
         }
     }
 }
 
 /// A fault at a place: a file and an offset in it, in bytes from 0.
 #[derive(Debug, Drop, Error)]
-#[error("{path}: byte {offset}: {kind}")]
+#[error("{kind}: {path}: byte {offset}")]
 pub struct Fault {
     /// The file, by its path in the workspace.
     pub path: String,
@@ -278,7 +298,7 @@ pub struct Fault {
 }
 
 impl Fault {
-    /// The number of the fault, from 1 to 35.
+    /// The number of the fault, from 1 to 38.
     pub fn number(&self) -> u32
         ensures { result ≡ number_of self.now.kind }
     {
@@ -306,7 +326,7 @@ pub enum SchemaFault {
 }
 
 impl SchemaFault {
-    /// The number of the fault, from 1 to 35, or 0 for want of memory.
+    /// The number of the fault, from 1 to 38, or 0 for want of memory.
     pub fn number(&self) -> u32
         ensures { result ≡ answer_number self.now }
     {

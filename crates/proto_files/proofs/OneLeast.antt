@@ -2,12 +2,12 @@
 use Rattle.std.proofs.Common.{◌≡◌, ℕ, ◌-◌, List, [], ◌∷◌, get_or, refl, sym, ap, ◌∙◌, nat_cmp}
 use Rattle.proto_faults.proofs.Common.{Ordering, Less, Equal, Greater, IsTotalOrder, ordering_then, ordering_reverse, ranked, nat_cmp_total, nat_list_cmp_total, on_total, then_total, number_of, phase_of}
 use Rattle.proto_faults.specs.declared.fault.FaultKind.{FaultKind}
-use Rattle.proto_faults.specs.declared.fault.FaultKind.TheVariants.{TooLarge, NotUtf8, BadChar, OpenComment, OpenString, BadEscape, BadNumber, Syntax, TooDeep, UnknownImport, DoubleImport, ImportCycle, DuplicateName, Unresolved, WrongKind, MapEntryRef, NumberRange, DuplicateNumber, ReservedNumber, ReservedName, RangeOverlap, EmptyEnum, FirstNotZero, ClosedEnum, Label, BadMap, BadOption, BadDefault, EmptyOneof, JsonClash, NotInProto3, AliasNotAllowed, BadPath, DoublePath, TooManyFiles}
+use Rattle.proto_faults.specs.declared.fault.FaultKind.TheVariants.{TooLarge, NotUtf8, BadChar, OpenComment, OpenString, BadEscape, BadNumber, Syntax, TooDeep, UnknownImport, DoubleImport, ImportCycle, DuplicateName, Unresolved, WrongKind, MapEntryRef, NumberRange, DuplicateNumber, ReservedNumber, ReservedName, RangeOverlap, EmptyEnum, FirstNotZero, ClosedEnum, Label, BadMap, BadOption, BadDefault, EmptyOneof, JsonClash, NotInProto3, AliasNotAllowed, BadPath, DoublePath, TooManyFiles, NotExtendable, DuplicateExtension, RequiredExtension}
 use Rattle.proto_files.specs.Common.{path_cmp, FaultAt, ComesBefore, fault_cmp, IsLeastFault}
 use Rattle.proto_files.proofs.PathOrder.{same_from_equal}
 
 abbrev kinds : List FaultKind
-kinds = TooLarge ∷ NotUtf8 ∷ BadChar ∷ OpenComment ∷ OpenString ∷ BadEscape ∷ BadNumber ∷ Syntax ∷ TooDeep ∷ UnknownImport ∷ DoubleImport ∷ ImportCycle ∷ DuplicateName ∷ Unresolved ∷ WrongKind ∷ MapEntryRef ∷ NumberRange ∷ DuplicateNumber ∷ ReservedNumber ∷ ReservedName ∷ RangeOverlap ∷ EmptyEnum ∷ FirstNotZero ∷ ClosedEnum ∷ Label ∷ BadMap ∷ BadOption ∷ BadDefault ∷ EmptyOneof ∷ JsonClash ∷ NotInProto3 ∷ AliasNotAllowed ∷ BadPath ∷ DoublePath ∷ TooManyFiles ∷ []
+kinds = TooLarge ∷ NotUtf8 ∷ BadChar ∷ OpenComment ∷ OpenString ∷ BadEscape ∷ BadNumber ∷ Syntax ∷ TooDeep ∷ UnknownImport ∷ DoubleImport ∷ ImportCycle ∷ DuplicateName ∷ Unresolved ∷ WrongKind ∷ MapEntryRef ∷ NumberRange ∷ DuplicateNumber ∷ ReservedNumber ∷ ReservedName ∷ RangeOverlap ∷ EmptyEnum ∷ FirstNotZero ∷ ClosedEnum ∷ Label ∷ BadMap ∷ BadOption ∷ BadDefault ∷ EmptyOneof ∷ JsonClash ∷ NotInProto3 ∷ AliasNotAllowed ∷ BadPath ∷ DoublePath ∷ TooManyFiles ∷ NotExtendable ∷ DuplicateExtension ∷ RequiredExtension ∷ []
 
 -- the fault of a number
 abbrev kind_at : ℕ → FaultKind
@@ -49,6 +49,9 @@ kind_at-number_of AliasNotAllowed = refl
 kind_at-number_of BadPath = refl
 kind_at-number_of DoublePath = refl
 kind_at-number_of TooManyFiles = refl
+kind_at-number_of NotExtendable = refl
+kind_at-number_of DuplicateExtension = refl
+kind_at-number_of RequiredExtension = refl
 
 -- A number is that of one fault.
 pub kinds_by_number : (j k : FaultKind) → number_of j ≡ number_of k → j ≡ k

@@ -8,15 +8,26 @@ use crate::found::Found;
 use proto_faults::NoMemory;
 use proto_rules::Rule;
 use std::alloc::Global;
+use std::fmt;
 
 /// What a rule found: the path of the file, the offset in bytes from 0, the rule, and the name that
 /// is printed.
-#[derive(PartialEq, Eq, PartialOrd, Ord, Drop)]
+#[derive(Debug, PartialEq, Eq, PartialOrd, Ord, Drop)]
 pub struct Finding {
     pub path: String,
     pub offset: u32,
     pub rule: Rule,
     pub name: String,
+}
+
+impl fmt::Display for Finding {
+    fn fmt<W: fmt::Write>(&self, f: &mut fmt::Formatter<W>) -> fmt::Result {
+        write!(
+            f,
+            "{} {}: {}: byte {}",
+            self.rule, self.name, self.path, self.offset
+        )
+    }
 }
 
 /// The findings in the order of path, offset, rule and name, each once. Takes no memory.

@@ -4,10 +4,10 @@ use Rattle.proto_faults.proofs.Common.{Contains-append_cases, contains_cases, fr
 use Rattle.proto_files.proofs.Common.{FileOf, file_at, ReadOf, AreRead, read_at}
 use Rattle.proto_case.specs.Camel.{entry_name}
 use Rattle.proto_listing.proofs.Common.{items_in, whole, last_token, token_last, entry_last, placed_plain, entry_plain}
-use Rattle.proto_meaning.proofs.Common.{At, at, declared_of, file_declared, all_declared, IsPlain, ArePlain, Symbol, shifted_source, Source, Token, EntryOf, Given, Declared, name_of, spell, symbol_of, shifted_declared, Member, field, map_field, oneof, message, enum, service, Members, no_members, member, Items, no_items, packaged, item, package_of, Placed, place, placed, all_placed, prefixes, items_placed, file_placed, map_append, file_stands}
+use Rattle.proto_meaning.proofs.Common.{At, at, declared_of, file_declared, all_declared, IsPlain, ArePlain, Symbol, shifted_source, Source, Token, EntryOf, Given, Declared, name_of, spell, symbol_of, shifted_declared, Member, field, map_field, oneof, message, enum, service, extend, Members, no_members, member, Items, no_items, packaged, item, package_of, Placed, place, placed, all_placed, prefixes, items_placed, file_placed, map_append, file_stands}
 use Rattle.proto_imports.specs.Links.{text_of, names_in, link_skeleton, names_of_files}
 use Rattle.proto_meaning.specs.declared.kind.Kind.{Kind}
-use Rattle.proto_meaning.specs.declared.kind.Kind.TheVariants.{Field, Value, Method}
+use Rattle.proto_meaning.specs.declared.kind.Kind.TheVariants.{Field, Value, Method, Extension}
 
 -- the name that tokens of one file spell, among those of all files
 pub name_in : (text : At → List ℕ) (n : ℕ) (path : List (Source ℕ))
@@ -45,6 +45,7 @@ mutual
   given_of (oneof t fs) path = (tt, given_tokens path Field fs)
   given_of (message t ms) path = (tt, given_in ms (path ++ Token t ∷ []))
   given_of (enum t vs) path = (tt, given_tokens path Value vs)
+  given_of (extend ts) path = given_tokens path Extension ts
   given_of (service t ms) path = (tt, given_tokens (path ++ Token t ∷ []) Method ms)
 
   given_in : (ms : Members) (path : List (Source ℕ)) → AreGivenPlain (all_placed path ms)

@@ -3,11 +3,9 @@ use Rattle.std.proofs.Common.{◌≡◌, ◌<◌, inl, inr, ⊎_elim, ℕ, List,
 use Rattle.proto_faults.proofs.Common.{phase_of}
 use Rattle.proto_faults.specs.declared.fault.SchemaFault.{SchemaFault}
 use Rattle.proto_faults.specs.declared.fault.SchemaFault.TheVariants.{Schema, NoMemory}
-use Rattle.proto_files.proofs.Common.{FaultAt, ComesBefore, IsFilesError, IsLeastFault, fault_at, FileOf, paths_of, PathFaults, comes_before_cases, paths_are_phase_0, texts_are_phase_1, grammar_is_phase_2, read_at}
+use Rattle.proto_files.proofs.Common.{FaultAt, ComesBefore, IsFilesError, IsLeastFault, fault_at, FileOf, paths_of, PathFaults, comes_before_cases, paths_are_phase_0, texts_are_phase_1, grammar_is_phase_2}
 use Rattle.proto_imports.proofs.Common.{LinkFaults, of_import, of_name, of_reference, import_found, name_found, reference_found}
-use Rattle.proto_checks.proofs.Phases.{flaws_are_of_checks}
-use Rattle.proto_desc.specs.SceneOf.{scene_of}
-use Rattle.proto_desc.proofs.Common.{CheckFaults, of_flaw, FileFaults, of_read, of_link, of_check, WorkspaceFaults, of_path, of_files}
+use Rattle.proto_desc.proofs.Common.{all_of_checks, CheckFaults, of_flaw, FileFaults, of_read, of_link, of_check, WorkspaceFaults, of_path, of_files}
 use Rattle.proto_store.specs.Stores.{Held}
 use Rattle.proto_journal.specs.Loads.{ArePathsOf, IsLoadFault, schemas_fault}
 
@@ -18,7 +16,7 @@ link_is_later files x (of_reference reads f z are stands h) = let e : phase_of x
 
 check_is_later : (files : List FileOf) (x : FaultAt) → CheckFaults files x → 0 < phase_of x.kind
 check_is_later files x (of_flaw reads file f are within there) =
-    let e : phase_of x.kind ≡ 6 = flaws_are_of_checks (scene_of None files reads file) (read_at reads file).tree f there in omega (arith, e)
+    let e : phase_of x.kind ≡ 6 = all_of_checks None files reads file f there in omega (arith, e)
 
 is_later : (files : List FileOf) (x : FaultAt) → FileFaults files x → 0 < phase_of x.kind
 is_later files x (of_read z (inl t)) = let e = texts_are_phase_1 files x t in omega (arith, e)

@@ -36,6 +36,7 @@ field_options_slots o =
 abbrev pub field_slots : FieldDesc → List Slot
 field_slots f =
     (codes "defaultValue", option_map quoted f.default_value)
+    ∷ (codes "extendee", option_map quoted f.extendee)
     ∷ (codes "jsonName", option_map quoted f.json_name)
     ∷ (codes "label", Some (quoted (label_name f.label)))
     ∷ (codes "name", Some (quoted f.name))
@@ -124,6 +125,7 @@ message_options_slots o =
 abbrev pub message_slots : MessageDesc → List Text → List Slot
 message_slots m nested =
     (codes "enumType", array_if_any (map enum_text m.enum_type))
+    ∷ (codes "extension", array_if_any (map field_text m.extension))
     ∷ (codes "extensionRange", array_if_any (map range_text m.extension_range))
     ∷ (codes "field", array_if_any (map field_text m.field))
     ∷ (codes "name", Some (quoted m.name))
@@ -203,6 +205,7 @@ abbrev pub file_slots : FileDesc → List Slot
 file_slots f =
     (codes "dependency", array_if_any (map quoted f.dependency))
     ∷ (codes "enumType", array_if_any (map enum_text f.enum_type))
+    ∷ (codes "extension", array_if_any (map field_text f.extension))
     ∷ (codes "messageType", array_if_any (message_texts f.message_type))
     ∷ (codes "name", Some (quoted f.name))
     ∷ (codes "options", object_if_any (file_options_slots f.options))

@@ -16,8 +16,8 @@ level_text m nested = message_text (message_desc (out-MessageDescriptor m)) nest
 
 -- the members of a message in Rust's form that stand before those nested in it
 abbrev pub before_nested : MessageDescriptor → List Slot
-before_nested m = take 4 (message_slots (message_desc (out-MessageDescriptor m)) [])
+before_nested m = take 5 (message_slots (message_desc (out-MessageDescriptor m)) [])
 
 -- the members of a message in Rust's form that stand behind those nested in it
 abbrev pub after_nested : MessageDescriptor → List Slot
-after_nested m = drop 5 (message_slots (message_desc (out-MessageDescriptor m)) [])
+after_nested m = drop 6 (message_slots (message_desc (out-MessageDescriptor m)) [])

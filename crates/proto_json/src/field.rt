@@ -41,10 +41,11 @@ impl ToJson for FieldDescriptor {
 
 /// The members up to `number`.
 fn put_first<S: Serializer>(out: &mut S, field: &FieldDescriptor) -> Result<(), S::Error>
-    ensures { OnOk result (PutsMembers (take 5 (field_slots (field_desc field.now)))
+    ensures { OnOk result (PutsMembers (take 6 (field_slots (field_desc field.now)))
         (S.written out.old) (S.written out.new)) }
 {
     put_optional(out, "defaultValue", &field.default_value)?;
+    put_optional(out, "extendee", &field.extendee)?;
     put_optional(out, "jsonName", &field.json_name)?;
     put(out, "label", &field.label)?;
     put(out, "name", &field.name)?;
@@ -53,7 +54,7 @@ fn put_first<S: Serializer>(out: &mut S, field: &FieldDescriptor) -> Result<(), 
 
 /// The members from `oneofIndex` on.
 fn put_rest<S: Serializer>(out: &mut S, field: &FieldDescriptor) -> Result<(), S::Error>
-    ensures { OnOk result (PutsMembers (drop 5 (field_slots (field_desc field.now)))
+    ensures { OnOk result (PutsMembers (drop 6 (field_slots (field_desc field.now)))
         (S.written out.old) (S.written out.new)) }
 {
     put_optional(out, "oneofIndex", &field.oneof_index)?;

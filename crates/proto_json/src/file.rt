@@ -72,18 +72,19 @@ impl ToJson for FileDescriptor {
 
 /// The members up to `name`.
 fn put_first<S: Serializer>(out: &mut S, file: &FileDescriptor) -> Result<(), S::Error>
-    ensures { OnOk result (PutsMembers (take 4 (file_slots (file_desc file.now)))
+    ensures { OnOk result (PutsMembers (take 5 (file_slots (file_desc file.now)))
         (S.written out.old) (S.written out.new)) }
 {
     put_list(out, "dependency", &file.dependency)?;
     put_list(out, "enumType", &file.enum_type)?;
+    put_list(out, "extension", &file.extension)?;
     put_messages(out, "messageType", &file.message_type)?;
     put(out, "name", &file.name)
 }
 
 /// The members from `options` on.
 fn put_rest<S: Serializer>(out: &mut S, file: &FileDescriptor) -> Result<(), S::Error>
-    ensures { OnOk result (PutsMembers (drop 4 (file_slots (file_desc file.now)))
+    ensures { OnOk result (PutsMembers (drop 5 (file_slots (file_desc file.now)))
         (S.written out.old) (S.written out.new)) }
 {
     put_options(out, &file.options)?;

@@ -57,6 +57,7 @@ fn put_before_nested<S: Serializer>(
         (S.written out.old) (S.written out.new)) }
 {
     put_list(out, "enumType", &message.enum_type)?;
+    put_list(out, "extension", &message.extension)?;
     put_list(out, "extensionRange", &message.extension_range)?;
     put_list(out, "field", &message.field)?;
     put(out, "name", &message.name)

@@ -4,7 +4,7 @@ use Rattle.proto_faults.proofs.Common.{and_parts, and_from, length-map, Contains
 use Rattle.proto_files.proofs.Common.{FileOf, ReadOf, AreRead}
 use Rattle.proto_meaning.proofs.Common.{place_from, place_of, At, at, FileNames, all_declared, all_used, declared_of, file_declared, used_in, ArePlain, joined, is_package, Symbol, Reference, Workspace, Reaches, is_type, meaning, reaches, same_name, Source, Token, EntryOf, Given, Declared, Used, name_of, reference_of, shifted_declared, shifted_source, symbol_of, Placed, file_placed, name_from_same, same_from_name, joined_apart, meant as meant_type, reaches_all, reaches_only}
 use Rattle.proto_meaning.specs.declared.kind.Kind.{Kind}
-use Rattle.proto_meaning.specs.declared.kind.Kind.TheVariants.{Package, Message, Entry, Enum, Service, Field, EntryField, Oneof, Value, Method}
+use Rattle.proto_meaning.specs.declared.kind.Kind.TheVariants.{Package, Message, Entry, Enum, Service, Field, EntryField, Extension, Oneof, Value, Method}
 use Rattle.proto_imports.proofs.Common.{link_skeleton, names_in, names_of_files, text_of, use_from, use_in, marked_within, used_named, uses_of}
 use Rattle.proto_names.proofs.Common.{IsLinkRead, TextMeant, meant_by_link, meant_by_use, LinkOf, NameOf, file_at, name_at, own_file, declared_as}
 use Rattle.proto_case.specs.Camel.{entry_name}
@@ -39,6 +39,7 @@ no_package Enum t = refl
 no_package Service t = refl
 no_package Field t = refl
 no_package EntryField t = refl
+no_package Extension t = refl
 no_package Oneof t = refl
 no_package Value t = refl
 no_package Method t = refl

@@ -5,7 +5,7 @@ use Rattle.proto_tree.specs.declared.piece.Statement.TheVariants as statement
 use Rattle.proto_tree.specs.declared.piece.Header.{Header}
 use Rattle.proto_tree.specs.declared.piece.Header.TheVariants as header
 use Rattle.proto_tree.specs.Tree.{Tree, End, Leaf, Block, joined}
-use Rattle.proto_meaning.proofs.Common.{Source, Used, Member, field, map_field, oneof, message, enum, service, Members, member, Items, item, Placed, placed, all_placed, package_of}
+use Rattle.proto_meaning.proofs.Common.{Source, Used, Member, field, map_field, oneof, message, enum, service, extend, Members, member, Items, item, Placed, placed, all_placed, package_of}
 use Rattle.proto_listing.specs.Common.{items_below, field_names, value_names, method_names, no_names, block_names, picked, members_in, statement_imports, imports_in, file_block, items_in, statement_uses, header_uses, flat_uses, block_uses, scope_in, member_uses, item_uses}
 
 pub imports_joined : (t u : Tree) → imports_in (joined t u) ≡ imports_in t ++ imports_in u
@@ -52,6 +52,7 @@ members_joined path (Leaf s rest) u = members_joined path rest u
 members_joined path (Block (header.Message h) i within j rest) u = front_placed path (message h.name (members_in within)) (members_in (joined rest u)) (all_placed path (members_in rest)) (all_placed path (members_in u)) (members_joined path rest u)
 members_joined path (Block (header.Oneof h) i within j rest) u = front_placed path (oneof h.name (picked field_names no_names within)) (members_in (joined rest u)) (all_placed path (members_in rest)) (all_placed path (members_in u)) (members_joined path rest u)
 members_joined path (Block (header.Enum h) i within j rest) u = front_placed path (enum h.name (picked value_names no_names within)) (members_in (joined rest u)) (all_placed path (members_in rest)) (all_placed path (members_in u)) (members_joined path rest u)
+members_joined path (Block (header.Extend e) i within j rest) u = front_placed path (extend (picked field_names no_names within)) (members_in (joined rest u)) (all_placed path (members_in rest)) (all_placed path (members_in u)) (members_joined path rest u)
 members_joined path (Block whole i within j rest) u = members_joined path rest u
 
 front_below : (path : List (Source ℕ)) (m : Member) (is : Items) (a b : List Placed) → items_below path is ≡ a ++ b → items_below path (item m is) ≡ (placed path m ++ a) ++ b
@@ -64,6 +65,7 @@ items_joined path (Leaf s rest) u = items_joined path rest u
 items_joined path (Block (header.Message h) i within j rest) u = front_below path (message h.name (members_in within)) (items_in (joined rest u)) (items_below path (items_in rest)) (items_below path (items_in u)) (items_joined path rest u)
 items_joined path (Block (header.Enum h) i within j rest) u = front_below path (enum h.name (picked value_names no_names within)) (items_in (joined rest u)) (items_below path (items_in rest)) (items_below path (items_in u)) (items_joined path rest u)
 items_joined path (Block (header.Service h) i within j rest) u = front_below path (service h.name (picked method_names block_names within)) (items_in (joined rest u)) (items_below path (items_in rest)) (items_below path (items_in u)) (items_joined path rest u)
+items_joined path (Block (header.Extend e) i within j rest) u = front_below path (extend (picked field_names no_names within)) (items_in (joined rest u)) (items_below path (items_in rest)) (items_below path (items_in u)) (items_joined path rest u)
 items_joined path (Block whole i within j rest) u = items_joined path rest u
 
 -- ---- references
@@ -85,6 +87,7 @@ member_uses_joined path (Leaf s rest) u = front_used (statement_uses path s) (me
 member_uses_joined path (Block (header.Service h) i within j rest) u = member_uses_joined path rest u
 member_uses_joined path (Block (header.Message h) i within j rest) u = front_used (of_block path (header.Message h) within) (member_uses path (joined rest u)) (member_uses path rest) (member_uses path u) (member_uses_joined path rest u)
 member_uses_joined path (Block (header.Oneof h) i within j rest) u = front_used (of_block path (header.Oneof h) within) (member_uses path (joined rest u)) (member_uses path rest) (member_uses path u) (member_uses_joined path rest u)
+member_uses_joined path (Block (header.Extend e) i within j rest) u = front_used (of_block path (header.Extend e) within) (member_uses path (joined rest u)) (member_uses path rest) (member_uses path u) (member_uses_joined path rest u)
 member_uses_joined path (Block whole i within j rest) u = member_uses_joined path rest u
 
 pub item_uses_joined : (path : List (Source ℕ)) (t u : Tree) → item_uses path (joined t u) ≡ item_uses path t ++ item_uses path u
@@ -93,4 +96,5 @@ item_uses_joined path (Leaf s rest) u = item_uses_joined path rest u
 item_uses_joined path (Block (header.Oneof h) i within j rest) u = item_uses_joined path rest u
 item_uses_joined path (Block (header.Message h) i within j rest) u = front_used (of_block path (header.Message h) within) (item_uses path (joined rest u)) (item_uses path rest) (item_uses path u) (item_uses_joined path rest u)
 item_uses_joined path (Block (header.Service h) i within j rest) u = front_used (of_block path (header.Service h) within) (item_uses path (joined rest u)) (item_uses path rest) (item_uses path u) (item_uses_joined path rest u)
+item_uses_joined path (Block (header.Extend e) i within j rest) u = front_used (of_block path (header.Extend e) within) (item_uses path (joined rest u)) (item_uses path rest) (item_uses path u) (item_uses_joined path rest u)
 item_uses_joined path (Block whole i within j rest) u = item_uses_joined path rest u

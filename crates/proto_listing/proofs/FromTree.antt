@@ -1,5 +1,5 @@
 -- The tokens of a tree stand in order, so what it declares is spread over them, and each reference stands in a declaration (for the crates above).
-use Rattle.std.proofs.Common.{◌≡◌, ◌≢◌, ℕ, suc, get_or, ◌+◌, ◌<◌, ◌≤◌, true, false, List, [], ◌∷◌, ◌++◌, length, refl, sym, ◌∙◌, ap, subst, inl, inr, ◌⊎◌, arith, map, length-append, Contains, All, true≢false}
+use Rattle.std.proofs.Common.{◌≡◌, ◌≢◌, ℕ, suc, get_or, ◌+◌, ◌<◌, ◌≤◌, Bool, true, false, List, [], ◌∷◌, ◌++◌, length, refl, sym, ◌∙◌, ap, subst, inl, inr, ◌⊎◌, arith, map, length-append, Contains, All, true≢false}
 use Rattle.proto_faults.proofs.Common.{Contains-append_left, Contains-append_right, Contains-append_cases, Contains-get_or, contains_head, contains_later, contains_cases}
 use Rattle.proto_tree.specs.declared.class.Class.{Class}
 use Rattle.proto_tree.specs.declared.class.Class.TheVariants as class
@@ -12,9 +12,11 @@ use Rattle.proto_tree.specs.declared.tree.Field.{Field}
 use Rattle.proto_tree.specs.declared.tree.MapField.{MapField}
 use Rattle.proto_tree.specs.declared.tree.Package.{Package}
 use Rattle.proto_tree.specs.declared.tree.Value.{Value}
+use Rattle.proto_tree.specs.declared.tree.Reference.{Reference}
 use Rattle.proto_tree.specs.declared.tree.Signature.{Signature}
 use Rattle.proto_tree.specs.declared.piece.Statement.{Statement}
 use Rattle.proto_tree.specs.declared.piece.Statement.TheVariants as statement
+use Rattle.proto_tree.specs.declared.piece.Extending.{Extending}
 use Rattle.proto_tree.specs.declared.piece.Heading.{Heading}
 use Rattle.proto_tree.specs.declared.piece.Header.{Header}
 use Rattle.proto_tree.specs.declared.piece.Header.TheVariants as header
@@ -24,8 +26,8 @@ use Rattle.proto_tree.specs.declared.context.Kind.TheVariants as kind
 use Rattle.proto_text.specs.Tokens.{Lexeme}
 use Rattle.proto_tree.proofs.Common.{classes, Mark, Fit, mark, one, name, only, flat_option, flat_all, flat_behind, flat_type, flat_settings, flat_separated, flat_package, flat_field, flat_map_field, flat_value, flat_signed, flat_method_type, flat_signature, flat_statement, flat_heading, flat_header, Tree, End, Leaf, Block, flat, allows, after, statement_kind, header_kind, IsWellFormed, Spells, dotted}
 use Rattle.proto_meaning.specs.declared.kind.Kind.TheVariants.{Message, Service, Method}
-use Rattle.proto_meaning.proofs.Common.{Source, Token, Used, Member, field, map_field, oneof, message, enum, service, Members, no_members, member, Items, no_items, packaged, item, Placed, place, placed, all_placed, package_of, prefixes, items_placed, file_placed, Spans, AllSpan, Rises, ItemsSpan, IsGrown, prefix_whole, package_within}
-use Rattle.proto_listing.specs.FromTree.{field_names, value_names, method_names, no_names, block_names, picked, add_statement, add_block, members_in, file_statement, file_block, items_in, statement_uses, type_uses, used_as, signature_uses, header_uses, flat_uses, member_uses, item_uses, file_names}
+use Rattle.proto_meaning.proofs.Common.{Source, Token, Used, Member, field, map_field, oneof, message, enum, service, extend, Members, no_members, member, Items, no_items, packaged, item, Placed, place, placed, all_placed, package_of, prefixes, items_placed, file_placed, Spans, AllSpan, Rises, ItemsSpan, IsGrown, prefix_whole, package_within}
+use Rattle.proto_listing.specs.FromTree.{field_names, value_names, method_names, no_names, block_names, picked, add_statement, add_block, members_in, file_statement, file_block, items_in, statement_uses, type_uses, used_as, signature_uses, header_uses, flat_uses, block_uses, member_uses, item_uses, file_names}
 
 -- the indices of the marks are those from n on, in order
 abbrev pub IsNumbered : ℕ → List Mark → Type 0
@@ -167,6 +169,9 @@ picked_within p g gp gg (Block h i within j rest) n num v c =
 lies_all : (lo hi t mid : ℕ) (vs : List ℕ) → ((v : ℕ) → Contains vs v → (lo ≤ v) × (v < hi)) → t < lo → hi ≤ mid → All (λ v. (t < v) × (v < mid)) vs
 lies_all lo hi t mid vs f a b = λ k d l. let r = f (get_or vs k d) (Contains-get_or vs k d l) in (omega (arith, r.0, a), omega (arith, r.1, b))
 
+held_all : (lo hi low high : ℕ) (vs : List ℕ) → ((v : ℕ) → Contains vs v → (lo ≤ v) × (v < hi)) → low ≤ lo → hi ≤ high → All (λ v. (low ≤ v) × (v < high)) vs
+held_all lo hi low high vs f a b = λ k d l. let r = f (get_or vs k d) (Contains-get_or vs k d l) in (omega (arith, r.0, a), omega (arith, r.1, b))
+
 all_more : (t hi hi' : ℕ) (vs : List ℕ) → hi ≤ hi' → All (λ v. (t < v) × (v < hi)) vs → All (λ v. (t < v) × (v < hi')) vs
 all_more t hi hi' vs a f = λ k d l. let r = f k d l in (r.0, omega (arith, r.1, a))
 
@@ -182,6 +187,7 @@ mutual
   one_within (message t ms) lo hi lo' a s = (omega (arith, a, s.0), s.1)
   one_within (enum t vs) lo hi lo' a s = (omega (arith, a, s.0), s.1, s.2)
   one_within (service t ms) lo hi lo' a s = (omega (arith, a, s.0), s.1, s.2)
+  one_within (extend ts) lo hi lo' a s = λ k d l. let r = s k d l in (omega (arith, a, r.0), r.1)
 
 rises_within : (ts : List ℕ) (lo hi lo' hi' : ℕ) → lo' ≤ lo → hi ≤ hi' → Rises lo hi ts → Rises lo' hi' ts
 rises_within [] lo hi lo' hi' a b r = omega (arith, a, b, r)
@@ -204,6 +210,11 @@ record HeadAt (n name a : ℕ) : Type 0 where
 heading_at : (c : Class) (h : Heading) (n a : ℕ) → IsNumbered n (flat_heading c h) → a ≡ n + length (flat_heading c h) + 1 → HeadAt n h.name a
 heading_at c h n a num e = let r = numbered_at n (flat_heading c h) num (mark want.Name h.name) (heading_mark c h) in record { low = r.0; high = omega (arith, r.1, e) }
 
+-- the extensions of a block stand between its braces
+extensions_span : (e : Extending) (within : Tree) (n a b mid : ℕ) → a ≡ n + length (flat_header (header.Extend e)) + 1 → IsNumbered a (flat within) → b ≡ a + length (flat within) → mid ≡ b + 1 → Spans n mid (extend (picked field_names no_names within))
+extensions_span e within n a b mid ea inside' eb em =
+    held_all a (a + length (flat within)) n mid (picked field_names no_names within) (picked_within field_names no_names field_gives no_gives within a inside') (omega (arith, ea)) (omega (arith, eb, em))
+
 block_span : (h : Header) (within : Tree) (inner rest : Members) (n a b mid hi : ℕ) → IsNumbered n (flat_header h) → a ≡ n + length (flat_header h) + 1 → IsNumbered a (flat within) → b ≡ a + length (flat within)
     → AllSpan a b inner → mid ≡ b + 1 → mid ≤ hi → AllSpan mid hi rest → AllSpan n hi (add_block h inner within rest)
 block_span (header.Message h) within inner rest n a b mid hi num ea inside' eb span em l behind =
@@ -215,6 +226,7 @@ block_span (header.Oneof h) within inner rest n a b mid hi num ea inside' eb spa
 block_span (header.Enum h) within inner rest n a b mid hi num ea inside' eb span em l behind =
     let r = heading_at class.Enum h n a num ea in
     (mid, l, omega (arith, ea, eb, em), (r.low, omega (arith, r.high, eb, em), lies_all a (a + length (flat within)) h.name mid (picked value_names no_names within) (picked_within value_names no_names value_gives no_gives within a inside') r.high (omega (arith, eb, em))), behind)
+block_span (header.Extend e) within inner rest n a b mid hi num ea inside' eb span em l behind = (mid, l, omega (arith, ea, eb, em), extensions_span e within n a b mid ea inside' eb em, behind)
 block_span whole within inner rest n a b mid hi num ea inside' eb span em l behind = span_within rest mid hi n hi (omega (arith, ea, eb, em)) (omega arith) behind
 
 pub members_span : (t : Tree) (n hi : ℕ) → IsNumbered n (flat t) → hi ≡ n + length (flat t) → AllSpan n hi (members_in t)
@@ -262,6 +274,7 @@ after_package context.Oneof h = absurd (true≢false (sym h))
 after_package context.Enum h = absurd (true≢false (sym h))
 after_package context.Service h = absurd (true≢false (sym h))
 after_package context.Method h = absurd (true≢false (sym h))
+after_package context.Extend h = absurd (true≢false (sym h))
 
 no_package : (t : Tree) → IsWellFormed context.Packaged t → package_of (items_in t) ≡ []
 no_package End w = refl
@@ -290,6 +303,7 @@ file_block_span (header.Enum h) within rest n a b mid hi num ea inside' eb em l 
 file_block_span (header.Service h) within rest n a b mid hi num ea inside' eb em l behind =
     let r = heading_at class.Service h n a num ea in
     (mid, l, omega (arith, ea, eb, em), (r.low, omega (arith, r.high, eb, em), lies_all a (a + length (flat within)) h.name mid (picked method_names block_names within) (picked_within method_names block_names method_gives block_gives within a inside') r.high (omega (arith, eb, em))), behind)
+file_block_span (header.Extend e) within rest n a b mid hi num ea inside' eb em l behind = (mid, l, omega (arith, ea, eb, em), extensions_span e within n a b mid ea inside' eb em, behind)
 file_block_span whole within rest n a b mid hi num ea inside' eb em l behind = items_within rest mid hi n hi (omega (arith, ea, eb, em)) (omega arith) behind
 
 pub items_span : (t : Tree) (c : Context) (n hi : ℕ) → IsWellFormed c t → IsNumbered n (flat t) → hi ≡ n + length (flat t) → ItemsSpan n hi (items_in t)
@@ -317,14 +331,17 @@ scoped_more path xs ys u more s = elim s [ inl e ↦ inl e | inr p ↦ inr (p.0,
 no_use : {P : Type 0} (u : Used ℕ) → Contains [] u → P
 no_use u c = absurd (omega (arith, c.1))
 
+one_scope : (wants_message : Bool) (r : Reference) (path : List (Source ℕ)) (u : Used ℕ) → Contains (used_as path wants_message r ∷ []) u → u.scope ≡ path
+one_scope wants_message r path u c = elim (contains_cases (used_as path wants_message r) u [] c) [ inl e ↦ sym (ap (λ (z : Used ℕ). z.scope) e) | inr n ↦ no_use u n ]
+
 type_scope : (t : FieldType) (path : List (Source ℕ)) (u : Used ℕ) → Contains (type_uses path t) u → u.scope ≡ path
 type_scope (field_type.Scalar i) path u c = no_use u c
-type_scope (field_type.Reference r) path u c = elim (contains_cases (used_as path false r) u [] c) [ inl e ↦ sym (ap (λ (z : Used ℕ). z.scope) e) | inr n ↦ no_use u n ]
+type_scope (field_type.Reference r) path u c = one_scope false r path u c
 
 signature_scope : (s : Signature) (path : List (Source ℕ)) (u : Used ℕ) → Contains (signature_uses path s) u → u.scope ≡ path
 signature_scope s path u c = elim (contains_cases (used_as path true s.input.reference) u (used_as path true s.output.reference ∷ []) c) [
   | inl e ↦ sym (ap (λ (z : Used ℕ). z.scope) e)
-  | inr d ↦ elim (contains_cases (used_as path true s.output.reference) u [] d) [ inl e ↦ sym (ap (λ (z : Used ℕ). z.scope) e) | inr n ↦ no_use u n ]
+  | inr d ↦ one_scope true s.output.reference path u d
 ]
 
 statement_scope : (s : Statement) (path : List (Source ℕ)) (u : Used ℕ) → Contains (statement_uses path s) u → u.scope ≡ path
@@ -335,12 +352,16 @@ statement_scope _ path u c = no_use u c
 
 header_scope : (h : Header) (path : List (Source ℕ)) (u : Used ℕ) → Contains (header_uses path h) u → u.scope ≡ path
 header_scope (header.Method s) path u c = signature_scope s path u c
+header_scope (header.Extend e) path u c = one_scope true e.extendee path u c
 header_scope _ path u c = no_use u c
 
 flat_scope : (t : Tree) (path : List (Source ℕ)) (u : Used ℕ) → Contains (flat_uses path t) u → u.scope ≡ path
 flat_scope End path u c = no_use u c
 flat_scope (Leaf s rest) path u c = elim (Contains-append_cases (statement_uses path s) (flat_uses path rest) u c) [ inl a ↦ statement_scope s path u a | inr b ↦ flat_scope rest path u b ]
 flat_scope (Block h i within j rest) path u c = elim (Contains-append_cases (header_uses path h) (flat_uses path rest) u c) [ inl a ↦ header_scope h path u a | inr b ↦ flat_scope rest path u b ]
+
+extend_scope : (e : Extending) (within : Tree) (path : List (Source ℕ)) (u : Used ℕ) → Contains (block_uses path (header.Extend e) [] within) u → u.scope ≡ path
+extend_scope e within path u c = elim (Contains-append_cases (header_uses path (header.Extend e)) (flat_uses path within) u c) [ inl a ↦ header_scope (header.Extend e) path u a | inr b ↦ flat_scope within path u b ]
 
 -- a statement adds to what is declared
 statement_more : (s : Statement) (path : List (Source ℕ)) (ms : Members) (p : Placed) → Contains (all_placed path ms) p → Contains (all_placed path (add_statement s ms)) p
@@ -352,6 +373,7 @@ block_more : (h : Header) (inner : Members) (within : Tree) (path : List (Source
 block_more (header.Message h) inner within path ms p c = Contains-append_right (placed path (message h.name inner)) (all_placed path ms) p c
 block_more (header.Oneof h) inner within path ms p c = Contains-append_right (placed path (oneof h.name (picked field_names no_names within))) (all_placed path ms) p c
 block_more (header.Enum h) inner within path ms p c = Contains-append_right (placed path (enum h.name (picked value_names no_names within))) (all_placed path ms) p c
+block_more (header.Extend e) inner within path ms p c = Contains-append_right (placed path (extend (picked field_names no_names within))) (all_placed path ms) p c
 block_more whole inner within path ms p c = c
 
 -- what is used in a message, given what is used in what it holds
@@ -382,6 +404,10 @@ members_scoped (Block (header.Oneof h) i within j rest) path u c = elim (Contain
   | inr b ↦ scoped_more path (all_placed path (members_in rest)) (all_placed path (members_in (Block (header.Oneof h) i within j rest))) u (block_more (header.Oneof h) (members_in within) within path (members_in rest)) (members_scoped rest path u b)
 ]
 members_scoped (Block (header.Enum h) i within j rest) path u c = scoped_more path (all_placed path (members_in rest)) (all_placed path (members_in (Block (header.Enum h) i within j rest))) u (block_more (header.Enum h) (members_in within) within path (members_in rest)) (members_scoped rest path u c)
+members_scoped (Block (header.Extend e) i within j rest) path u c = elim (Contains-append_cases (block_uses path (header.Extend e) [] within) (member_uses path rest) u c) [
+  | inl a ↦ at_path path (all_placed path (members_in (Block (header.Extend e) i within j rest))) u (extend_scope e within path u a)
+  | inr b ↦ scoped_more path (all_placed path (members_in rest)) (all_placed path (members_in (Block (header.Extend e) i within j rest))) u (block_more (header.Extend e) (members_in within) within path (members_in rest)) (members_scoped rest path u b)
+]
 members_scoped (Block whole i within j rest) path u c = members_scoped rest path u c
 
 file_more : (s : Statement) (path : List (Source ℕ)) (is : Items) (p : Placed) → Contains (items_placed path is) p → Contains (items_placed path (file_statement s is)) p
@@ -392,6 +418,7 @@ file_block_more : (h : Header) (within : Tree) (path : List (Source ℕ)) (is : 
 file_block_more (header.Message h) within path is p c = Contains-append_right (placed path (message h.name (members_in within))) (items_placed path is) p c
 file_block_more (header.Enum h) within path is p c = Contains-append_right (placed path (enum h.name (picked value_names no_names within))) (items_placed path is) p c
 file_block_more (header.Service h) within path is p c = Contains-append_right (placed path (service h.name (picked method_names block_names within))) (items_placed path is) p c
+file_block_more (header.Extend e) within path is p c = Contains-append_right (placed path (extend (picked field_names no_names within))) (items_placed path is) p c
 file_block_more whole within path is p c = c
 
 message_item : (t : ℕ) (inner : Members) (rest : Items) (path : List (Source ℕ)) (u : Used ℕ) → Scoped (path ++ Token t ∷ []) (all_placed (path ++ Token t ∷ []) inner) u → Scoped path (placed path (message t inner) ++ items_placed path rest) u
@@ -419,6 +446,10 @@ items_scoped (Block (header.Service h) i within j rest) path u c = elim (Contain
   | inr b ↦ scoped_more path (items_placed path (items_in rest)) (items_placed path (items_in (Block (header.Service h) i within j rest))) u (file_block_more (header.Service h) within path (items_in rest)) (items_scoped rest path u b)
 ]
 items_scoped (Block (header.Enum h) i within j rest) path u c = scoped_more path (items_placed path (items_in rest)) (items_placed path (items_in (Block (header.Enum h) i within j rest))) u (file_block_more (header.Enum h) within path (items_in rest)) (items_scoped rest path u c)
+items_scoped (Block (header.Extend e) i within j rest) path u c = elim (Contains-append_cases (block_uses path (header.Extend e) [] within) (item_uses path rest) u c) [
+  | inl a ↦ at_path path (items_placed path (items_in (Block (header.Extend e) i within j rest))) u (extend_scope e within path u a)
+  | inr b ↦ scoped_more path (items_placed path (items_in rest)) (items_placed path (items_in (Block (header.Extend e) i within j rest))) u (file_block_more (header.Extend e) within path (items_in rest)) (items_scoped rest path u b)
+]
 items_scoped (Block whole i within j rest) path u c = items_scoped rest path u c
 
 -- ---- a file

@@ -43,7 +43,7 @@ uses-more : (ds more : List Placed) (us : List Use) → All (λ u. needs u.scope
 uses-more ds more [] a = refl
 uses-more ds more (u ∷ us) a =
     let e : path_at (ds ++ more) u.scope ≡ path_at ds u.scope = path_at-more ds more u.scope (a 0 u (omega arith)) in
-    ap (λ (path : List (Source ℕ)). used_as path u.is_method u.reference.now ∷ map (used_by (ds ++ more)) us) e
+    ap (λ (path : List (Source ℕ)). used_as path u.wants_message u.reference.now ∷ map (used_by (ds ++ more)) us) e
     ∙ ap (λ (rest : List (Used ℕ)). used_by ds u ∷ rest) (uses-more ds more us (λ k d l. a (suc k) d (omega arith)))
 
 -- ---- tokens
@@ -186,7 +186,7 @@ adds_entry {old = old} {new = new} e d u l t =
 
 -- one reference more
 pub adds_use : {old new : Listing} (u : Use) → new.declared.items ≡ old.declared.items → new.used.items ≡ old.used.items ++ u ∷ [] → needs u.scope ≤ length old.declared.items
-    → Adds old new u.scope (λ path. []) (λ path. used_as path u.is_method u.reference.now ∷ [])
+    → Adds old new u.scope (λ path. []) (λ path. used_as path u.wants_message u.reference.now ∷ [])
 adds_use {old = old} {new = new} u d e l =
     let len : length new.declared.items ≡ length old.declared.items = ap length d in
     record {

@@ -7,7 +7,7 @@ use Rattle.proto_tree.specs.declared.class.Class.TheVariants as class
 use Rattle.proto_tree.specs.declared.class.Want.{Want}
 use Rattle.proto_tree.specs.declared.class.Want.TheVariants as want
 use Rattle.proto_tree.proofs.Common.{Mark, Fit, Numbered, Reads, Tree, flat, classes, trees_are_numbered}
-use Rattle.proto_meaning.proofs.Common.{Source, Token, EntryOf, Given, Used, Member, field, map_field, oneof, message, enum, service, Members, no_members, member, Items, no_items, packaged, item, Placed, place, placed, all_placed, prefixes, items_placed, package_of, file_placed, key_word, value_word, place_from, rising_each}
+use Rattle.proto_meaning.proofs.Common.{Source, Token, EntryOf, Given, Used, Member, field, map_field, oneof, message, enum, service, extend, Members, no_members, member, Items, no_items, packaged, item, Placed, place, placed, all_placed, prefixes, items_placed, package_of, file_placed, key_word, value_word, place_from, rising_each}
 use Rattle.proto_meaning.specs.declared.kind.Kind.{Kind}
 use Rattle.proto_listing.specs.Common.{Wanted, imports_in, items_in, file_names, whole, last_token, later}
 use Rattle.proto_listing.proofs.Growing.{token_last, entry_last, given_last}
@@ -59,6 +59,7 @@ mutual
   placed_last path (oneof t fs) = ((t, token_last path t), tokens_last path _ fs)
   placed_last path (message t ms) = ((t, token_last path t), members_last (path ++ Token t ∷ []) ms)
   placed_last path (enum t vs) = ((t, token_last path t), tokens_last path _ vs)
+  placed_last path (extend ts) = tokens_last path _ ts
   placed_last path (service t ms) = ((t, token_last path t), tokens_last (path ++ Token t ∷ []) _ ms)
 
   members_last : (path : List (Source ℕ)) (ms : Members) → AllByRecursion HasLast (all_placed path ms)

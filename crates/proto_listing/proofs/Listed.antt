@@ -8,7 +8,7 @@ use Rattle.proto_tree.specs.declared.piece.Statement.{Statement}
 use Rattle.proto_tree.specs.declared.piece.Header.{Header}
 use Rattle.proto_tree.proofs.Common.{Tree, joined, method_by}
 use Rattle.proto_meaning.specs.declared.kind.Kind.{Kind}
-use Rattle.proto_meaning.specs.declared.kind.Kind.TheVariants.{Field, Value, Method}
+use Rattle.proto_meaning.specs.declared.kind.Kind.TheVariants.{Field, Value, Method, Extension}
 use Rattle.proto_meaning.proofs.Common.{Source, Token, Used, Placed, place, all_placed, package_of, prefixes}
 use Rattle.proto_listing.specs.Common.{field_names, value_names, method_names, no_names, block_names, picked, members_in, items_in, signature_uses, flat_uses, member_uses, item_uses, file_names, Above, Outermost, Listed, Listing, Adds, IsSound, items_below, package_first, path_at, read, used_by, uses_in, last_token, whole}
 use Rattle.proto_listing.proofs.Behind.{picked_joined, members_joined, items_joined, flat_joined, member_uses_joined, item_uses_joined}
@@ -24,6 +24,9 @@ names_joined kind p g path s t = ap (map (λ i. place path (Token i) kind)) (pic
 
 abbrev pub fields_placed : List (Source ℕ) → Tree → List Placed
 fields_placed = names_placed Field field_names no_names
+
+abbrev pub extensions_placed : List (Source ℕ) → Tree → List Placed
+extensions_placed = names_placed Extension field_names no_names
 
 abbrev pub values_placed : List (Source ℕ) → Tree → List Placed
 values_placed = names_placed Value value_names no_names
@@ -42,6 +45,9 @@ no_uses path t = []
 
 pub fields_parted : IsParted fields_placed flat_uses
 fields_parted = record { no_placed = λ path. refl; no_used = λ path. refl; placed = names_joined Field field_names no_names; used = flat_joined }
+
+pub extensions_parted : IsParted extensions_placed flat_uses
+extensions_parted = record { no_placed = λ path. refl; no_used = λ path. refl; placed = names_joined Extension field_names no_names; used = flat_joined }
 
 pub values_parted : IsParted values_placed no_uses
 values_parted = record { no_placed = λ path. refl; no_used = λ path. refl; placed = names_joined Value value_names no_names; used = λ path s t. refl }

@@ -14,7 +14,7 @@ use Rattle.proto_tree.specs.declared.piece.Header.{Header}
 use Rattle.proto_tree.specs.declared.piece.Header.TheVariants as header
 use Rattle.proto_tree.proofs.Common.{Mark, mark, only, one, word, name, flat_option, flat_separated, flat_all, flat_behind, flat_type, flat_settings, flat_dotted, flat_field, flat_map_field, flat_value, flat_signature, flat_statement, flat_header, Tree, End, Leaf, Block, flat, dotted}
 use Rattle.proto_meaning.specs.declared.kind.Kind.{Kind}
-use Rattle.proto_meaning.specs.declared.kind.Kind.TheVariants.{Package, Message, Enum, Service, Field, Oneof, Value, Method}
+use Rattle.proto_meaning.specs.declared.kind.Kind.TheVariants.{Package, Message, Enum, Service, Field, Oneof, Value, Method, Extension}
 use Rattle.proto_meaning.proofs.Common.{is_package, Source, Token, EntryOf, Members, Items, field, map_field, Placed, place, key_word, value_word, placed, all_placed, prefixes, package_of, Rising, rising_spreads, Spreads, pairs_append}
 use Rattle.proto_listing.specs.Common.{whole, last_token, items_below, package_first, field_names, value_names, method_names, no_names, block_names, picked, add_statement, members_in, file_statement, items_in, file_block}
 use Rattle.proto_listing.proofs.Growing.{token_last, entry_last, given_last}
@@ -182,6 +182,12 @@ module _ (W R S : ℕ → Type 0) where
       block_step W R S Climbs climbs_law (header.Enum h) i within j rest n hi (place path (Token h.name) Enum ∷ inside) (all_placed path (members_in rest)) a e
       (λ x y head le inner f. first_climbs path Enum refl h.name n x y inside (heading_at W R S class.Enum h n x head le) (names_climb path Value refl names x y (picked_rise value_names no_names values_rise none_rise within x y inner f)))
       (λ c b f. members_climb rest path c hi b f)
+  members_climb (Block (header.Extend x) i within j rest) path n hi a e =
+      let names = picked field_names no_names within in
+      let inside = map (λ i. place path (Token i) Extension) names in
+      block_step W R S Climbs climbs_law (header.Extend x) i within j rest n hi inside (all_placed path (members_in rest)) a e
+      (λ lo b head le inner f. climbs_within inside lo b n b (omega (arith, le)) (omega arith) (names_climb path Extension refl names lo b (picked_rise field_names no_names fields_rise none_rise within lo b inner f)))
+      (λ c b f. members_climb rest path c hi b f)
   members_climb (Block whole i within j rest) path n hi a e =
       block_step W R S Climbs climbs_law whole i within j rest n hi [] (all_placed path (members_in rest)) a e (λ x y head le inner f. omega (arith, le, f)) (λ c b f. members_climb rest path c hi b f)
 
@@ -211,6 +217,12 @@ module _ (W R S : ℕ → Type 0) where
       let inside = map (λ i. place (path ++ Token h.name ∷ []) (Token i) Method) names in
       block_step W R S Climbs climbs_law (header.Service h) i within j rest n hi (place path (Token h.name) Service ∷ inside) (items_below path (items_in rest)) a e
       (λ x y head le inner f. first_climbs path Service refl h.name n x y inside (heading_at W R S class.Service h n x head le) (names_climb (path ++ Token h.name ∷ []) Method refl names x y (picked_rise method_names block_names methods_rise blocks_rise within x y inner f)))
+      (λ c b f. items_climb rest path c hi b f)
+  items_climb (Block (header.Extend x) i within j rest) path n hi a e =
+      let names = picked field_names no_names within in
+      let inside = map (λ i. place path (Token i) Extension) names in
+      block_step W R S Climbs climbs_law (header.Extend x) i within j rest n hi inside (items_below path (items_in rest)) a e
+      (λ lo b head le inner f. climbs_within inside lo b n b (omega (arith, le)) (omega arith) (names_climb path Extension refl names lo b (picked_rise field_names no_names fields_rise none_rise within lo b inner f)))
       (λ c b f. items_climb rest path c hi b f)
   items_climb (Block whole i within j rest) path n hi a e =
       block_step W R S Climbs climbs_law whole i within j rest n hi [] (items_below path (items_in rest)) a e (λ x y head le inner f. omega (arith, le, f)) (λ c b f. items_climb rest path c hi b f)

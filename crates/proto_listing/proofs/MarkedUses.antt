@@ -12,12 +12,13 @@ use Rattle.proto_tree.specs.declared.tree.MethodType.{MethodType}
 use Rattle.proto_tree.specs.declared.tree.Signature.{Signature}
 use Rattle.proto_tree.specs.declared.piece.Statement.{Statement}
 use Rattle.proto_tree.specs.declared.piece.Statement.TheVariants as statement
+use Rattle.proto_tree.specs.declared.piece.Extending.{Extending}
 use Rattle.proto_tree.specs.declared.piece.Header.{Header}
 use Rattle.proto_tree.specs.declared.piece.Header.TheVariants as header
 use Rattle.proto_tree.proofs.Common.{mark, only, one, word, name, text, flat_all, flat_behind, flat_option, flat_words, flat_reference, flat_type, flat_settings, flat_import, flat_field, flat_map_field, flat_method_type, flat_signature, flat_statement, flat_header, Tree, End, Leaf, Block, flat, dotted, first_of, word_token}
 use Rattle.proto_meaning.proofs.Common.{Source, Token, Used, Rising, rising_spreads, Spreads}
 use Rattle.proto_tree.proofs.SpacedWords.{words_stand_apart}
-use Rattle.proto_listing.specs.FromTree.{used_as, type_uses, signature_uses, statement_uses, header_uses, flat_uses, member_uses, item_uses, Wanted, statement_imports, imports_in}
+use Rattle.proto_listing.specs.FromTree.{used_as, type_uses, signature_uses, statement_uses, header_uses, flat_uses, block_uses, member_uses, item_uses, Wanted, statement_imports, imports_in}
 use Rattle.proto_listing.proofs.MarkedTokens.{Are, are_numbered, are_left, are_right, are_at, leaf_step, block_step}
 
 module _ (W R S : ℕ → Type 0) where
@@ -169,8 +170,8 @@ module _ (W R S : ℕ → Type 0) where
       let hi = n + length (flat_words (Some dot) d) in
       (a.0, (omega (arith, a.2.0), omega (arith, a.2.0), a.2.1, behind_rise d.rest (n + 1 + 1) (d.first + 1) hi a.2.2 (omega (arith, a.2.0)) (omega arith)))
 
-  reference_rises : (scope : List (Source ℕ)) (is_method : Bool) (r : Reference) (n : ℕ) → Are W R S n (flat_reference r) → Uses n (n + length (flat_reference r)) (used_as scope is_method r ∷ [])
-  reference_rises scope is_method r n a =
+  reference_rises : (scope : List (Source ℕ)) (wants_message : Bool) (r : Reference) (n : ℕ) → Are W R S n (flat_reference r) → Uses n (n + length (flat_reference r)) (used_as scope wants_message r ∷ [])
+  reference_rises scope wants_message r n a =
       let at = words_at r.dot r.words n a in
       let hi = n + length (flat_reference r) in
       let apart = words_stand_apart r n (are_numbered W R S n (flat_reference r) a) in (
@@ -232,6 +233,8 @@ module _ (W R S : ℕ → Type 0) where
 
   header_rises : (scope : List (Source ℕ)) (h : Header) (n : ℕ) → Are W R S n (flat_header h) → Uses n (n + length (flat_header h)) (header_uses scope h)
   header_rises scope (header.Method s) n a = signature_rises scope s n a
+  header_rises scope (header.Extend e) n a =
+      uses_law.within (header_uses scope (header.Extend e)) (n + 1) (n + 1 + length (flat_reference e.extendee)) n (n + length (flat_header (header.Extend e))) (omega arith) (omega arith) (reference_rises scope true e.extendee (n + 1) a.2)
   header_rises scope _ n a = omega arith
 
   flat_rise : (t : Tree) (scope : List (Source ℕ)) (n hi : ℕ) → Are W R S n (flat t) → hi ≡ n + length (flat t) → Uses n hi (flat_uses scope t)
@@ -249,6 +252,10 @@ module _ (W R S : ℕ → Type 0) where
   inside : (h : Header) (within : Tree) (used : List (Used ℕ)) → ((a b : ℕ) → Are W R S a (flat within) → b ≡ a + length (flat within) → Uses a b used) → Inside h within used
   inside h within used r n a b head le inner f = uses_law.within used a b n b (omega (arith, le)) (omega arith) (r a b inner f)
 
+  extending : (e : Extending) (within : Tree) (scope : List (Source ℕ)) → Inside (header.Extend e) within (block_uses scope (header.Extend e) [] within)
+  extending e within scope n a b head le inner f =
+      uses_law.append (header_uses scope (header.Extend e)) (flat_uses scope within) n (n + length (flat_header (header.Extend e))) a b le (header_rises scope (header.Extend e) n head) (flat_rise within scope a b inner f)
+
   nothing : (h : Header) (within : Tree) → Inside h within []
   nothing h within n a b head le inner f = omega (arith, le, f)
 
@@ -262,6 +269,8 @@ module _ (W R S : ℕ → Type 0) where
   members_rise (Block (header.Oneof h) i within j rest) scope n hi a e =
       block_step W R S Uses uses_law (header.Oneof h) i within j rest n hi (flat_uses scope within) (member_uses scope rest) a e
       (inside (header.Oneof h) within (flat_uses scope within) (flat_rise within scope) n) (λ c b f. members_rise rest scope c hi b f)
+  members_rise (Block (header.Extend x) i within j rest) scope n hi a e =
+      block_step W R S Uses uses_law (header.Extend x) i within j rest n hi (block_uses scope (header.Extend x) [] within) (member_uses scope rest) a e (extending x within scope n) (λ c b f. members_rise rest scope c hi b f)
   members_rise (Block whole i within j rest) scope n hi a e =
       block_step W R S Uses uses_law whole i within j rest n hi [] (member_uses scope rest) a e (nothing whole within n) (λ c b f. members_rise rest scope c hi b f)
 
@@ -276,6 +285,8 @@ module _ (W R S : ℕ → Type 0) where
       let used = flat_uses (scope ++ Token h.name ∷ []) within in
       block_step W R S Uses uses_law (header.Service h) i within j rest n hi used (item_uses scope rest) a e
       (inside (header.Service h) within used (flat_rise within (scope ++ Token h.name ∷ [])) n) (λ c b f. items_rise rest scope c hi b f)
+  items_rise (Block (header.Extend x) i within j rest) scope n hi a e =
+      block_step W R S Uses uses_law (header.Extend x) i within j rest n hi (block_uses scope (header.Extend x) [] within) (item_uses scope rest) a e (extending x within scope n) (λ c b f. items_rise rest scope c hi b f)
   items_rise (Block h i within j rest) scope n hi a e =
       block_step W R S Uses uses_law h i within j rest n hi [] (item_uses scope rest) a e (nothing h within n) (λ c b f. items_rise rest scope c hi b f)
 

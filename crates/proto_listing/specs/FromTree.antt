@@ -12,12 +12,12 @@ use Rattle.proto_tree.specs.declared.piece.Header.TheVariants as header
 use Rattle.proto_tree.specs.Tree.{Tree, End, Leaf, Block}
 use Rattle.proto_tree.specs.References.{dotted, first_of}
 use Rattle.proto_meaning.specs.Skeleton.{Source, Token, Used}
-use Rattle.proto_meaning.specs.Tree.{field, map_field, oneof, message, enum, service, Members, no_members, member, Items, no_items, packaged, item, package_of}
+use Rattle.proto_meaning.specs.Tree.{field, map_field, oneof, message, enum, service, extend, Members, no_members, member, Items, no_items, packaged, item, package_of}
 use Rattle.proto_meaning.specs.Grown.{FileNames}
 
 -- ---- declarations
 
--- the token of the name of a field that is no map: a oneof has no other
+-- the token of the name of a field that is no map: a oneof and an `extend` have no other
 abbrev pub field_names : Statement → List ℕ
 field_names (statement.Field f) = f.name ∷ []
 field_names _ = []
@@ -63,6 +63,8 @@ add_block (header.Enum h) inner within rest =
     member (enum h.name (picked value_names no_names within)) rest
 add_block (header.Service h) inner within rest = rest
 add_block (header.Method s) inner within rest = rest
+add_block (header.Extend e) inner within rest =
+    member (extend (picked field_names no_names within)) rest
 
 -- what stands between the braces of a message
 abbrev pub members_in : Tree → Members
@@ -76,7 +78,7 @@ abbrev pub file_statement : Statement → Items → Items
 file_statement (statement.Package p) rest = packaged (dotted p.name) rest
 file_statement _ rest = rest
 
--- a block of a file before the rest of it: messages, enums and services declare
+-- a block of a file before the rest of it: messages, enums, services and extensions are declared
 abbrev pub file_block : Header → Tree → Items → Items
 file_block (header.Message h) within rest = item (message h.name (members_in within)) rest
 file_block (header.Enum h) within rest =
@@ -85,6 +87,8 @@ file_block (header.Service h) within rest =
     item (service h.name (picked method_names block_names within)) rest
 file_block (header.Oneof h) within rest = rest
 file_block (header.Method s) within rest = rest
+file_block (header.Extend e) within rest =
+    item (extend (picked field_names no_names within)) rest
 
 -- what a file declares
 abbrev pub items_in : Tree → Items
@@ -94,13 +98,14 @@ items_in (Block h opens within closes rest) = file_block h within (items_in rest
 
 -- ---- references
 
--- a use of a reference, in a scope, by a method or not; the file is filled in where it is known
+-- a use of a reference, in a scope, where a message is wanted or any type; the file is filled in where
+-- it is known
 abbrev pub used_as : List (Source ℕ) → Bool → Reference → Used ℕ
-used_as scope is_method r = record {
+used_as scope wants_message r = record {
   file = 0;
   scope = scope;
   is_absolute = is_some r.dot;
-  is_method = is_method;
+  wants_message = wants_message;
   first = first_of r.dot r.words;
   tokens = dotted r.words;
 }
@@ -122,12 +127,13 @@ statement_uses scope (statement.MapField f) = type_uses scope f.value
 statement_uses scope (statement.Method s end) = signature_uses scope s
 statement_uses scope _ = []
 
--- the references of a header: those of a method that has a block
+-- the references of a header: those of a method that has a block, and what an `extend` extends
 abbrev pub header_uses : List (Source ℕ) → Header → List (Used ℕ)
 header_uses scope (header.Method s) = signature_uses scope s
+header_uses scope (header.Extend e) = used_as scope true e.extendee ∷ []
 header_uses scope _ = []
 
--- the references in a oneof or in a service, where the scope stays
+-- the references in a oneof, in a service or in an `extend`, where the scope stays
 abbrev pub flat_uses : List (Source ℕ) → Tree → List (Used ℕ)
 flat_uses scope End = []
 flat_uses scope (Leaf s rest) = statement_uses scope s ++ flat_uses scope rest
@@ -135,13 +141,15 @@ flat_uses scope (Block h opens within closes rest) =
     header_uses scope h ++ flat_uses scope rest
 
 -- the references in a block, given those in it if it is a message: the scope is the message or
--- service around them
+-- service around them; that of an `extend` and of all in it is what stands around the `extend`
 abbrev pub block_uses : List (Source ℕ) → Header → List (Used ℕ) → Tree → List (Used ℕ)
 block_uses scope (header.Message h) inner within = inner
 block_uses scope (header.Oneof h) inner within = flat_uses scope within
 block_uses scope (header.Service h) inner within = flat_uses (scope ++ Token h.name ∷ []) within
 block_uses scope (header.Enum h) inner within = []
 block_uses scope (header.Method s) inner within = []
+block_uses scope (header.Extend e) inner within =
+    header_uses scope (header.Extend e) ++ flat_uses scope within
 
 -- the scope in a block: one level deeper in a message
 abbrev pub scope_in : List (Source ℕ) → Header → List (Source ℕ)

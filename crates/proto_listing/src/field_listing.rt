@@ -13,7 +13,8 @@ use proto_faults::NoMemory;
 use proto_meaning::Kind;
 use proto_tree::{Field, FieldType, MapField, Oneof};
 
-fn list_type<'a>(
+/// The reference of a type, if it is one.
+pub(crate) fn list_type<'a>(
     listing: &mut Listing<'a>,
     scope: Above,
     kind: &'a FieldType,

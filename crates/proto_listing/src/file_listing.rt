@@ -10,6 +10,7 @@ ghost use Rattle.proto_meaning.specs.Skeleton.{Token};
 ghost use Rattle.proto_meaning.specs.Tree.{prefixes, file_placed, ItemsSpan, Placed};
 
 use crate::enum_listing::list_enum;
+use crate::extend_listing::list_extend;
 use crate::listing::{Above, Listing};
 use crate::message_listing::list_message;
 use crate::service_listing::list_service;
@@ -77,6 +78,7 @@ fn list_item<'a>(listing: &mut Listing<'a>, above: Above, item: &'a Item) -> Res
         Item::Message(message) => list_message(listing, above, message),
         Item::Enum(names) => list_enum(listing, above, names),
         Item::Service(service) => list_service(listing, above, service),
+        Item::Extend(block) => list_extend(listing, above, block),
         _ => Ok(()),
     }
 }

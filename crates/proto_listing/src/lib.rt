@@ -3,6 +3,7 @@
 
 pub mod declaring;
 mod enum_listing;
+mod extend_listing;
 mod field_listing;
 pub mod file_listing;
 pub mod listing;

@@ -44,7 +44,7 @@ pub struct Listed {
 #[derive(Clone, Copy)]
 pub struct Use<'a> {
     pub scope: Above,
-    pub is_method: bool,
+    pub wants_message: bool,
     pub reference: &'a Reference,
 }
 
@@ -103,16 +103,16 @@ impl<'a> Listing<'a> {
     pub(crate) fn refer(
         &mut self,
         scope: Above,
-        is_method: bool,
+        wants_message: bool,
         reference: &'a Reference,
     ) -> Result<(), NoMemory>
         requires { needs scope ≤ length self.old.declared.items }
         ensures { OnOk result (Adds self.old self.new
-            scope (λ path. []) (λ path. used_as path is_method reference.now ∷ [])) }
+            scope (λ path. []) (λ path. used_as path wants_message reference.now ∷ [])) }
     {
         self.used.push(Use {
             scope,
-            is_method,
+            wants_message,
             reference,
         })?;
         Ok(())

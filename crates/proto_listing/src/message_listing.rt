@@ -9,6 +9,7 @@ ghost use Rattle.proto_meaning.specs.Skeleton.{Token};
 ghost use Rattle.proto_meaning.specs.Tree.{placed, all_placed, message as message_of};
 
 use crate::enum_listing::list_enum;
+use crate::extend_listing::list_extend;
 use crate::field_listing::{list_field, list_map_field, list_oneof};
 use crate::listing::{Above, Listing};
 use proto_faults::NoMemory;
@@ -67,6 +68,7 @@ fn list_member<'a>(
         Member::Oneof(oneof) => list_oneof(listing, scope, oneof),
         Member::Message(message) => list_message(listing, Above::Below(scope), message),
         Member::Enum(names) => list_enum(listing, Above::Below(scope), names),
+        Member::Extend(block) => list_extend(listing, Above::Below(scope), block),
         _ => Ok(()),
     }
 }

@@ -24,4 +24,4 @@ pub use Rattle.proto_meaning.specs.Linked.{AreApart, AreFiles, EntryFits, IsLink
 pub use Rattle.proto_meaning.specs.Marks.{MarksSeen}
 pub use Rattle.proto_meaning.specs.Names.{Import, Reaches, Reference, Sees, Symbol, Workspace, along, by_import, fits, front_at, greatest, here, hit, hits_at, is_outer, is_type, itself, meaning, meaning_at, reaches, same_name, sees, shows, typed}
 pub use Rattle.proto_meaning.specs.Skeleton.{Declared, EntryOf, Given, IsAim, IsAimEntry, IsRespelled, IsWoven, Skeleton, Source, Token, Used, name_of, reference_of, renaming_of, shifted_declared, shifted_source, shifted_used, spell, symbol_of, workspace_of}
-pub use Rattle.proto_meaning.specs.Tree.{AllSpan, Items, ItemsSpan, Member, Members, Placed, Rises, Spans, all_placed, beside, enum, field, file_placed, item, items_placed, key_word, map_field, member, message, no_items, no_members, oneof, package_of, packaged, place, placed, prefixes, service, token_of, value_word}
+pub use Rattle.proto_meaning.specs.Tree.{AllSpan, Items, ItemsSpan, Member, Members, Placed, Rises, Spans, all_placed, beside, enum, extend, field, file_placed, item, items_placed, key_word, map_field, member, message, no_items, no_members, oneof, package_of, packaged, place, placed, prefixes, service, token_of, value_word}

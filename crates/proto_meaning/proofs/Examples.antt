@@ -6,7 +6,7 @@ abbrev sym_of : List (List ℕ) → Kind → ℕ → Symbol
 sym_of name kind file = record { name = name; kind = kind; file = file }
 
 abbrev rel : ℕ → List (List ℕ) → List (List ℕ) → Reference
-rel file scope words = record { file = file; scope = scope; is_absolute = false; is_method = false; words = words }
+rel file scope words = record { file = file; scope = scope; is_absolute = false; wants_message = false; words = words }
 
 abbrev p : List ℕ
 p = 112 ∷ []

@@ -70,7 +70,7 @@ unique_renamed e w ok is free i j d below within h =
 
 -- a mapped meaning is the name of a mapped symbol only where that was meant
 back : (e : Renaming) (w : Workspace) → IsLinked w → IsRenaming e w → IsFree e w → (r' : Reference) → Contains (renamed e w).references r' → (s' : Symbol) → Contains (renamed e w).symbols s' → meaning (renamed e w) r' ≡ Some s'.name
-    → (r : Reference) × (s : Symbol) × Contains w.references r × Contains w.symbols s × (meaning w r ≡ Some s.name) × (r.is_method ≡ r'.is_method) × (s.kind ≡ s'.kind)
+    → (r : Reference) × (s : Symbol) × Contains w.references r × Contains w.symbols s × (meaning w r ≡ Some s.name) × (r.wants_message ≡ r'.wants_message) × (s.kind ≡ s'.kind)
 back e w ok is free r' cr' s' cs' h =
     let ro = from_map (renamed_reference e w) w.references r' cr' in
     let so = from_map (renamed_symbol e) w.symbols s' cs' in
@@ -81,7 +81,7 @@ back e w ok is free r' cr' s' cs' h =
     let new = each_means e w ok is free r ro.1 m.0 m.1 in
     let same : ren e m.0 ≡ ren e s.name = same_Some (ren e m.0) (ren e s.name) (sym new ∙ ap (meaning (renamed e w)) ro.2 ∙ h ∙ ap Some (sym (ap (λ z. z.name) so.2))) in
     let old = ren_apart e w is free.no_collision t.0 s t.1 so.1 (ap (ren e) t.2 ∙ same) in
-    (r, s, ro.1, so.1, m.1 ∙ ap Some (sym t.2 ∙ old), ap (λ z. z.is_method) ro.2, ap (λ z. z.kind) so.2)
+    (r, s, ro.1, so.1, m.1 ∙ ap Some (sym t.2 ∙ old), ap (λ z. z.wants_message) ro.2, ap (λ z. z.kind) so.2)
 
 pub renamed_linked : (e : Renaming) (w : Workspace) → IsLinked w → IsRenaming e w → IsFree e w → IsLinked (renamed e w)
 renamed_linked e w ok is free = record {

@@ -1,7 +1,7 @@
 -- Without faults of names and references a workspace is linked, and the other way round (for the crates above).
 use Rattle.std.proofs.Common.{◌≡◌, ◌≢◌, ◌⊎◌, ℕ, ◌<◌, true, List, [], length, get_or, refl, sym, ◌∙◌, ap, inl, inr, arith, true≢false}
 use Rattle.proto_faults.proofs.Common.{cases_Bool, both_ways, get_or-map, length-map, Contains-get_or, contains_map, from_map}
-use Rattle.proto_meaning.specs.Common.{Kind, Package, Message, Entry, Enum, Service, Field, EntryField, Oneof, Value, Method, Symbol, Workspace, meaning, Declared, Skeleton, name_of, symbol_of, reference_of, workspace_of, At, is_package, IsNested, IsLinked}
+use Rattle.proto_meaning.specs.Common.{Kind, Package, Message, Entry, Enum, Service, Field, EntryField, Oneof, Value, Method, Extension, Symbol, Workspace, meaning, Declared, Skeleton, name_of, symbol_of, reference_of, workspace_of, At, is_package, IsNested, IsLinked}
 use Rattle.proto_case.specs.Camel.{entry_name}
 use Rattle.proto_meaning.specs.Faults.{Fault, fault, NameFault, earlier, of_package, ReferenceFault, unresolved, wrong_kind, of_entry, place_of}
 use Rattle.proto_meaning.proofs.Symbols.{one_symbol}
@@ -17,6 +17,7 @@ package_from EntryField h = absurd (true≢false (sym h))
 package_from Oneof h = absurd (true≢false (sym h))
 package_from Value h = absurd (true≢false (sym h))
 package_from Method h = absurd (true≢false (sym h))
+package_from Extension h = absurd (true≢false (sym h))
 
 pub package_or : (k : Kind) → (k ≡ Package) ⊎ (k ≢ Package)
 package_or k = elim (cases_Bool (is_package k)) [
@@ -50,7 +51,7 @@ module _ (text : At → List ℕ) (k : Skeleton At) where
     unique = λ i j s below lj same. unique i j s below lj same;
     resolved = λ r cr h. let u = from_map (reference_of text entry_name) k.used r cr in references (fault u.0.first 14) (unresolved u.0 u.1 (ap (meaning w) u.2 ∙ h));
     no_entry = λ r cr s cs h e. let u = from_map (reference_of text entry_name) k.used r cr in references (fault u.0.first 16) (of_entry u.0 s u.1 cs (ap (meaning w) u.2 ∙ h) e);
-    right_kind = λ r cr s cs h m e. let u = from_map (reference_of text entry_name) k.used r cr in references (fault u.0.first 15) (wrong_kind u.0 s u.1 cs (ap (meaning w) u.2 ∙ h) (ap (λ z. z.is_method) u.2 ∙ m) e);
+    right_kind = λ r cr s cs h m e. let u = from_map (reference_of text entry_name) k.used r cr in references (fault u.0.first 15) (wrong_kind u.0 s u.1 cs (ap (meaning w) u.2 ∙ h) (ap (λ z. z.wants_message) u.2 ∙ m) e);
   }
     where
       unique : (i j : ℕ) (s : Symbol) → i < j → j < length w.symbols → (get_or w.symbols i s).name ≡ (get_or w.symbols j s).name → ((get_or w.symbols i s).kind ≡ Package) × ((get_or w.symbols j s).kind ≡ Package)

@@ -1,7 +1,7 @@
 -- What nesting and unique names give (for the crates above).
 use Rattle.std.proofs.Common.{◌≡◌, ◌≢◌, ℕ, zero, suc, ◌<◌, Bool, true, false, ◌&&◌, List, [], ◌∷◌, ◌++◌, length, get_or, Option, Some, None, refl, sym, ◌∙◌, ap, subst, inl, inr, ◌⊎◌, arith, append_assoc, length-append, Contains, AllPairs, bytes_eq, true≢false, append-nil}
 use Rattle.proto_faults.proofs.Common.{cases_Bool, cases_order, cond-true, cond-false, false_from_ne_true, both_ways, and_parts, or_cases, or_parts, same_Some, get_or_default, any_to, word_from_same}
-use Rattle.proto_meaning.specs.Common.{Kind, Package, Message, Entry, Enum, Service, Field, EntryField, Oneof, Value, Method, Symbol, Workspace, same_name, is_type, is_outer, shows, sees, Renaming, turned, turned_by, moves, moves_by, ren, is_below, in_domain, is_entry, is_entry_by, IsClear, Collides, is_leaf, holds, IsNested, AreApart, IsLinked, EntryFits, IsRenaming}
+use Rattle.proto_meaning.specs.Common.{Kind, Package, Message, Entry, Enum, Service, Field, EntryField, Oneof, Value, Method, Extension, Symbol, Workspace, same_name, is_type, is_outer, shows, sees, Renaming, turned, turned_by, moves, moves_by, ren, is_below, in_domain, is_entry, is_entry_by, IsClear, Collides, is_leaf, holds, IsNested, AreApart, IsLinked, EntryFits, IsRenaming}
 use Rattle.proto_meaning.proofs.Basics.{name_from_same}
 use Rattle.proto_meaning.proofs.Ren.{turn_below_outside, turn_below_apart}
 
@@ -38,6 +38,7 @@ holds-package EntryField h = absurd (true≢false (sym h))
 holds-package Oneof h = absurd (true≢false (sym h))
 holds-package Value h = absurd (true≢false (sym h))
 holds-package Method h = absurd (true≢false (sym h))
+holds-package Extension h = absurd (true≢false (sym h))
 
 holds-outer : (k j : Kind) → holds k j ≡ true → is_outer k ≡ true
 holds-outer Package j h = refl
@@ -50,6 +51,7 @@ holds-outer EntryField j h = absurd (true≢false (sym h))
 holds-outer Oneof j h = absurd (true≢false (sym h))
 holds-outer Value j h = absurd (true≢false (sym h))
 holds-outer Method j h = absurd (true≢false (sym h))
+holds-outer Extension j h = absurd (true≢false (sym h))
 
 -- the symbol at a front of a symbol's name
 pub record HasFront (symbols : List Symbol) (a : List (List ℕ)) (t : Symbol) : Type 0 where
@@ -73,6 +75,7 @@ outer_not_leaf EntryField h = absurd (true≢false (sym h))
 outer_not_leaf Oneof h = absurd (true≢false (sym h))
 outer_not_leaf Value h = absurd (true≢false (sym h))
 outer_not_leaf Method h = absurd (true≢false (sym h))
+outer_not_leaf Extension h = absurd (true≢false (sym h))
 
 pub type_not_leaf : (k : Kind) → is_type k ≡ true → is_leaf k ≡ false
 type_not_leaf Package h = refl
@@ -85,6 +88,7 @@ type_not_leaf EntryField h = absurd (true≢false (sym h))
 type_not_leaf Oneof h = absurd (true≢false (sym h))
 type_not_leaf Value h = absurd (true≢false (sym h))
 type_not_leaf Method h = absurd (true≢false (sym h))
+type_not_leaf Extension h = absurd (true≢false (sym h))
 
 empty_from : (b : List (List ℕ)) → length b ≡ 0 → b ≡ []
 empty_from [] h = refl

@@ -1,7 +1,7 @@
 -- A tree's declarations nest, and its tokens declare one symbol each (for the crates above).
 use Rattle.std.proofs.Common.{◌≡◌, ℕ, ◌+◌, ◌<◌, ◌≤◌, true, false, not, List, [], ◌∷◌, ◌++◌, Some, None, refl, sym, ◌∙◌, ap, inl, inr, ◌⊎◌, arith, map, Contains, All}
 use Rattle.proto_faults.proofs.Common.{none-some, same_Some, Contains-append_left, Contains-append_right, Contains-append_cases, All-contains, contains_head, contains_later, contains_cases, from_map}
-use Rattle.proto_meaning.specs.Common.{Kind, Message, Entry, Enum, Service, Field, EntryField, Oneof, Value, Method, holds, is_package, is_leaf, Source, Token, EntryOf, Given, Member, field, map_field, oneof, message, enum, service, Members, no_members, member, Placed, place, beside, key_word, value_word, placed, all_placed, Spans, AllSpan, token_of}
+use Rattle.proto_meaning.specs.Common.{Kind, Message, Entry, Enum, Service, Field, EntryField, Oneof, Value, Method, Extension, holds, is_package, is_leaf, Source, Token, EntryOf, Given, Member, field, map_field, oneof, message, enum, service, extend, Members, no_members, member, Placed, place, beside, key_word, value_word, placed, all_placed, Spans, AllSpan, token_of}
 
 pub none_left : {P : Type 0} (p : Placed) → Contains [] p → P
 none_left p c = absurd (omega (arith, c.1))
@@ -88,6 +88,11 @@ mutual
     | inl a ↦ beside_in t lo hi d ms p.last s.0 s.1 s.2 (inl a.1) h
     | inr b ↦ beside_in t lo hi d ms p.last s.0 s.1 s.2 (inr b.1) h
   ]
+  in_span (extend ts) path lo hi d s p c h =
+      let v = from_map (λ i. place path (Token i) Extension) ts p c in
+      let x : v.0 ≡ d = same_Some v.0 d (ap (λ z. token_of z.last) v.2 ∙ h) in
+      let y = All-contains (λ i. (lo ≤ i) × (i < hi)) ts v.0 s v.1 in
+      (omega (arith, x, y.0), omega (arith, x, y.1))
 
   pub all_in_span : (ms : Members) (path : List (Source ℕ)) (lo hi d : ℕ) → AllSpan lo hi ms → (p : Placed) → Contains (all_placed path ms) p → token_of p.last ≡ Some d → (lo ≤ d) × (d < hi)
   all_in_span no_members path lo hi d s p c h = none_left p c
@@ -143,6 +148,10 @@ mutual
           | inr nq ↦ all_one_place ms (path ++ Token t ∷ []) (t + 1) hi d s.1 p q np nq hp hq
         ]
       ]
+  one_place (extend ts) path lo hi d s p q cp cq hp hq =
+      let v = from_map (λ i. place path (Token i) Extension) ts p cp in
+      let w = from_map (λ i. place path (Token i) Extension) ts q cq in
+      sym (ap (λ z. z.above) v.2) ∙ ap (λ z. z.above) w.2
 
   pub all_one_place : (ms : Members) (path : List (Source ℕ)) (lo hi d : ℕ) → AllSpan lo hi ms → (p q : Placed) → Contains (all_placed path ms) p → Contains (all_placed path ms) q → token_of p.last ≡ Some d → token_of q.last ≡ Some d → p.above ≡ q.above
   all_one_place no_members path lo hi d s p q cp cq hp hq = none_left p cp
@@ -181,6 +190,7 @@ mutual
     | inl e ↦ ap (λ z. is_package z.kind) (sym e)
     | inr n ↦ all_no_package ms (path ++ Token t ∷ []) p n
   ]
+  no_package (extend ts) path p c = let v = from_map (λ i. place path (Token i) Extension) ts p c in ap (λ z. is_package z.kind) (sym v.2)
 
   all_no_package : (ms : Members) (path : List (Source ℕ)) (p : Placed) → Contains (all_placed path ms) p → is_package p.kind ≡ false
   all_no_package no_members path p c = none_left p c
@@ -207,6 +217,7 @@ mutual
       | inr b ↦ inr (b.0, contains_later (place path (Token t) Message) b.0 (all_placed (path ++ Token t ∷ []) ms) b.1, b.2, b.3)
     ]
   ]
+  stands (extend ts) path p c = let v = from_map (λ i. place path (Token i) Extension) ts p c in inl (sym (ap (λ z. z.above) v.2))
 
   pub all_stand : (ms : Members) (path : List (Source ℕ)) (p : Placed) → Contains (all_placed path ms) p → (p.above ≡ path) ⊎ ((u : Placed) × Contains (all_placed path ms) u × (p.above ≡ u.above ++ u.last ∷ []) × (holds u.kind p.kind ≡ true))
   all_stand no_members path p c = none_left p c

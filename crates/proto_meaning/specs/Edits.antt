@@ -73,7 +73,7 @@ renamed_at e r h = record {
   file = r.file;
   scope = ren e r.scope;
   is_absolute = r.is_absolute;
-  is_method = r.is_method;
+  wants_message = r.wants_message;
   words = rewritten e (front_at r h) r.words;
 }
 

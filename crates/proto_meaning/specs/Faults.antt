@@ -100,11 +100,11 @@ pub data ReferenceFault (text : At → Text) (k : Skeleton At) : Fault → Type 
   unresolved : (u : Used At) → Contains k.used u
       → meaning (workspace_of text entry_name k) (reference_of text entry_name u) ≡ None
       → ReferenceFault text k (fault u.first 14)
-  -- a method's reference that means an enum
+  -- a reference that wants a message and means an enum
   wrong_kind : (u : Used At) (s : Symbol) → Contains k.used u
       → Contains (workspace_of text entry_name k).symbols s
       → meaning (workspace_of text entry_name k) (reference_of text entry_name u) ≡ Some s.name
-      → u.is_method ≡ true → s.kind ≡ Enum → ReferenceFault text k (fault u.first 15)
+      → u.wants_message ≡ true → s.kind ≡ Enum → ReferenceFault text k (fault u.first 15)
   -- a reference that means a generated entry
   of_entry : (u : Used At) (s : Symbol) → Contains k.used u
       → Contains (workspace_of text entry_name k).symbols s

@@ -1,7 +1,7 @@
 -- A workspace without faults of names and references.
 use Rattle.std.specs.Prelude.{◌≡◌, ◌≢◌, ◌<◌, Bool, true, false, not, List, [], ◌∷◌, ◌++◌, length, Option, Some, None}
 use Rattle.std.specs.List.{Contains, AllPairs}
-use Rattle.proto_meaning.specs.Names.{Kind, Package, Message, Entry, Enum, Service, Field, EntryField, Oneof, Value, Method, Symbol, Import, Reference, Workspace, Word, Name, meaning}
+use Rattle.proto_meaning.specs.Names.{Kind, Package, Message, Entry, Enum, Service, Field, EntryField, Oneof, Value, Method, Extension, Symbol, Import, Reference, Workspace, Word, Name, meaning}
 use Rattle.proto_meaning.specs.Edits.{Renaming, target, Collides, IsCaptured}
 
 -- a package, or a prefix of one
@@ -21,6 +21,7 @@ is_leaf EntryField = true
 is_leaf Oneof = true
 is_leaf Value = true
 is_leaf Method = true
+is_leaf Extension = true
 
 -- a symbol of the first kind may have one of the second kind declared right in it
 abbrev pub holds : Kind → Kind → Bool
@@ -34,6 +35,7 @@ holds EntryField k = false
 holds Oneof k = false
 holds Value k = false
 holds Method k = false
+holds Extension k = false
 
 -- each symbol of more than one word stands right in a symbol of its file that may hold its kind
 abbrev pub IsNested : List Symbol → Type 0
@@ -47,7 +49,7 @@ abbrev pub AreApart : Symbol → Symbol → Type 0
 AreApart s t = s.name ≡ t.name → (s.kind ≡ Package) × (t.kind ≡ Package)
 
 -- no fault of names and references: full names are unique but for packages, each reference means a
--- type that is no generated entry, and of a method one that is no enum
+-- type that is no generated entry, and one that wants a message no enum
 pub record IsLinked (w : Workspace) : Type 0 where
   pub nested : IsNested w.symbols
   pub unique : AllPairs AreApart w.symbols
@@ -56,7 +58,7 @@ pub record IsLinked (w : Workspace) : Type 0 where
       → (s : Symbol) → Contains w.symbols s → meaning w r ≡ Some s.name → s.kind ≢ Entry
   pub right_kind : (r : Reference) → Contains w.references r
       → (s : Symbol) → Contains w.symbols s → meaning w r ≡ Some s.name
-      → r.is_method ≡ true → s.kind ≢ Enum
+      → r.wants_message ≡ true → s.kind ≢ Enum
 
 -- a generated entry with the word is declared right below the parent
 abbrev pub HasEntry : Workspace → Name → Word → Type 0

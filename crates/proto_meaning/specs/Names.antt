@@ -4,7 +4,7 @@ use Rattle.std.specs.List.{list_any, Contains}
 use Rattle.std.specs.Str.{bytes_eq}
 use Rattle.std.specs.Cmp.Lexicographic.{pointwise}
 pub use Rattle.proto_meaning.specs.declared.kind.Kind.{Kind}
-pub use Rattle.proto_meaning.specs.declared.kind.Kind.TheVariants.{Package, Message, Entry, Enum, Service, Field, EntryField, Oneof, Value, Method}
+pub use Rattle.proto_meaning.specs.declared.kind.Kind.TheVariants.{Package, Message, Entry, Enum, Service, Field, EntryField, Oneof, Value, Method, Extension}
 
 -- a word of a name: its bytes
 abbrev pub Word : Type 0
@@ -30,6 +30,7 @@ is_type EntryField = false
 is_type Oneof = false
 is_type Value = false
 is_type Method = false
+is_type Extension = false
 
 -- what the first word of a longer reference may stand for: a package, a message, also a generated
 -- one, an enum or a service
@@ -44,6 +45,7 @@ is_outer EntryField = false
 is_outer Oneof = false
 is_outer Value = false
 is_outer Method = false
+is_outer Extension = false
 
 -- a declaration: its full name, its kind, and the number of its file, from 0; a package is listed
 -- with each of its prefixes, once for each file that has it
@@ -58,13 +60,14 @@ pub record Import : Type 0 where
   pub to : ℕ
   pub is_public : Bool
 
--- the words of a reference, with the full name of the message or service around it; an absolute one
--- begins with a dot, and one of a method is its request or its response
+-- the words of a reference, with the full name of the message or service around it, or else of the
+-- package; an absolute one begins with a dot; the request and the response of a method, and what an
+-- `extend` block extends, want a message
 pub record Reference : Type 0 where
   pub file : ℕ
   pub scope : Name
   pub is_absolute : Bool
-  pub is_method : Bool
+  pub wants_message : Bool
   pub words : List Word
 
 -- the number of files, and what all of them declare, import and refer to

@@ -23,7 +23,7 @@ pub record Used (X : Type 0) : Type 0 where
   pub file : ℕ
   pub scope : List (Source X)
   pub is_absolute : Bool
-  pub is_method : Bool
+  pub wants_message : Bool
   pub first : X
   pub tokens : List X
 
@@ -55,7 +55,7 @@ reference_of text entry u = record {
   file = u.file;
   scope = name_of text entry u.scope;
   is_absolute = u.is_absolute;
-  is_method = u.is_method;
+  wants_message = u.wants_message;
   words = map text u.tokens;
 }
 
@@ -149,7 +149,7 @@ shifted_used f u = record {
   file = u.file;
   scope = map (shifted_source f) u.scope;
   is_absolute = u.is_absolute;
-  is_method = u.is_method;
+  wants_message = u.wants_message;
   first = f u.first;
   tokens = map f u.tokens;
 }

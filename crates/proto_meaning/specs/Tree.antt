@@ -2,13 +2,14 @@
 -- the others.
 use Rattle.std.specs.Prelude.{◌≡◌, ℕ, ◌+◌, ◌<◌, ◌≤◌, List, [], ◌∷◌, ◌++◌, map, codes, Option, Some, None}
 use Rattle.std.specs.List.{All}
-use Rattle.proto_meaning.specs.Names.{Kind, Package, Message, Entry, Enum, Service, Field, EntryField, Oneof, Value, Method}
+use Rattle.proto_meaning.specs.Names.{Kind, Package, Message, Entry, Enum, Service, Field, EntryField, Oneof, Value, Method, Extension}
 use Rattle.proto_meaning.specs.Skeleton.{Source, Token, EntryOf, Given}
 use Rattle.proto_faults.specs.Texts.{Text}
 
 -- the declarations of a tree, by the tokens of their names
 mutual
-  -- a oneof has its fields, a message its members, an enum its values and a service its methods
+  -- a oneof has its fields, a message its members, an enum its values, a service its methods, and an
+  -- `extend`, which has no name itself, its fields
   pub data Member : Type 0 where
     field : (token : ℕ) → Member
     map_field : (token : ℕ) → Member
@@ -16,6 +17,7 @@ mutual
     message : (token : ℕ) → Members → Member
     enum : (token : ℕ) → List ℕ → Member
     service : (token : ℕ) → List ℕ → Member
+    extend : List ℕ → Member
 
   -- the declarations right in a message, or in a file, in order
   pub data Members : Type 0 where
@@ -69,6 +71,7 @@ abbrev mutual
   placed path (service t ms) =
       place path (Token t) Service
       ∷ map (λ i. place (path ++ Token t ∷ []) (Token i) Method) ms
+  placed path (extend ts) = map (λ i. place path (Token i) Extension) ts
 
   -- by declarations, in order
   pub all_placed : List (Source ℕ) → Members → List Placed
@@ -106,6 +109,7 @@ abbrev mutual
   Spans lo hi (message t ms) = (lo ≤ t) × AllSpan (t + 1) hi ms
   Spans lo hi (enum t vs) = (lo ≤ t) × (t < hi) × All (λ v. (t < v) × (v < hi)) vs
   Spans lo hi (service t ms) = (lo ≤ t) × (t < hi) × All (λ i. (t < i) × (i < hi)) ms
+  Spans lo hi (extend ts) = All (λ i. (lo ≤ i) × (i < hi)) ts
 
   -- of declarations in order, each ends before the next begins
   pub AllSpan : ℕ → ℕ → Members → Type 0

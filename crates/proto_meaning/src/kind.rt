@@ -4,8 +4,10 @@ ghost use Rattle.std.specs.Prelude.{◌≡◌};
 ghost use Rattle.proto_meaning.specs.Linked.{is_package};
 ghost use Rattle.proto_meaning.specs.Names.{is_type, is_outer};
 
+use std::fmt;
+
 /// The kind of a symbol.
-#[derive(Clone, Copy, PartialEq, Eq)]
+#[derive(Clone, Copy, Debug, PartialEq, Eq)]
 pub enum Kind {
     /// A package, or a prefix of one.
     Package,
@@ -27,9 +29,34 @@ pub enum Kind {
     Value,
     /// A method of a service.
     Method,
+    /// An extension: a field of an `extend` block, declared where the block stands.
+    Extension,
+}
+
+impl fmt::Display for Kind {
+    fn fmt<W: fmt::Write>(&self, f: &mut fmt::Formatter<W>) -> fmt::Result {
+        f.write_str(self.text())
+    }
 }
 
 impl Kind {
+    // What it is, in words, for people.
+    fn text(self) -> &'static str {
+        match self {
+            Kind::Package => "package",
+            Kind::Message => "message",
+            Kind::Entry => "map entry",
+            Kind::Enum => "enum",
+            Kind::Service => "service",
+            Kind::Field => "field",
+            Kind::EntryField => "field of a map entry",
+            Kind::Oneof => "oneof",
+            Kind::Value => "enum value",
+            Kind::Method => "method",
+            Kind::Extension => "extension",
+        }
+    }
+
     /// Whether it is a package, or a prefix of one.
     pub fn is_package(self) -> bool
         ensures { result ≡ is_package self }

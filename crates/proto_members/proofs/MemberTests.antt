@@ -43,6 +43,7 @@ pub member_to : (h : Header) (within : Tree) (token : ℕ) → has_member token 
 member_to (header.Message h) within token e = (inl (from_field (fields_in within) token e), refl)
 member_to (header.Oneof h) within token e = (inl (from_field (fields_in within) token e), refl)
 member_to (header.Enum h) within token e = (inr (from_value (values_in within) token e), refl)
+member_to (header.Extend x) within token e = (inl (from_field (fields_in within) token e), refl)
 member_to whole within token e = absurd cc
 
 pub member_from : (ps : List Placed) (h : Header) (within : Tree) (token : ℕ) → IsDeclared ps h within → HasMember within token → has_member token h within ≡ true
@@ -52,6 +53,8 @@ member_from ps (header.Oneof h) within token d (inl c) = field_there (fields_in 
 member_from ps (header.Oneof h) within token d (inr c) = absurd (none_there (values_in within) (λ (v : Value). v.name) token d.3 c)
 member_from ps (header.Enum h) within token d (inl c) = absurd (none_there (fields_in within) (λ (f : FieldOf). f.name) token d.3 c)
 member_from ps (header.Enum h) within token d (inr c) = value_there (values_in within) token c
+member_from ps (header.Extend x) within token d (inl c) = field_there (fields_in within) token c
+member_from ps (header.Extend x) within token d (inr c) = absurd (none_there (values_in within) (λ (v : Value). v.name) token d.2 c)
 member_from ps whole within token d (inl c) = absurd (none_there (fields_in within) (λ (f : FieldOf). f.name) token d.2 c)
 member_from ps whole within token d (inr c) = absurd (none_there (values_in within) (λ (v : Value). v.name) token d.3 c)
 
@@ -60,6 +63,7 @@ member_from ps whole within token d (inr c) = absurd (none_there (values_in with
 pub field_to : (h : Header) (within : Tree) (f : FieldOf) → Contains (fields_by h within) f → Contains (fields_in within) f
 field_to (header.Message h) within f c = c
 field_to (header.Oneof h) within f c = c
+field_to (header.Extend x) within f c = c
 field_to whole within f c = absurd (omega (arith, c.1))
 
 none_here : (fs : List FieldOf) (f : FieldOf) → fs ≡ [] → Contains fs f → ⊥
@@ -69,6 +73,7 @@ pub field_from : (ps : List Placed) (h : Header) (within : Tree) (f : FieldOf) �
 field_from ps (header.Message h) within f d c = (c, refl)
 field_from ps (header.Oneof h) within f d c = (c, refl)
 field_from ps (header.Enum h) within f d c = absurd (none_here (fields_in within) f d.3 c)
+field_from ps (header.Extend x) within f d c = (c, refl)
 field_from ps whole within f d c = absurd (none_here (fields_in within) f d.2 c)
 
 -- ---- blocks of a file that was read

@@ -4,22 +4,24 @@ use Rattle.std.specs.List.{filter}
 use Rattle.proto_tree.specs.declared.piece.Header.{Header}
 use Rattle.proto_tree.specs.declared.piece.Header.TheVariants as header
 use Rattle.proto_tree.specs.declared.tree.Block.{Block as Braced}
+use Rattle.proto_tree.specs.declared.tree.Extend.{Extend}
 use Rattle.proto_tree.specs.declared.tree.Field.{Field}
 use Rattle.proto_tree.specs.declared.tree.Member.{Member}
-use Rattle.proto_tree.specs.File.{field_tree, member_tree, trees}
+use Rattle.proto_tree.specs.File.{extension_tree, field_tree, member_tree, trees}
 use Rattle.proto_tree.specs.Tree.{Tree}
 use Rattle.proto_parts.specs.Parts.{BlockOf, blocks_in}
 use Rattle.proto_captures.specs.Enums.{enum_block}
 use Rattle.proto_members.specs.declared.blocks.BlockAt.{BlockAt}
 use Rattle.proto_members.specs.declared.blocks.BlockAt.TheVariants as block_at
 
--- a message, a oneof or an enum; no other block has fields or values
+-- a message, a oneof, an enum or an `extend`; no other block has fields or values
 abbrev pub may_hold : Header → Bool
 may_hold (header.Message h) = true
 may_hold (header.Oneof h) = true
 may_hold (header.Enum h) = true
 may_hold (header.Service h) = false
 may_hold (header.Method s) = false
+may_hold (header.Extend e) = true
 
 -- these blocks of a tree, each before those in it
 abbrev pub holders_in : Tree → List BlockOf
@@ -39,8 +41,16 @@ oneof_block o = record {
   within = trees field_tree o.members.items;
 }
 
+-- an `extend` as a block
+abbrev pub extend_block : Extend → BlockOf
+extend_block e = record {
+  header = header.Extend (record { keyword = e.keyword; extendee = e.extendee });
+  within = trees extension_tree e.fields.items;
+}
+
 -- what was found, as a block
 abbrev pub block_of : BlockAt → BlockOf
 block_of (block_at.Message m) = message_block m.now
 block_of (block_at.Oneof o) = oneof_block o.now
 block_of (block_at.Enum e) = enum_block e.now
+block_of (block_at.Extend e) = extend_block e.now

@@ -31,13 +31,14 @@ has_field token fs = list_any (λ f. f.name == token) fs
 abbrev pub has_value : ℕ → List Value → Bool
 has_value token vs = list_any (λ v. v.name == token) vs
 
--- the fields of a message or of a oneof
+-- the fields of a message, of a oneof or of an `extend`
 abbrev pub fields_by : Header → Tree → List FieldOf
 fields_by (header.Message h) within = fields_in within
 fields_by (header.Oneof h) within = fields_in within
 fields_by (header.Enum h) within = []
 fields_by (header.Service h) within = []
 fields_by (header.Method s) within = []
+fields_by (header.Extend e) within = fields_in within
 
 -- an enum has the value
 abbrev pub holds_value : ℕ → Header → Tree → Bool
@@ -46,6 +47,7 @@ holds_value token (header.Oneof h) within = false
 holds_value token (header.Enum h) within = has_value token (values_in within)
 holds_value token (header.Service h) within = false
 holds_value token (header.Method s) within = false
+holds_value token (header.Extend e) within = false
 
 -- a field or a value of the block has this name token
 abbrev pub has_member : ℕ → Header → Tree → Bool
@@ -54,14 +56,16 @@ has_member token (header.Oneof h) within = has_field token (fields_in within)
 has_member token (header.Enum h) within = has_value token (values_in within)
 has_member token (header.Service h) within = false
 has_member token (header.Method s) within = false
+has_member token (header.Extend e) within = has_field token (fields_in within)
 
--- the token of a block's name
+-- the token of a block's name; an `extend` has none, and gives its keyword
 abbrev pub name_token : Header → ℕ
 name_token (header.Message h) = h.name
 name_token (header.Oneof h) = h.name
 name_token (header.Enum h) = h.name
 name_token (header.Service h) = h.name
 name_token (header.Method s) = s.name
+name_token (header.Extend e) = e.keyword
 
 -- ---- reserved names
 

@@ -5,7 +5,7 @@ ghost use Rattle.proto_tree.specs.File.{item_tree, member_tree, message_tree, tr
 ghost use Rattle.proto_members.specs.Blocks.{block_of, holders_in};
 
 use proto_faults::NoMemory;
-use proto_tree::{Enum, File, Item, Member, Message, Oneof};
+use proto_tree::{Enum, Extend, File, Item, Member, Message, Oneof};
 use std::alloc::Global;
 
 /// A block that has fields or values.
@@ -14,6 +14,7 @@ pub enum BlockAt<'a> {
     Message(&'a Message),
     Oneof(&'a Oneof),
     Enum(&'a Enum),
+    Extend(&'a Extend),
 }
 
 #[cycle(blocks)]
@@ -38,7 +39,7 @@ fn push_members<'a>(found: &mut Vec<BlockAt<'a>>, members: &'a [Member]) -> Resu
 }
 
 #[cycle(blocks)]
-#[tactic(auto, using(crate::proofs::BlockTrees::enum_alone, crate::proofs::BlockTrees::oneof_alone))]
+#[tactic(auto, using(crate::proofs::BlockTrees::enum_alone, crate::proofs::BlockTrees::extend_alone, crate::proofs::BlockTrees::oneof_alone))]
 fn push_member<'a>(found: &mut Vec<BlockAt<'a>>, member: &'a Member) -> Result<(), NoMemory>
     ensures { OnOk result (map block_of found.new.items
         ≡ map block_of found.old.items ++ holders_in (member_tree member.now)) }
@@ -47,12 +48,13 @@ fn push_member<'a>(found: &mut Vec<BlockAt<'a>>, member: &'a Member) -> Result<(
         Member::Message(message) => push_message(found, message)?,
         Member::Oneof(oneof) => found.push(BlockAt::Oneof(oneof))?,
         Member::Enum(enumeration) => found.push(BlockAt::Enum(enumeration))?,
+        Member::Extend(extend) => found.push(BlockAt::Extend(extend))?,
         _ => {}
     }
     Ok(())
 }
 
-#[tactic(auto, using(crate::proofs::BlockTrees::enum_alone, crate::proofs::BlockTrees::no_holders))]
+#[tactic(auto, using(crate::proofs::BlockTrees::enum_alone, crate::proofs::BlockTrees::extend_alone, crate::proofs::BlockTrees::no_holders))]
 fn push_item<'a>(found: &mut Vec<BlockAt<'a>>, item: &'a Item) -> Result<(), NoMemory>
     ensures { OnOk result (map block_of found.new.items
         ≡ map block_of found.old.items ++ holders_in (item_tree item.now)) }
@@ -60,14 +62,15 @@ fn push_item<'a>(found: &mut Vec<BlockAt<'a>>, item: &'a Item) -> Result<(), NoM
     match item {
         Item::Message(message) => push_message(found, message)?,
         Item::Enum(enumeration) => found.push(BlockAt::Enum(enumeration))?,
+        Item::Extend(extend) => found.push(BlockAt::Extend(extend))?,
         Item::Service(_) => {}
         _ => {}
     }
     Ok(())
 }
 
-/// The messages, oneofs and enums of a file, each before those in it. Fails for want of memory
-/// alone.
+/// The messages, oneofs, enums and `extend` blocks of a file, each before those in it. Fails for
+/// want of memory alone.
 pub fn blocks_of<'a>(alloc: Global, file: &'a File) -> Result<Vec<BlockAt<'a>>, NoMemory>
     ensures { IfOk result (λ found. map block_of found.items ≡ holders_in (tree_of_file file.now)) }
 {

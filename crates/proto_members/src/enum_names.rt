@@ -34,11 +34,11 @@ fn holds_value(alloc: Global, block: BlockAt, token: u32) -> Result<bool, NoMemo
 {
     match block {
         BlockAt::Enum(enumeration) => Ok(has_value(&values(alloc, &enumeration.members)?, token)),
-        BlockAt::Message(_) | BlockAt::Oneof(_) => Ok(false),
+        BlockAt::Message(_) | BlockAt::Oneof(_) | BlockAt::Extend(_) => Ok(false),
     }
 }
 
-/// The token of a block's name.
+/// The token of a block's name; an `extend` has none, and gives its keyword.
 fn name_token(block: BlockAt) -> u32
     ensures { result ≡ name_token (block_of block.entry).header }
 {
@@ -46,6 +46,7 @@ fn name_token(block: BlockAt) -> u32
         BlockAt::Message(message) => message.name,
         BlockAt::Oneof(oneof) => oneof.name,
         BlockAt::Enum(enumeration) => enumeration.name,
+        BlockAt::Extend(extend) => extend.keyword,
     }
 }
 

@@ -75,7 +75,8 @@ fn enum_reserves(
     says(alloc, scene, &names, word)
 }
 
-/// Whether a block has the member and reserves the word. A oneof reserves nothing.
+/// Whether a block has the member and reserves the word. A oneof reserves nothing, and neither does
+/// an `extend`.
 fn reserves(
     alloc: Global,
     scene: &Scene,
@@ -88,6 +89,7 @@ fn reserves(
     match block {
         BlockAt::Message(message) => message_reserves(alloc, scene, &message.members, token, word),
         BlockAt::Oneof(_) => Ok(false),
+        BlockAt::Extend(_) => Ok(false),
         BlockAt::Enum(values) => enum_reserves(alloc, scene, &values.members, token, word),
     }
 }

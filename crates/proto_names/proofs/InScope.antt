@@ -67,7 +67,7 @@ take_within (x ∷ xs) (suc j) (suc k) l = ap (λ z. x ∷ z) (take_within xs j 
 
 -- the reference in the front of k words of its scope
 abbrev pub in_front : Reference → ℕ → Reference
-in_front r k = record { file = r.file; scope = take k r.scope; is_absolute = r.is_absolute; is_method = r.is_method; words = r.words }
+in_front r k = record { file = r.file; scope = take k r.scope; is_absolute = r.is_absolute; wants_message = r.wants_message; words = r.words }
 
 module _ (t : Table) (ok : IsTable t) (seen : List Bool) (w : Workspace) (r : Reference) (index : IsIndexOf t w.symbols) (marks : MarksSeen w r.file seen)
     (first : List ℕ) (ws : List (List ℕ)) (pw : ArePlain (first ∷ ws)) (words : r.words ≡ first ∷ ws) (plain : ArePlain r.scope) (number : ℕ) (f : IsScopeFront t r.scope number) (relative : r.is_absolute ≡ false) where

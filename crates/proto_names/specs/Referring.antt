@@ -34,7 +34,7 @@ reference_by file names text u = record {
   file = file;
   scope = scope_above names u.scope;
   is_absolute = is_some u.reference.now.dot;
-  is_method = u.is_method;
+  wants_message = u.wants_message;
   words = map text (dotted u.reference.now.words);
 }
 
@@ -52,16 +52,16 @@ pub record IsReadBy (t : Table) (seen : List Bool) (rows : List ℕ) (names : Li
   pub named : (k : ℕ) → k < length rows
       → front (names_of t) (get_or rows k 0 + 1) ≡ joined (get_or names k [])
 
--- it means nothing, a method's means an enum, or it means a generated entry
+-- it means nothing, it wants a message and means an enum, or it means a generated entry
 abbrev pub IsFlawed : Workspace → Reference → ReferenceFlaw → Type 0
 IsFlawed w r Unresolved = meaning w r ≡ None
 IsFlawed w r WrongKind =
     (s : Symbol) × Contains w.symbols s × (meaning w r ≡ Some s.name)
-    × (r.is_method ≡ true) × (s.kind ≡ Enum)
+    × (r.wants_message ≡ true) × (s.kind ≡ Enum)
 IsFlawed w r MapEntry =
     (s : Symbol) × Contains w.symbols s × (meaning w r ≡ Some s.name) × (s.kind ≡ Entry)
 
--- it means something, a method's no enum, and no generated entry
+-- it means something, where it wants a message no enum, and no generated entry
 abbrev pub IsFaultless : Workspace → Reference → Type 0
 IsFaultless w r = (flaw : ReferenceFlaw) → IsFlawed w r flaw → ⊥
 
@@ -94,16 +94,16 @@ IsReferenceError w reference file uses or.NoMemory = Unit {0}
 
 -- what is wrong with a reference that means a name of this kind
 abbrev pub kind_flaw : Kind → Bool → Option ReferenceFlaw
-kind_flaw Entry is_method = Some MapEntry
-kind_flaw Enum is_method = if is_method then Some WrongKind else None
-kind_flaw _ is_method = None
+kind_flaw Entry wants_message = Some MapEntry
+kind_flaw Enum wants_message = if wants_message then Some WrongKind else None
+kind_flaw _ wants_message = None
 
 -- what is wrong with a reference that means the name of this row, or nothing
 abbrev pub found_flaw : Option Row → Bool → Option ReferenceFlaw
-found_flaw None is_method = Some Unresolved
-found_flaw (Some r) is_method = kind_flaw r.symbol.kind is_method
+found_flaw None wants_message = Some Unresolved
+found_flaw (Some r) wants_message = kind_flaw r.symbol.kind wants_message
 
 -- the same by the number of the row
 abbrev pub row_flaw : Table → Option ℕ → Bool → Option ReferenceFlaw
-row_flaw t None is_method = Some Unresolved
-row_flaw t (Some k) is_method = found_flaw (slice_get t.rows.items k) is_method
+row_flaw t None wants_message = Some Unresolved
+row_flaw t (Some k) wants_message = found_flaw (slice_get t.rows.items k) wants_message

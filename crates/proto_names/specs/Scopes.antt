@@ -27,6 +27,6 @@ reference_in files reads file path r = record {
   file = file;
   scope = path;
   is_absolute = is_some r.dot;
-  is_method = false;
+  wants_message = false;
   words = map (λ i. text_of files reads (at file i)) (dotted r.words);
 }

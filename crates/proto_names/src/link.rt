@@ -26,13 +26,13 @@ use proto_tree::Reference;
 use std::marker::Model;
 
 /// A name of a link, by its number there.
-#[derive(Clone, Copy, PartialEq, Eq)]
+#[derive(Clone, Copy, Debug, PartialEq, Eq)]
 pub struct SymbolId {
     row: usize,
 }
 
 /// A reference: its file, and its first token (the dot, where it begins with one).
-#[derive(Clone, Copy)]
+#[derive(Clone, Copy, Debug, PartialEq, Eq)]
 pub struct RefId {
     /// The number of its file, from 0.
     pub file: u32,

@@ -80,7 +80,7 @@ pub(crate) fn meanings(
         };
         let row = row_meant(alloc, table, seen, words, scope, used.reference)?;
         let token = token_of(used.reference);
-        match sound_row(table, row, used.is_method) {
+        match sound_row(table, row, used.wants_message) {
             Ok(row) => meant.push(Meant { token, row }).map_err(NoMemory::from)?,
             Err(flaw) => return Err(ReferenceError::Fault(BadReference { file, token, flaw })),
         }
@@ -140,25 +140,25 @@ fn token_of(reference: &Reference) -> u32
 }
 
 /// The row that a reference means, else what is wrong with it.
-fn sound_row(table: &Table, row: Option<usize>, is_method: bool) -> Result<usize, ReferenceFlaw>
-    ensures row { IfOk result (λ k. (row ≡ Some k) × (row_flaw table.now row is_method ≡ None)) }
-    ensures flaw { IfErr result (λ flaw. row_flaw table.now row is_method ≡ Some flaw) }
+fn sound_row(table: &Table, row: Option<usize>, wants_message: bool) -> Result<usize, ReferenceFlaw>
+    ensures row { IfOk result (λ k. (row ≡ Some k) × (row_flaw table.now row wants_message ≡ None)) }
+    ensures flaw { IfErr result (λ flaw. row_flaw table.now row wants_message ≡ Some flaw) }
 {
     let row = row.ok_or(ReferenceFlaw::Unresolved)?;
     let found = table.rows.get(row).ok_or(ReferenceFlaw::Unresolved)?;
-    match flaw_of(found.symbol.kind, is_method) {
+    match flaw_of(found.symbol.kind, wants_message) {
         Some(flaw) => Err(flaw),
         None => Ok(row),
     }
 }
 
 /// What is wrong with a reference that means a name of this kind.
-fn flaw_of(kind: Kind, is_method: bool) -> Option<ReferenceFlaw>
-    ensures { result ≡ kind_flaw kind is_method }
+fn flaw_of(kind: Kind, wants_message: bool) -> Option<ReferenceFlaw>
+    ensures { result ≡ kind_flaw kind wants_message }
 {
     match kind {
         Kind::Entry => Some(ReferenceFlaw::MapEntry),
-        Kind::Enum if is_method => Some(ReferenceFlaw::WrongKind),
+        Kind::Enum if wants_message => Some(ReferenceFlaw::WrongKind),
         _ => None,
     }
 }

@@ -113,7 +113,7 @@ contains_flat f (b ∷ items) a x c h = elim (contains_cases b a items c) [
 module _ {A K : Type 0} (zs : List Flaw) (so : K → K → Bool) (kind : FaultKind) (tok : A → ℕ) (key other : A → K) (all : List A)
     (still : (a b : A) → Contains all b → so (key a) (key b) ≡ true → (so (other a) (other b) ≡ true) ⊎ Beneath zs (flaw kind (tok b))) where
   -- what is so with one of the first is so with one of the second
-  abbrev Passes : List K → List K → Type 0
+  abbrev pub Passes : List K → List K → Type 0
   Passes ps qs = (b : A) → Contains all b → list_any (λ p. so p (key b)) ps ≡ true → (list_any (λ q. so q (other b)) qs ≡ true) ⊎ Beneath zs (flaw kind (tok b))
 
   any_left : (b : A) (qs rs : List K) → (list_any (λ q. so q (other b)) qs ≡ true) ⊎ Beneath zs (flaw kind (tok b)) → (list_any (λ q. so q (other b)) (qs ++ rs) ≡ true) ⊎ Beneath zs (flaw kind (tok b))
@@ -139,7 +139,7 @@ module _ {A K : Type 0} (zs : List Flaw) (so : K → K → Bool) (kind : FaultKi
       go (inl e) = any_left b qs (other a ∷ []) (passes b c e)
       go (inr e) = any_right b a qs (still a b c (or_false (so (key a) (key b)) e))
 
-  marked_from : (bs : List A) → ((b : A) → Contains bs b → Contains all b) → (ps qs : List K) → Passes ps qs → Covered zs (marked kind (map tok bs) (earlier so ps (map key bs))) (marked kind (map tok bs) (earlier so qs (map other bs)))
+  pub marked_from : (bs : List A) → ((b : A) → Contains bs b → Contains all b) → (ps qs : List K) → Passes ps qs → Covered zs (marked kind (map tok bs) (earlier so ps (map key bs))) (marked kind (map tok bs) (earlier so qs (map other bs)))
   marked_from [] within ps qs passes = covered_equal zs [] [] refl
   marked_from (b ∷ bs) within ps qs passes =
       covered_join zs

@@ -49,10 +49,7 @@ fn is_field_number(number: i128) -> bool
 }
 
 /// Adds a flaw at each number that no field may have.
-pub(crate) fn add_outside_fields(
-    found: &mut Vec<Flaw>,
-    numbers: &[NumberAt],
-) -> Result<(), NoMemory>
+pub fn add_outside_fields(found: &mut Vec<Flaw>, numbers: &[NumberAt]) -> Result<(), NoMemory>
     ensures { OnOk result (found.new.items ≡ found.old.items
         ++ outside is_field_number numbers.now) }
 {
@@ -114,7 +111,8 @@ fn alone(at: NumberAt) -> RangeAt
     }
 }
 
-fn is_reserved(index: &[RangeAt], at: NumberAt) -> bool
+/// Whether a number is inside one of the ranges that are indexed.
+pub fn is_covered(index: &[RangeAt], at: NumberAt) -> bool
     ensures { (rs : List RangeOf) → IsIndexOf rs index.now
         → result ≡ list_any (is_inside at.number) rs }
 {
@@ -130,7 +128,7 @@ fn add_inside(
         → found.new.items ≡ found.old.items ++ reserved_numbers rs numbers.now) }
 {
     for at in numbers {
-        let reserved = is_reserved(index, *at);
+        let reserved = is_covered(index, *at);
         add_if(found, reserved, FaultKind::ReservedNumber, at.token)?;
     }
     Ok(())

@@ -70,8 +70,8 @@ fn raised(alloc: Global, ranges: &[RangeAt]) -> Result<Vec<RangeAt>, NoMemory>
     Ok(raised)
 }
 
-/// An index of ranges, by which `shares` looks them up.
-pub(crate) fn index_of(alloc: Global, ranges: &[RangeAt]) -> Result<Vec<RangeAt>, NoMemory>
+/// An index of ranges, by which `shares` and `is_covered` look them up.
+pub fn index_of(alloc: Global, ranges: &[RangeAt]) -> Result<Vec<RangeAt>, NoMemory>
     ensures { IfOk result (λ index. IsIndexOf ranges.now index.items) }
 {
     let sorted = in_order(with_numbers(alloc, ranges)?);

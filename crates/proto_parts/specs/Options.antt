@@ -52,6 +52,9 @@ value_kind_of element.Field name =
     kind_if (codes "deprecated" ∷ codes "packed" ∷ []) value_kind.Truth
     (kind_if (codes "json_name" ∷ []) value_kind.Text
     (kind_if (codes "default" ∷ []) value_kind.Default None name) name) name
+value_kind_of element.Extension name =
+    kind_if (codes "deprecated" ∷ codes "packed" ∷ []) value_kind.Truth
+    (kind_if (codes "default" ∷ []) value_kind.Default None name) name
 value_kind_of element.Enum name =
     kind_if (codes "allow_alias" ∷ codes "deprecated" ∷ []) value_kind.Truth None name
 value_kind_of element.Method name =

@@ -106,7 +106,8 @@ fields_from before (Block (header.Oneof h) opens within closes rest) =
     ++ fields_from (suc before) rest
 fields_from before (Block h opens within closes rest) = fields_from before rest
 
--- the fields of a message, in order
+-- the fields of a message, of a oneof or of an `extend` block, in order (a message has none of the
+-- blocks in it, but for those of its oneofs)
 abbrev pub fields_in : Tree → List FieldOf
 fields_in tree = fields_from 0 tree
 

@@ -1,13 +1,15 @@
-//! The fields of messages, with their options.
+//! The fields of messages and of `extend` blocks, with their options.
 
 ghost use Rattle.std.specs.Prelude.{◌≡◌, ◌≤◌, ◌++◌, [], ◌∷◌, Some, map, flat_map, option_map, IfOk, OnOk};
-ghost use Rattle.proto_tree.specs.File.{field_tree, member_tree, trees};
+ghost use Rattle.proto_tree.specs.File.{extension_tree, field_tree, member_tree, trees};
 ghost use Rattle.proto_parts.specs.Parts.{fields_from, fields_in, map_field, oneof_count, option_of_setting, plain_field, separated, settings_of, statement_fields, statements};
 ghost use Rattle.proto_parts.specs.Views.{field_of, option_of};
 
 use crate::separated::push;
 use proto_faults::NoMemory;
-use proto_tree::{Constant, Field, FieldType, MapField, Member, Separated, Setting, Settings};
+use proto_tree::{
+    Constant, Extension, Field, FieldType, MapField, Member, Separated, Setting, Settings,
+};
 use std::alloc::Global;
 
 /// An option: the token of its name, and its value.
@@ -164,6 +166,21 @@ pub fn fields_of<'a>(alloc: Global, members: &'a [Member]) -> Result<Vec<FieldAt
     for member in members {
         push_fields(&mut fields, oneofs, member)?;
         oneofs += oneof_count(member);
+    }
+    Ok(fields)
+}
+
+/// The fields of an `extend` block, in order.
+pub fn extension_fields<'a>(
+    alloc: Global,
+    extensions: &'a [Extension],
+) -> Result<Vec<FieldAt<'a>>, NoMemory>
+    ensures { IfOk result (λ fields. map field_of fields.items
+        ≡ fields_in (trees extension_tree extensions.now)) }
+{
+    let mut fields = Vec::new(alloc);
+    for extension in extensions {
+        push_field(&mut fields, None, &extension.field)?;
     }
     Ok(fields)
 }

@@ -18,7 +18,7 @@ mod value_names;
 mod version;
 
 pub use enum_values::values;
-pub use fields::{FieldAt, OptionAt, fields_of, options_between};
+pub use fields::{FieldAt, OptionAt, extension_fields, fields_of, options_between};
 pub use json_names::json_name;
 pub use labels::has_label;
 pub use numbers::number_of;

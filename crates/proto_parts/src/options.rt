@@ -12,6 +12,8 @@ pub enum Element {
     Service,
     EnumValue,
     Field,
+    /// A field of an `extend` block.
+    Extension,
     Enum,
     Method,
 }
@@ -53,9 +55,9 @@ pub(crate) fn value_kind(element: Element, name: &str) -> Option<ValueKind>
 {
     match (element, name) {
         (Element::File, _) => file_option(name),
-        (Element::Field, "deprecated" | "packed") => Some(ValueKind::Truth),
+        (Element::Field | Element::Extension, "packed") => Some(ValueKind::Truth),
+        (Element::Field | Element::Extension, "default") => Some(ValueKind::Default),
         (Element::Field, "json_name") => Some(ValueKind::Text),
-        (Element::Field, "default") => Some(ValueKind::Default),
         (Element::Enum, "allow_alias") => Some(ValueKind::Truth),
         (Element::Method, "idempotency_level") => Some(ValueKind::IdempotencyLevel),
         (_, "deprecated") => Some(ValueKind::Truth),

@@ -50,6 +50,7 @@ flat_filter {X} {Y} p f (x ∷ xs) h = go (p x) refl (flat_filter p f xs h)
 
 no_fields : (h : Header) (within : Tree) → may_hold h ≡ false → fields_of_block h within ≡ []
 no_fields (header.Message h) within e = absurd cc
+no_fields (header.Extend x) within e = absurd cc
 no_fields whole within e = refl
 
 -- ---- names by their texts

@@ -4,7 +4,7 @@ use Rattle.proto_faults.proofs.Common.{both_ways, contains_map}
 use Rattle.proto_case.specs.Camel.{entry_name}
 use Rattle.proto_files.proofs.Common.{HasNoFault, FileOf, ReadOf, AreRead}
 use Rattle.proto_meaning.specs.declared.kind.Kind.{Kind}
-use Rattle.proto_meaning.specs.declared.kind.Kind.TheVariants.{Package, Message, Entry, Enum, Service, Field, EntryField, Oneof, Value, Method}
+use Rattle.proto_meaning.specs.declared.kind.Kind.TheVariants.{Package, Message, Entry, Enum, Service, Field, EntryField, Oneof, Value, Method, Extension}
 use Rattle.proto_meaning.proofs.Common.{Renaming, target, At, IsLinked, Symbol, Workspace, is_outer, is_type, meaning, Token, Used, name_of, reference_of, spell, symbol_of, name_from_same, map_append, has_meaning, meant, front_of, one_symbol}
 use Rattle.proto_imports.specs.Links.{LinkFaults, link_skeleton, names_of_files, text_of}
 use Rattle.proto_rename_laws.proofs.Common.{front_of as front_before, standing, Target, IsNamed, may_rename, name_map, files_are_linked, from_flat_map, stands_at, meaning_parts}
@@ -20,6 +20,7 @@ type_is_outer EntryField h = absurd cc
 type_is_outer Oneof h = absurd cc
 type_is_outer Value h = absurd cc
 type_is_outer Method h = absurd cc
+type_is_outer Extension h = absurd cc
 
 module _ (files : List FileOf) (reads : List ReadOf) (linked : IsLinked (names_of_files files reads)) (name to : List ℕ) (t : Target) (named : IsNamed files reads name t) where
   abbrev e : Renaming

@@ -34,7 +34,7 @@ spelled text old words = flat_map (λ w. if bytes_eq (text w) old then w ∷ [] 
 abbrev pub defaults_of : (ℕ → Text) → (FieldType → Bool) → Text → FieldOf → List ℕ
 defaults_of text means old f = if means f.kind then spelled text old (default_words text f) else []
 
--- those of the fields of a message
+-- those of the fields of a message, or of the extensions of an `extend`
 abbrev pub defaults_in : (ℕ → Text) → (FieldType → Bool) → Text → BlockOf → List ℕ
 defaults_in text means old b =
     flat_map (defaults_of text means old) (fields_of_block b.header b.within)

@@ -18,7 +18,7 @@ use proto_faults::NoMemory;
 use proto_files::Files;
 use proto_members::{BlockAt, blocks_of, scene};
 use proto_names::{Link, SymbolId};
-use proto_parts::{FieldAt, OptionAt, Scene, fields_of, options_between};
+use proto_parts::{FieldAt, OptionAt, Scene, extension_fields, fields_of, options_between};
 use proto_tree::{Constant, FieldType, Reference};
 use std::alloc::Global;
 
@@ -167,7 +167,7 @@ fn push_fields(
     Ok(())
 }
 
-/// Adds those of a message. The fields of a oneof are its message's.
+/// Adds those of a message or of an `extend`. The fields of a oneof are its message's.
 fn push_block(
     alloc: Global,
     found: &mut Vec<u32>,
@@ -181,6 +181,10 @@ fn push_block(
     match block {
         BlockAt::Message(message) => {
             let fields = fields_of(alloc, &message.members)?;
+            push_fields(alloc, found, scene, asked, &fields)
+        }
+        BlockAt::Extend(extend) => {
+            let fields = extension_fields(alloc, &extend.fields)?;
             push_fields(alloc, found, scene, asked, &fields)
         }
         BlockAt::Oneof(_) | BlockAt::Enum(_) => Ok(()),
@@ -205,7 +209,7 @@ fn defaults(
 }
 
 /// The defaults of a file, by their tokens in order, that mean the value with the old word of the
-/// enum with this full name: those of the fields whose type means the enum.
+/// enum with this full name: those of the fields and extensions whose type means the enum.
 pub(crate) fn renamed_defaults_in<'a>(
     alloc: Global,
     files: &Files,

@@ -15,7 +15,9 @@ use proto_case::camel_from;
 use proto_faults::NoMemory;
 use proto_files::{Files, are_read};
 use proto_members::{BlockAt, blocks_of, oneof_fields, scene};
-use proto_parts::{FieldAt, Scene, fields_of, json_name, options_between, text_option};
+use proto_parts::{
+    FieldAt, Scene, extension_fields, fields_of, json_name, options_between, text_option,
+};
 use std::alloc::Global;
 
 /// Whether it is the field of the name token, and its JSON name is made of its word.
@@ -105,6 +107,7 @@ fn clash_in(
     let fields = match block {
         BlockAt::Message(message) => fields_of(alloc, &message.members)?,
         BlockAt::Oneof(oneof) => oneof_fields(alloc, &oneof.members)?,
+        BlockAt::Extend(extend) => extension_fields(alloc, &extend.fields)?,
         BlockAt::Enum(_) => return Ok(false),
     };
     fields_clash(alloc, scene, &fields, token, name)

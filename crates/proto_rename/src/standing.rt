@@ -34,7 +34,7 @@ pub(crate) fn standing_in(
     requires linked { HasNoFault (LinkFaults files.now) }
     ensures { IfOk result (λ found. IsStandingIn files.now aim.entry file found.items) }
 {
-    // Fields, values and methods are neither meant nor hold what is meant.
+    // Fields, extensions, values and methods are neither meant nor hold what is meant.
     if !aim.kind.is_outer() {
         return Ok(Vec::new(alloc));
     }

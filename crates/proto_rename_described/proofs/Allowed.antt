@@ -1,10 +1,9 @@
 -- An admissible rename of files without a fault leaves files without one (for the crates above).
 use Rattle.std.proofs.Common.{◌≡◌, ◌≢◌, ℕ, ◌<◌, ◌==◌, true, false, ◌⊎◌, if◌then◌else◌, List, [], ◌∷◌, ◌++◌, length, map, flat_map, Option, Some, None, is_some, option_map, refl, sym, ap, ap₂, subst, ◌∙◌, inl, inr, arith, codes, option_and_then, Contains, filter, eq-eqb, ne_eqb, bytes_eq}
-use Rattle.proto_faults.proofs.Common.{cases_Bool, cases_eq, cond-true, cond-false, contains_cases, contains_head, contains_later, from_map}
+use Rattle.proto_faults.proofs.Common.{All-contains, Contains-append_left, Contains-append_right, cases_Bool, cases_eq, cond-true, cond-false, contains_cases, contains_head, contains_later, from_map}
 use Rattle.proto_case.specs.Camel.{entry_name}
 use Rattle.proto_text.proofs.Common.{is_run, run_is, length_map, or_word}
 use Rattle.proto_tree.specs.declared.piece.Header.{Header}
-use Rattle.proto_tree.specs.declared.piece.Heading.{Heading}
 use Rattle.proto_tree.specs.Tree.{Tree}
 use Rattle.proto_tree.specs.declared.tree.Constant.{Constant}
 use Rattle.proto_tree.specs.declared.piece.Header.TheVariants as header
@@ -16,13 +15,15 @@ use Rattle.proto_imports.specs.Links.{LinkFaults, text_of, link_skeleton, names_
 use Rattle.proto_parts.proofs.Common.{is_named, value_named, text_of as text_value, BlockOf, FieldOf, OptionOf, blocks_in, fields_in, reserved_names_in, values_in, Scene, text, value, json_name_of, json_word}
 use Rattle.proto_numbers.specs.declared.flaw.Flaw.{Flaw}
 use Rattle.proto_checks.proofs.Common.{default_flaws, file_flaws, json_clashes, name_flaws}
-use Rattle.proto_checks_laws.proofs.Common.{flaws_of_block, is_of_names, flaws_of_names, no_flaw_comes_in}
+use Rattle.proto_extensions.specs.Common.{workspace_flaws}
+use Rattle.proto_checks_laws.proofs.Common.{asked_tokens, flaws_of_block, is_of_names, flaws_of_names, no_flaw_comes_in}
 use Rattle.proto_checks_laws.proofs.RenamedFlaws.{names_decide_three_kinds}
-use Rattle.proto_rename_laws.proofs.Common.{scene_of, collision, captured, name_reserved, json_clash, keyword_name, not_an_identifier, AreReworded, SuitFiles, Names, Uses, TokensHaveRoles, IsRename, Target, may_rename, name_map, renamed_words, places_are_suited, tokens_are_inside, files_are_linked, files_are_woven, no_link_fault, other_texts_stay, texts_are_changed, places_respelled, find_agree, scenes_are_apart, trees_at, values_stay, version_stays}
+use Rattle.proto_rename_laws.proofs.Common.{scene_of, collision, captured, name_reserved, json_clash, keyword_name, not_an_identifier, fields_of_block, AreReworded, SuitFiles, Names, Uses, TokensHaveRoles, IsRename, Target, may_rename, name_map, renamed_words, places_are_suited, tokens_are_inside, files_are_linked, files_are_woven, no_link_fault, other_texts_stay, texts_are_changed, places_respelled, find_agree, scenes_are_apart, trees_at, values_stay, version_stays}
 use Rattle.proto_desc.specs.Checked.{CheckFaults, of_flaw, fault_of, flaws_of}
 use Rattle.proto_rename_roles.proofs.TokenRoles.{tokens_have_roles}
 use Rattle.proto_rename_described.specs.Allowed.{DefaultsFit, IsAllowed}
 use Rattle.proto_rename_described.specs.NamesKept.{AreKept, written}
+use Rattle.proto_rename_described.proofs.ExtensionsStay.{workspace_stays}
 use Rattle.proto_rename_described.proofs.NamesKept.{empty_parts, json_names_stay, reserved_names_stay}
 
 none_listed : (fs : List Flaw) → ((f : Flaw) → Contains fs f → ⊥) → fs ≡ []
@@ -120,7 +121,7 @@ module _ (files : List FileOf) (reads : List ReadOf) (name to : List ℕ) (t : T
     tree = (read_at reads file).tree
 
     pub clean : file_flaws old tree ≡ []
-    clean = none_listed (file_flaws old tree) (λ f h. a.checks (fault_of files reads file f) (of_flaw reads file f a.read l h))
+    clean = none_listed (file_flaws old tree) (λ f h. a.checks (fault_of files reads file f) (of_flaw reads file f a.read l (Contains-append_left (file_flaws old tree) _ f h)))
 
     -- the renamed token in this file, or one past all
     abbrev here : ℕ
@@ -222,9 +223,10 @@ module _ (files : List FileOf) (reads : List ReadOf) (name to : List ℕ) (t : T
           reserved_names_stay old new here to (reserved_names_in b.within) (map (λ v. v.name) (values_in b.within)) strings (kept (map (λ v. v.name) (values_in b.within)) ((allowed_roles files reads name to t a).tokens.value_names file b l cb))
           (λ is word. let o = own ((allowed_roles files reads name to t a).tokens.value_names file b l cb here is) in reserved_at file o.0 cb (inr (subst (λ z. Contains (map (λ v. v.name) (values_in b.within)) z) o.1 is)) word) e
 
-      block_clean : (h : Header) → ((g : Heading) → h ≡ header.Message g → (f : FieldOf) → Contains (fields_in b.within) f → default_flaws new f ≡ []) → flaws_of_block old h b.within ≡ [] → flaws_of_block new h b.within ≡ []
-      block_clean (header.Message h) defaults e = message_clean (defaults h refl) e
+      block_clean : (h : Header) → ((f : FieldOf) → Contains (fields_of_block h b.within) f → default_flaws new f ≡ []) → flaws_of_block old h b.within ≡ [] → flaws_of_block new h b.within ≡ []
+      block_clean (header.Message h) defaults e = message_clean defaults e
       block_clean (header.Enum h) defaults e = enum_clean e
+      block_clean (header.Extend x) defaults e = all_empty (default_flaws new) (fields_in b.within) defaults
       block_clean whole defaults e = refl
 
     file_clean : DefaultsFit after seen → file_flaws new tree ≡ []
@@ -233,8 +235,14 @@ module _ (files : List FileOf) (reads : List ReadOf) (name to : List ℕ) (t : T
         let same = names_decide_three_kinds (λ i. is_some (c (at file i))) old new tree differ ((allowed_roles files reads name to t a).tokens.asked file l) in
         let none : flat_map (λ (x : BlockOf). flaws_of_block old x.header x.within) (blocks_in tree) ≡ [] = sym (flaws_of_names old tree) ∙ ap (filter (λ (f : Flaw). is_of_names f.kind)) clean in
         no_flaw_comes_in old new tree clean same (λ x cx.
-        block_clean x cx x.header (λ g is f cf. fit file x g f (omega (arith, l, same_length)) (subst (λ z. Contains (blocks_in z) x) (sym (trees_at files reads c after seen t.token t.above t.aim t.is_map to is_rename file)) cx) is cf)
+        block_clean x cx x.header (λ f cf. fit file x f (omega (arith, l, same_length)) (subst (λ z. Contains (blocks_in z) x) (sym (trees_at files reads c after seen t.token t.above t.aim t.is_map to is_rename file)) cx) cf)
         (empty_each (λ (x : BlockOf). flaws_of_block old x.header x.within) (blocks_in tree) none x cx))
+
+  -- no number of an extension is wrong
+  numbers_clean : (file : ℕ) → file < length files → workspace_flaws None after seen file ≡ []
+  numbers_clean file l =
+      workspace_stays files reads c after seen t.token t.above t.aim t.is_map to is_rename (λ f m i ci. All-contains (λ i. is_some (c (at f i)) ≡ false) (asked_tokens (scene_of None files reads f) (read_at reads f).tree) i ((allowed_roles files reads name to t a).tokens.asked f m) ci) file l
+      ∙ none_listed (workspace_flaws None files reads file) (λ f h. a.checks (fault_of files reads file f) (of_flaw reads file f a.read l (Contains-append_right (file_flaws (scene_of None files reads file) (read_at reads file).tree) (workspace_flaws None files reads file) f h)))
 
   checks_clean : DefaultsFit after seen → HasNoFault (CheckFaults after)
   checks_clean fit x (of_flaw others file f are l h) =
@@ -242,7 +250,8 @@ module _ (files : List FileOf) (reads : List ReadOf) (name to : List ℕ) (t : T
       let inside : file < length files = omega (arith, l, same_length) in
       let there : Contains (flaws_of after seen file) f = subst (λ rs. Contains (flaws_of after rs file) f) same h in
       let tree_is = trees_at files reads c after seen t.token t.above t.aim t.is_map to is_rename file in
-      let empty : flaws_of after seen file ≡ [] = ap (file_flaws (scene_of None after seen file)) tree_is ∙ file_clean file inside fit in
+      let alone = ap (file_flaws (scene_of None after seen file)) tree_is ∙ file_clean file inside fit in
+      let empty : flaws_of after seen file ≡ [] = ap₂ (λ (x y : List Flaw). x ++ y) alone (numbers_clean file inside) in
       let none = subst (λ fs. Contains fs f) empty there in
       absurd (omega (arith, none.1))
 

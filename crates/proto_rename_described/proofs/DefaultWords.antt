@@ -3,16 +3,13 @@ use Rattle.std.proofs.Common.{◌≡◌, ℕ, zero, suc, ◌+◌, ◌<◌, ◌&&
 use Rattle.proto_faults.proofs.Common.{list_any, cases_Bool, cond-true, cond-false, Contains-append_left, Contains-append_right, contains_head, contains_later, contains_map, word_from_same}
 use Rattle.proto_case.specs.Camel.{entry_name}
 use Rattle.proto_text.specs.Texts.{or_word}
-use Rattle.proto_tree.specs.declared.piece.Header.{Header}
-use Rattle.proto_tree.specs.declared.piece.Heading.{Heading}
 use Rattle.proto_tree.specs.declared.tree.Constant.{Constant}
 use Rattle.proto_tree.specs.declared.tree.FieldType.{FieldType}
-use Rattle.proto_tree.specs.declared.piece.Header.TheVariants as header
 use Rattle.proto_tree.specs.declared.tree.Constant.TheVariants as constant
 use Rattle.proto_files.proofs.Common.{FileOf, file_at, ReadOf, read_at}
 use Rattle.proto_meaning.proofs.Common.{At, at, ArePlain, IsPlain, same_name, Token, name_of, spell, symbol_of, map_append}
 use Rattle.proto_imports.proofs.Common.{link_skeleton, text_of, names_are_plain}
-use Rattle.proto_parts.proofs.Common.{is_named, BlockOf, FieldOf, OptionOf, blocks_in, fields_in}
+use Rattle.proto_parts.proofs.Common.{is_named, BlockOf, FieldOf, OptionOf, blocks_in}
 use Rattle.proto_checks_laws.specs.Renamed.{constant_tokens}
 use Rattle.proto_rename_laws.proofs.Common.{default_words, defaults_from, fields_of_block, fields_of_file, meaning_from, means_value, renamed_default, renamed_defaults, type_meaning, HasDefaultWords, HasDefaultRoles, AreReworded, renamed_places, same_at, standing, Target, name_map, renamed_words, plain_inside, other_texts_stay, texts_are_changed, listed, to_flat_map}
 use Rattle.proto_rename_described.specs.Common.{IsAllowed, FieldsHaveRoles}
@@ -51,9 +48,9 @@ in_defaults files reads enum old n (suc k) w (r ∷ rs) f l cf c =
     (in_defaults files reads enum old (suc n) k w rs f (omega (arith, l)) cf (subst (λ m. Contains (renamed_default files reads enum old m f) w) e c)))
 
 module _ (files : List FileOf) (reads : List ReadOf) (name to : List ℕ) (t : Target) (after : List FileOf) (seen : List ReadOf) (a : IsAllowed files reads name to t) (w : AreReworded (renamed_words files reads t to) files reads after seen)
-    (file : ℕ) (b : BlockOf) (h : Heading) (f : FieldOf) (l : file < length files) (cb : Contains (blocks_in (read_at reads file).tree) b) (is : b.header ≡ header.Message h) (cf : Contains (fields_in b.within) f) where
+    (file : ℕ) (b : BlockOf) (f : FieldOf) (l : file < length files) (cb : Contains (blocks_in (read_at reads file).tree) b) (cf : Contains (fields_of_block b.header b.within) f) where
   words : HasDefaultWords files reads t to file f
-  words = (allowed_roles files reads name to t a).defaults file b h f l cb is cf
+  words = (allowed_roles files reads name to t a).defaults file b f l cb cf
 
   -- the target is named by a word
   named_plain : IsPlain (text_of files reads t.token)
@@ -73,7 +70,7 @@ module _ (files : List FileOf) (reads : List ReadOf) (name to : List ℕ) (t : T
   changed_now : (o : OptionOf) (i : ℕ) → Contains f.options o → o.value ≡ constant.Word i → is_named (λ j. text_of files reads (at file j)) (codes "default") o ≡ true
       → means_value t.enum (text_of files reads t.token) (type_meaning files reads file f.kind) (text_of files reads (at file i)) ≡ true → text_of after seen (at file i) ≡ to
   changed_now o i co q named value =
-      let fields : Contains (fields_of_file (read_at reads file).tree) f = to_flat_map (λ (x : BlockOf). fields_of_block x.header x.within) (blocks_in (read_at reads file).tree) b f cb (subst (λ (z : Header). Contains (fields_of_block z b.within) f) (sym is) cf) in
+      let fields : Contains (fields_of_file (read_at reads file).tree) f = to_flat_map (λ (x : BlockOf). fields_of_block x.header x.within) (blocks_in (read_at reads file).tree) b f cb cf in
       let tokens : Contains (constant_tokens o.value) i = subst (λ (z : Constant). Contains (constant_tokens z) i) (sym q) (contains_head i []) in
       let word : Contains (default_words (λ j. text_of files reads (at file j)) f) i = to_flat_map (λ (x : OptionOf). if is_named (λ j. text_of files reads (at file j)) (codes "default") x then constant_tokens x.value else []) f.options o i co (subst (λ (z : Bool). Contains (if z then constant_tokens o.value else []) i) (sym named) tokens) in
       let renamed : Contains (renamed_default files reads t.enum (text_of files reads t.token) file f) i = to_flat_map (λ j. if means_value t.enum (text_of files reads t.token) (type_meaning files reads file f.kind) (text_of files reads (at file j)) then j ∷ [] else []) (default_words (λ j. text_of files reads (at file j)) f) i i word (subst (λ (z : Bool). Contains (if z then i ∷ [] else []) i) (sym value) (contains_head i [])) in
@@ -88,8 +85,8 @@ module _ (files : List FileOf) (reads : List ReadOf) (name to : List ℕ) (t : T
 
   roles : HasDefaultRoles (renamed_words files reads t to) (text_of files reads) (text_of after seen) (meaning_from files reads file) t.enum (text_of files reads t.token) to file f
   roles = record {
-    label = (labels_and_scalars_stay files reads name to t a file b h f l cb is cf).0;
-    scalar = (labels_and_scalars_stay files reads name to t a file b h f l cb is cf).1;
+    label = (labels_and_scalars_stay files reads name to t a file b f l cb cf).0;
+    scalar = (labels_and_scalars_stay files reads name to t a file b f l cb cf).1;
     number = words.number;
     word = λ o i x co k q. unchanged o x co q (elim (cases_Bool (means_value t.enum (text_of files reads t.token) (type_meaning files reads file f.kind) (text_of files reads (at file x)))) [
       | inl y ↦ absurd (no_meaning t.enum (text_of files reads t.token) (text_of files reads (at file x)) (ap (λ (z : FieldType). means_value t.enum (text_of files reads t.token) (type_meaning files reads file z) (text_of files reads (at file x))) (sym k) ∙ y))
@@ -104,4 +101,4 @@ module _ (files : List FileOf) (reads : List ReadOf) (name to : List ℕ) (t : T
   }
 
 pub fields_have_roles : FieldsHaveRoles
-fields_have_roles files reads name to t after seen a w = record { defaults = λ file b h f l cb is cf. roles files reads name to t after seen a w file b h f l cb is cf }
+fields_have_roles files reads name to t after seen a w = record { defaults = λ file b f l cb cf. roles files reads name to t after seen a w file b f l cb cf }

@@ -3,7 +3,7 @@ use Rattle.std.proofs.Common.{◌≡◌, ℕ, ◌<◌, pos, neg_ℤ, Bool, true,
 use Rattle.proto_tree.specs.declared.tree.Constant.{Constant}
 use Rattle.proto_tree.specs.declared.tree.FieldType.{FieldType}
 use Rattle.proto_tree.specs.declared.piece.Header.{Header}
-use Rattle.proto_tree.specs.declared.piece.Heading.{Heading}
+use Rattle.proto_tree.specs.Tree.{Tree}
 use Rattle.proto_tree.specs.declared.piece.Header.TheVariants as header
 use Rattle.proto_tree.specs.declared.tree.Constant.TheVariants as constant
 use Rattle.proto_tree.specs.declared.tree.FieldType.TheVariants as field_type
@@ -14,7 +14,8 @@ use Rattle.proto_parts.proofs.Common.{number_of, is_named, truth_named, BlockOf,
 use Rattle.proto_numbers.specs.declared.flaw.Flaw.{Flaw}
 use Rattle.proto_checks.specs.FieldFlaws.{default_flaws, holds_number, is_default_of, is_value_of, may_default, wrong_default}
 use Rattle.proto_checks_laws.proofs.Common.{flaws_of_block, is_of_names, flaws_of_names}
-use Rattle.proto_rename_laws.proofs.Common.{scene_of, meaning_from, HasDefaultRoles, AreReworded, Target, renamed_words, other_texts_stay, find_agree, find_there, trees_at, version_stays}
+use Rattle.proto_rename_laws.proofs.Common.{scene_of, fields_of_block, meaning_from, HasDefaultRoles, AreReworded, Target, renamed_words, other_texts_stay, find_agree, find_there, trees_at, version_stays}
+use Rattle.proto_rename_laws.proofs.DefaultTokens.{of_block}
 use Rattle.proto_rename_described.specs.Common.{IsAllowed, RenamesLeaveNoFault, AllDefaultsFit}
 use Rattle.proto_rename_described.proofs.Allowed.{allowed_roles, clean, empty_each, is_rename, no_fault_beside_defaults, same_length}
 use Rattle.proto_rename_described.proofs.DefaultWords.{fields_have_roles}
@@ -36,7 +37,7 @@ is_true false h = absurd cc
 
 module _ (files : List FileOf) (reads : List ReadOf) (name to : List ℕ) (t : Target) (after : List FileOf) (seen : List ReadOf)
     (a : IsAllowed files reads name to t) (w : AreReworded (renamed_words files reads t to) files reads after seen)
-    (file : ℕ) (l : file < length files) (b : BlockOf) (h : Heading) (f : FieldOf) (cb : Contains (blocks_in (read_at reads file).tree) b) (is : b.header ≡ header.Message h) (cf : Contains (fields_in b.within) f) where
+    (file : ℕ) (l : file < length files) (b : BlockOf) (f : FieldOf) (cb : Contains (blocks_in (read_at reads file).tree) b) (cf : Contains (fields_of_block b.header b.within) f) where
   abbrev old : Scene
   old = scene_of None files reads file
 
@@ -44,7 +45,7 @@ module _ (files : List FileOf) (reads : List ReadOf) (name to : List ℕ) (t : T
   new = scene_of None after seen file
 
   roles : HasDefaultRoles (renamed_words files reads t to) (text_of files reads) (text_of after seen) (meaning_from files reads file) t.enum (text_of files reads t.token) to file f
-  roles = (fields_have_roles files reads name to t after seen a w).defaults file b h f l cb is cf
+  roles = (fields_have_roles files reads name to t after seen a w).defaults file b f l cb cf
 
   stays : (i : ℕ) → renamed_words files reads t to (at file i) ≡ None → text new i ≡ text old i
   stays i h = other_texts_stay (renamed_words files reads t to) files reads after seen a.read w (at file i) l h
@@ -84,11 +85,17 @@ module _ (files : List FileOf) (reads : List ReadOf) (name to : List ℕ) (t : T
       by false q =
           let before : wrong_default old f (find (is_named (text old) (codes "default")) f.options) ≡ [] = ap (λ v. if v then [] else wrong_default old f (find (is_named (text old) (codes "default")) f.options)) q ∙ h in
           let same : find (is_named (text new) (codes "default")) f.options ≡ find (is_named (text old) (codes "default")) f.options =
-          find_agree (is_named (text new) (codes "default")) (is_named (text old) (codes "default")) f.options (λ o co. ap (λ v. bytes_eq v (codes "default")) (stays o.name ((allowed_roles files reads name to t a).tokens.option_names file b f o cb cf co))) in
+          find_agree (is_named (text new) (codes "default")) (is_named (text old) (codes "default")) f.options (λ o co. ap (λ v. bytes_eq v (codes "default")) (stays o.name ((allowed_roles files reads name to t a).tokens.option_names file b f o cb (of_block b.header b.within f cf) co))) in
           ap (wrong_default new f) same ∙ found_fits (find (is_named (text old) (codes "default")) f.options) refl before
 
+-- where no name decides a flaw of a block, its defaults fit
+clean_default : (s : Scene) (h : Header) (within : Tree) (f : FieldOf) → Contains (fields_of_block h within) f → flaws_of_block s h within ≡ [] → default_flaws s f ≡ []
+clean_default s (header.Message h) within f cf e = empty_each (default_flaws s) (fields_in within) (empty_parts (flat_map (default_flaws s) (fields_in within)) _ e).0 f cf
+clean_default s (header.Extend x) within f cf e = empty_each (default_flaws s) (fields_in within) e f cf
+clean_default s whole within f cf e = absurd (omega (arith, cf.1))
+
 pub all_defaults_fit : AllDefaultsFit
-all_defaults_fit files reads name to t after seen a w file b h f la cb is cf =
+all_defaults_fit files reads name to t after seen a w file b f la cb cf =
     let l : file < length files = omega (arith, la, same_length files reads name to t after seen a w) in
     let c = renamed_words files reads t to in
     let tree = trees_at files reads c after seen t.token t.above t.aim t.is_map to (is_rename files reads name to t after seen a w) file in
@@ -97,8 +104,7 @@ all_defaults_fit files reads name to t after seen a w file b h f la cb is cf =
     let none : flat_map (λ (x : BlockOf). flaws_of_block old x.header x.within) (blocks_in (read_at reads file).tree) ≡ [] =
     sym (flaws_of_names old (read_at reads file).tree) ∙ ap (filter (λ (x : Flaw). is_of_names x.kind)) (clean files reads name to t after seen a w file l) in
     let mine : flaws_of_block old b.header b.within ≡ [] = empty_each (λ (x : BlockOf). flaws_of_block old x.header x.within) (blocks_in (read_at reads file).tree) none b block in
-    let parts = empty_parts (flat_map (default_flaws old) (fields_in b.within)) _ (sym (ap (λ (z : Header). flaws_of_block old z b.within) is) ∙ mine) in
-    field_fits files reads name to t after seen a w file l b h f block is cf (empty_each (default_flaws old) (fields_in b.within) parts.0 f cf)
+    field_fits files reads name to t after seen a w file l b f block cf (clean_default old b.header b.within f cf mine)
 
 pub renames_leave_no_fault : RenamesLeaveNoFault
 renames_leave_no_fault files reads name to t after seen a w = no_fault_beside_defaults files reads name to t after seen a w (all_defaults_fit files reads name to t after seen a w)

@@ -18,6 +18,7 @@ foo name type json = record {
   label = label.Repeated;
   field_type = field_type.Message;
   type_name = Some type;
+  extendee = None;
   default_value = None;
   oneof_index = None;
   json_name = Some json;
@@ -39,6 +40,21 @@ field_row = refl
 entry_row : word_under map_field (codes "M" ∷ []) (codes "FooEntry") ≡ codes "FooEntryEntry"
 unfolding map_field
 entry_row = refl
+
+-- an extension: it gets no JSON name, and its extendee goes with the message
+extension : List ℕ → List ℕ → FieldDesc
+extension name type = record (foo name type []) { extendee = Some type; json_name = None }
+
+abbrev in_file : List ℕ → List ℕ → Renaming
+in_file old new = record { parent = []; old = old; new = new; entry = None }
+
+extension_row : mapped_field (in_file (codes "x") (codes "y")) plain [] (extension (codes "x") (codes ".M")) ≡ extension (codes "y") (codes ".M")
+unfolding extension
+extension_row = refl
+
+extendee_row : mapped_field (in_file (codes "M") (codes "N")) plain [] (extension (codes "x") (codes ".M")) ≡ extension (codes "x") (codes ".N")
+unfolding extension
+extendee_row = refl
 
 -- a value: the default of its enum goes with it, that of another enum stays
 abbrev value : Renaming

@@ -127,7 +127,7 @@ module _ (e : Renaming) (taken : Taken) (named : ℕ → Bool) (a b : Scene) (di
 
   -- ---- numbers
 
-  number_stays : (t : ℕ) → named t ≡ false → number_at b t ≡ number_at a t
+  pub number_stays : (t : ℕ) → named t ≡ false → number_at b t ≡ number_at a t
   number_stays t k = sym (ap₂ (λ cap w. pos (up_to cap (number_of w))) differ.caps (differ.texts t k))
 
   pub signed_stays : (s : Signed) → named s.number ≡ false → signed_at b s ≡ signed_at a s
@@ -209,7 +209,7 @@ module _ (e : Renaming) (taken : Taken) (named : ℕ → Bool) (a b : Scene) (di
     field_tokens_kept f cf t ct =
         left (flat_map (field_tokens a) (fields_in within)) (flat_map (range_tokens (λ t. t)) (flat_map closed_ranges (statements within))) k t (to_flat_map (field_tokens a) (fields_in within) f t cf ct)
 
-    closed_stays : (r : Range ℕ) → Contains (flat_map closed_ranges (statements within)) r → range_of b r ≡ range_of a r
+    pub closed_stays : (r : Range ℕ) → Contains (flat_map closed_ranges (statements within)) r → range_of b r ≡ range_of a r
     closed_stays r c =
         range_stays r (λ t ct. right (flat_map (field_tokens a) (fields_in within)) (flat_map (range_tokens (λ t. t)) (flat_map closed_ranges (statements within))) k t (to_flat_map (range_tokens (λ t. t)) (flat_map closed_ranges (statements within)) r t c ct))
 

@@ -1,9 +1,10 @@
 -- Each file of an allowed rename turns, and its descriptor goes under the name map (for the crates above).
 use Rattle.std.proofs.Common.{◌≡◌, ◌≢◌, ℕ, suc, ◌+◌, ◌<◌, ◌==◌, Bool, true, false, not, ◌&&◌, if◌then◌else◌, List, [], ◌∷◌, ◌++◌, length, map, flat_map, find, Option, Some, None, option_map, option_and_then, is_some, is_none, codes, refl, sym, ◌∙◌, ap, ap₂, subst, inl, inr, arith, Contains, bytes_eq}
+use Rattle.proto_faults.specs.declared.fault.FaultKind.TheVariants as fault
 use Rattle.proto_faults.proofs.Common.{signed_decimal, cond-false, false_from_ne_true, All-contains, Contains-append_left, same_Some, contains_map, from_map}
 use Rattle.proto_case.proofs.Common.{entry_name, entry_differs}
 use Rattle.proto_text.specs.Tokens.{lexeme_at}
-use Rattle.proto_tree.specs.declared.piece.Heading.{Heading}
+use Rattle.proto_tree.specs.declared.piece.Header.{Header}
 use Rattle.proto_tree.specs.declared.tree.Constant.{Constant}
 use Rattle.proto_tree.specs.declared.tree.FieldType.{FieldType}
 use Rattle.proto_tree.specs.declared.tree.Reference.{Reference}
@@ -12,18 +13,22 @@ use Rattle.proto_tree.specs.declared.piece.Header.TheVariants as header
 use Rattle.proto_tree.specs.declared.tree.Constant.TheVariants as constant
 use Rattle.proto_tree.specs.declared.tree.FieldType.TheVariants as field_type
 use Rattle.proto_files.proofs.Common.{FileOf, file_at, ReadOf, read_at}
-use Rattle.proto_meaning.specs.declared.kind.Kind.TheVariants.{EntryField, Field}
+use Rattle.proto_meaning.specs.declared.kind.Kind.{Kind}
+use Rattle.proto_meaning.specs.declared.kind.Kind.TheVariants.{EntryField}
 use Rattle.proto_meaning.proofs.Common.{Renaming, ren, target, turned, At, at, declared_of, joined, ArePlain, Symbol, same_name, Declared, Given, Source, Token, Used, name_of, reference_of, shifted_declared, shifted_source, spell, symbol_of, Placed, file_placed, package_of, place, prefixes, name_from_same, same_from_name, aim_renaming, map_append, map_map, name_after, one_declared, package_within, prefix_whole, turn_below-nil, has_meaning, meant, package_stays, snoc_parts}
 use Rattle.proto_listing.specs.FromTree.{items_in}
 use Rattle.proto_imports.proofs.Common.{link_skeleton, names_in, names_of_files, text_of, used_named, uses_of, name_in, names_are_plain}
 use Rattle.proto_parts.proofs.Common.{is_named, text_option, value_named, BlockOf, FieldOf, OptionOf, blocks_in, fields_in, options_in, EnumOf, MeantOf, Scene, enum_meant, meant_by, text, value, has_label}
+use Rattle.proto_parts.specs.declared.options.Element.{Element}
 use Rattle.proto_parts.specs.declared.options.Element.TheVariants as element
-use Rattle.proto_checks.proofs.Common.{default_flaws, field_flaws, is_default_of, is_value_of, may_default, option_flaws, packed_flaws, proto3_defaults, type_flaws, wrong_default, block_flaws, flaws_in_blocks}
+use Rattle.proto_numbers.proofs.Common.{flaw_if, is_field_number, number_of_field, outside}
+use Rattle.proto_checks.proofs.Common.{default_flaws, field_flaws, flaws_of_extension, is_default_of, is_value_of, may_default, option_flaws, packed_flaws, proto3_defaults, required_extensions, type_flaws, wrong_default, block_flaws, flaws_in_blocks}
 use Rattle.proto_checks_laws.proofs.Common.{names_are_of_one_field, DifferInNames, asked_tokens, block_tokens, option_tokens}
 use Rattle.proto_described.specs.Described.{absolute, default_number, default_text, field_type_name, file_described, is_map, type_name_of}
-use Rattle.proto_rename_laws.proofs.Common.{meaning_of, meant_as, scene_of, meaning_from, means_value, HasDefaultRoles, AreReworded, IsRename, Target, may_rename, name_map, renamed_words, other_texts_stay, at_same, find_agree, find_there, scenes_are_apart, used_here, values_stay}
+use Rattle.proto_rename_laws.proofs.Common.{meaning_of, meant_as, scene_of, fields_of_block, meaning_from, means_value, HasDefaultRoles, AreReworded, IsRename, Target, may_rename, name_map, renamed_words, other_texts_stay, at_same, find_agree, find_there, scenes_are_apart, used_here, values_stay}
+use Rattle.proto_rename_laws.proofs.DefaultTokens.{of_block}
 use Rattle.proto_desc.specs.Checked.{described_from}
-use Rattle.proto_rename_described.specs.Common.{IsAllowed, Taken, dotted, is_name_of, mapped, mapped_default, mapped_file, words_of, WritesJson, of_another, of_field, FileTurns, is_target, written_json}
+use Rattle.proto_rename_described.specs.Common.{IsAllowed, Taken, is_name_of, mapped, mapped_default, mapped_file, words_of, WritesJson, of_another, of_field, FileTurns, is_target, written_json}
 use Rattle.proto_rename_described.specs.FilesTurn.{AllAreMapped, FilesTurn, RenamesAreMapped}
 use Rattle.proto_rename_described.proofs.Allowed.{allowed_roles, clean, empty_each, is_rename}
 use Rattle.proto_rename_described.proofs.DefaultWords.{fields_have_roles}
@@ -208,24 +213,24 @@ module _ (files : List FileOf) (reads : List ReadOf) (name to : List ℕ) (t : T
             ∙ ap (λ z. is_name_of t.enum (Some z) && bytes_eq word (text_of files reads t.token)) (sym called)
             ∙ ap (λ z. is_name_of t.enum (option_map (λ (m : MeantOf). absolute m.name) (option_map f z)) && bytes_eq word (text_of files reads t.token)) (sym q)
 
-    -- ---- fields
+    -- ---- fields of messages, and extensions
 
-    module _ (path : List (Source ℕ)) (h : Heading) (within : Tree) (f : FieldOf) (cb : Contains (blocks_in (read_at reads file).tree) (block_of (header.Message h) within)) (cf : Contains (fields_in within) f)
-        (cp : Contains (file_placed (items_in (read_at reads file).tree)) (place path (Token f.name) Field)) where
+    module _ (path : List (Source ℕ)) (h : Header) (within : Tree) (f : FieldOf) (k : Kind) (cb : Contains (blocks_in (read_at reads file).tree) (block_of h within)) (cf : Contains (fields_of_block h within) f)
+        (cp : Contains (file_placed (items_in (read_at reads file).tree)) (place path (Token f.name) k)) where
       path_is : map (shifted_source (at file)) (path ++ Token f.name ∷ []) ≡ map (shifted_source (at file)) path ++ Token (at file f.name) ∷ []
       path_is = map_append (shifted_source (at file)) path (Token f.name ∷ [])
 
       token_is : is_target (name_map files reads t to) taken (scene_of None files reads file) (scene_of None after seen file) path (text (scene_of None files reads file) f.name) ≡ true → at file f.name ≡ t.token
       token_is h =
-          let q = at_target (place path (Token f.name) Field) cp (ap (λ z. same_name z (target e)) (map_append (spell (text a) entry_name) path (Token f.name ∷ [])) ∙ h) in
+          let q = at_target (place path (Token f.name) k) cp (ap (λ z. same_name z (target e)) (map_append (spell (text a) entry_name) path (Token f.name ∷ [])) ∙ h) in
           last_token_is (map shift path) t.above (at file f.name) t.token (sym path_is ∙ ap (λ (d : Declared At). d.path) q ∙ is.is.path)
 
       other_stays : is_target (name_map files reads t to) taken (scene_of None files reads file) (scene_of None after seen file) path (text (scene_of None files reads file) f.name) ≡ false
           → text (scene_of None after seen file) f.name ≡ text (scene_of None files reads file) f.name
-      other_stays h = elim (is.respelled.others (declared (place path (Token f.name) Field)) (declared_there (place path (Token f.name) Field) cp) (map shift path) (at file f.name) path_is) [
+      other_stays h = elim (is.respelled.others (declared (place path (Token f.name) k)) (declared_there (place path (Token f.name) k) cp) (map shift path) (at file f.name) path_is) [
         | inl q ↦
             let above : map shift path ≡ t.above =
-            is.woven.tokens (declared (place path (Token f.name) Field)) t.aim (declared_there (place path (Token f.name) Field) cp) is.is.within (map shift path) t.above t.token (path_is ∙ ap (λ i. map shift path ++ Token i ∷ []) q) is.is.path in
+            is.woven.tokens (declared (place path (Token f.name) k)) t.aim (declared_there (place path (Token f.name) k) cp) is.is.within (map shift path) t.above t.token (path_is ∙ ap (λ i. map shift path ++ Token i ∷ []) q) is.is.path in
             let named : name_of (text a) entry_name path ≡ e.parent = sym (name_in (text_of files reads) file path) ∙ ap (name_of (text_of files reads) entry_name) above in
             let whole : name_of (text a) entry_name path ++ text a f.name ∷ [] ≡ target e = ap₂ (λ (x : List (List ℕ)) (y : List ℕ). x ++ y ∷ []) named (ap (text_of files reads) q) in
             absurd (no (sym h ∙ same_from_name (name_of (text a) entry_name path ++ text a f.name ∷ []) (target e) whole))
@@ -239,29 +244,41 @@ module _ (files : List FileOf) (reads : List ReadOf) (name to : List ℕ) (t : T
       json_is v (of_field d g i) q =
           let same_file : file ≡ t.token.file = ap (λ (x : At). x.file) q in
           let same_name : f.name ≡ g.name = ap (λ (x : At). x.token) q ∙ sym i.name in
-          let options : f.options ≡ g.options = (names_are_of_one_field tree (map (lexeme_at (file_at files file).bytes) (read_at reads file).tokens) (al.read.trees file l).spells (block_of (header.Message h) within) d f g cb (subst (λ k. Contains (blocks_in (read_at reads k).tree) d) (sym same_file) i.block) cf i.field same_name).options in
+          let options : f.options ≡ g.options = (names_are_of_one_field tree (map (lexeme_at (file_at files file).bytes) (read_at reads file).tokens) (al.read.trees file l).spells (block_of h within) d f g cb (subst (λ n. Contains (blocks_in (read_at reads n).tree) d) (sym same_file) i.block) (of_block h within f cf) i.field same_name).options in
           ap₂ json_at same_file options
       json_is v (of_another none) q =
           let same_file : file ≡ t.token.file = ap (λ (x : At). x.file) q in
-          absurd (none (block_of (header.Message h) within) f (record { block = subst (λ k. Contains (blocks_in (read_at reads k).tree) (block_of (header.Message h) within)) same_file cb; field = cf; name = ap (λ (x : At). x.token) q }))
+          absurd (none (block_of h within) f (record { block = subst (λ n. Contains (blocks_in (read_at reads n).tree) (block_of h within)) same_file cb; field = of_block h within f cf; name = ap (λ (x : At). x.token) q }))
 
       -- ---- defaults
 
-      field_clean : field_flaws (scene_of None files reads file) f ≡ []
-      field_clean =
+      block_clean : (g : Header) → Contains (blocks_in (read_at reads file).tree) (block_of g within) → block_flaws (scene_of None files reads file) g within ≡ []
+      block_clean g cg =
           let all = (empty_parts (option_flaws a element.File (options_in tree)) (flaws_in_blocks a tree) (clean files reads name to t after seen al w file l)).1 in
-          let mine = empty_each (λ (x : BlockOf). block_flaws a x.header x.within) (blocks_in tree) all (block_of (header.Message h) within) cb in
-          empty_each (field_flaws a) (fields_in within) (empty_parts (flat_map (field_flaws a) (fields_in within)) _ mine).0 f cf
+          empty_each (λ (x : BlockOf). block_flaws a x.header x.within) (blocks_in tree) all (block_of g within) cg
+
+      field_clean : (on : Element) × (field_flaws (scene_of None files reads file) on f ≡ [])
+      field_clean = by h cb cf
+        where
+          by : (g : Header) → Contains (blocks_in (read_at reads file).tree) (block_of g within) → Contains (fields_of_block g within) f → (on : Element) × (field_flaws (scene_of None files reads file) on f ≡ [])
+          by (header.Message x) cg c = (element.Field, empty_each (field_flaws a element.Field) (fields_in within) (empty_parts (flat_map (field_flaws a element.Field) (fields_in within)) _ (block_clean (header.Message x) cg)).0 f c)
+          by (header.Extend x) cg c =
+              let numbers = outside is_field_number (map (number_of_field a) (fields_in within)) in
+              let behind = (empty_parts (flaw_if a.is_proto3 fault.NotInProto3 x.keyword) (numbers ++ flat_map (flaws_of_extension a) (fields_in within)) (block_clean (header.Extend x) cg)).1 in
+              let each = (empty_parts numbers (flat_map (flaws_of_extension a) (fields_in within)) behind).1 in
+              (element.Extension, (empty_parts (required_extensions a f.label) (field_flaws a element.Extension f) (empty_each (flaws_of_extension a) (fields_in within) each f c)).1)
+          by whole cg c = absurd (omega (arith, c.1))
 
       default_clean : (default_flaws (scene_of None files reads file) f ≡ []) × (proto3_defaults (scene_of None files reads file) f ≡ [])
       default_clean =
-          let p = (empty_parts (type_flaws a f) (option_flaws a element.Field f.options ++ (packed_flaws a f ++ (default_flaws a f ++ proto3_defaults a f))) field_clean).1 in
-          let q = (empty_parts (option_flaws a element.Field f.options) (packed_flaws a f ++ (default_flaws a f ++ proto3_defaults a f)) p).1 in
+          let on = field_clean.0 in
+          let p = (empty_parts (type_flaws a f) (option_flaws a on f.options ++ (packed_flaws a f ++ (default_flaws a f ++ proto3_defaults a f))) field_clean.1).1 in
+          let q = (empty_parts (option_flaws a on f.options) (packed_flaws a f ++ (default_flaws a f ++ proto3_defaults a f)) p).1 in
           let r = (empty_parts (packed_flaws a f) (default_flaws a f ++ proto3_defaults a f) q).1 in
           empty_parts (default_flaws a f) (proto3_defaults a f) r
 
       field_roles : HasDefaultRoles (renamed_words files reads t to) (text_of files reads) (text_of after seen) (meaning_from files reads file) t.enum (text_of files reads t.token) to file f
-      field_roles = (fields_have_roles files reads name to t after seen al w).defaults file (block_of (header.Message h) within) h f l cb refl cf
+      field_roles = (fields_have_roles files reads name to t after seen al w).defaults file (block_of h within) f l cb cf
 
       -- by the field's type, where it is no map
       default_by : (o : OptionOf) → Contains f.options o → is_named (text (scene_of None files reads file)) (codes "default") o ≡ true → (k : FieldType) → f.kind ≡ k → (x : Constant) → o.value ≡ x → is_default_of (scene_of None files reads file) k x ≡ true
@@ -276,9 +293,9 @@ module _ (files : List FileOf) (reads : List ReadOf) (name to : List ℕ) (t : T
       default_by o co n (field_type.Reference r) qk (constant.Word v) qc fits =
           field_roles.enum_word o r v co qk qc n ∙ ap (λ z. if z then to else text a v) (means_same r (text a v))
 
-      default_at : (o : OptionOf) → find (is_named (text (scene_of None files reads file)) (codes "default")) f.options ≡ Some o
-          → default_text (scene_of None after seen file) o.value ≡ mapped_default (name_map files reads t to) taken (field_type_name (scene_of None files reads file) (dotted (name_of (text (scene_of None files reads file)) entry_name path)) f) (default_text (scene_of None files reads file) o.value)
-      default_at o q =
+      default_at : (full : List ℕ) (o : OptionOf) → find (is_named (text (scene_of None files reads file)) (codes "default")) f.options ≡ Some o
+          → default_text (scene_of None after seen file) o.value ≡ mapped_default (name_map files reads t to) taken (field_type_name (scene_of None files reads file) full f) (default_text (scene_of None files reads file) o.value)
+      default_at full o q =
           let found = find_there (is_named (text a) (codes "default")) f.options o q in
           let flawless = none_flawed (a.is_proto3 && is_named (text a) (codes "default") o) _ o.name (empty_each (λ (o : OptionOf). _) f.options default_clean.1 o found.0) in
           let version : a.is_proto3 ≡ false = false_from_ne_true a.is_proto3 (λ z. no (sym flawless ∙ ap₂ (λ x y. x && y) z found.1)) in
@@ -286,22 +303,22 @@ module _ (files : List FileOf) (reads : List ReadOf) (name to : List ℕ) (t : T
           let may = is_true (may_default a f o) (none_flawed (not (may_default a f o)) _ o.name (ap (wrong_default a f) (sym q) ∙ wrong)) in
           let p = both (not (has_label a (codes "repeated") f)) (is_none f.map_key && is_default_of a f.kind o.value) may in
           let u = both (is_none f.map_key) (is_default_of a f.kind o.value) p.1 in
-          let type : field_type_name a (dotted (name_of (text a) entry_name path)) f ≡ type_name_of a f.kind = cond-false (is_map f) _ (type_name_of a f.kind) (none_is f.map_key u.0) in
+          let type : field_type_name a full f ≡ type_name_of a f.kind = cond-false (is_map f) _ (type_name_of a f.kind) (none_is f.map_key u.0) in
           default_by o found.0 found.1 f.kind refl o.value refl u.1 ∙ ap (λ z. mapped_default e taken z (default_text a o.value)) (sym type)
 
-      default_is : (x : Constant) → value_named (text (scene_of None files reads file)) (codes "default") f.options ≡ Some x
-          → default_text (scene_of None after seen file) x ≡ mapped_default (name_map files reads t to) taken (field_type_name (scene_of None files reads file) (dotted (name_of (text (scene_of None files reads file)) entry_name path)) f) (default_text (scene_of None files reads file) x)
-      default_is x h = by (find (is_named (text a) (codes "default")) f.options) refl h
+      default_is : (full : List ℕ) (x : Constant) → value_named (text (scene_of None files reads file)) (codes "default") f.options ≡ Some x
+          → default_text (scene_of None after seen file) x ≡ mapped_default (name_map files reads t to) taken (field_type_name (scene_of None files reads file) full f) (default_text (scene_of None files reads file) x)
+      default_is full x h = by (find (is_named (text a) (codes "default")) f.options) refl h
         where
           none_some : {A : Type 0} (y : A) → ◌≡◌ {A = Option A} None (Some y) → ⊥
           none_some y z = cc
 
           by : (o : Option OptionOf) → find (is_named (text a) (codes "default")) f.options ≡ o → option_map (λ (o : OptionOf). o.value) (find (is_named (text a) (codes "default")) f.options) ≡ Some x
-              → default_text b x ≡ mapped_default e taken (field_type_name a (dotted (name_of (text a) entry_name path)) f) (default_text a x)
+              → default_text b x ≡ mapped_default e taken (field_type_name a full f) (default_text a x)
           by None q z = absurd (none_some x (sym (ap (option_map (λ (o : OptionOf). o.value)) q) ∙ z))
           by (Some o) q z =
               let value_is : o.value ≡ x = same_Some o.value x (sym (ap (option_map (λ (o : OptionOf). o.value)) q) ∙ z) in
-              subst (λ v. default_text b v ≡ mapped_default e taken (field_type_name a (dotted (name_of (text a) entry_name path)) f) (default_text a v)) value_is (default_at o q)
+              subst (λ v. default_text b v ≡ mapped_default e taken (field_type_name a full f) (default_text a v)) value_is (default_at full o q)
 
       field_names : FieldNames (name_map files reads t to) taken (scene_of None files reads file) (scene_of None after seen file) path f
       field_names = record { other = other_stays; json = λ q. json_is written writes (token_is q); default = default_is }

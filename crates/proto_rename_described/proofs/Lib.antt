@@ -5,6 +5,7 @@ pub mod DefaultsFit
 mod DefaultsKept
 pub mod EnumDefaults
 mod Examples
+mod ExtensionsStay
 mod FileStays
 pub mod FilesTurn
 pub mod Mapped

@@ -15,10 +15,10 @@ use Rattle.proto_tree.specs.declared.tree.FieldType.TheVariants as written_type
 use Rattle.proto_meaning.proofs.Common.{Renaming, ren, target, turned, turned_by, joined, ArePlain, same_name, Source, Token, EntryOf, spell, key_word, value_word, package_of, map_agree, map_map, map_append, last_parts, turn_below-more, turn_below-nil, turn_below-length, name_from_same, same_from_name}
 use Rattle.proto_listing.specs.FromTree.{Wanted, items_in, imports_in}
 use Rattle.proto_parts.proofs.Common.{value_named, FieldOf, OptionOf, fields_in, values_in, reserved_names_in, options_in, MeantOf, Scene, text, value, meant_by, json_word, json_name_of, written_or}
-use Rattle.proto_descriptors.specs.Descriptors.{EnumDesc, MessageDesc, Messages, NoMessages, Message, MethodDesc}
+use Rattle.proto_descriptors.specs.Descriptors.{EnumDesc, FieldDesc, MessageDesc, Messages, NoMessages, Message, MethodDesc}
 use Rattle.proto_descriptors.specs.declared.file.Syntax.TheVariants as syntax
-use Rattle.proto_described.specs.Described.{absolute, below, default_text, entry_described, entry_field, enum_described, enums_described, field_described, field_type_name, file_described, is_map, message_described, messages_described, method_described, methods_described, oneof_names, package_named, package_prefix, scalar_type, services_described, type_name_of, type_of, type_text, value_described}
-use Rattle.proto_rename_described.specs.Common.{Taken, behind_first, dotted, mapped_default, mapped_enum, mapped_field, mapped_json, mapped_message, mapped_messages, mapped_method, mapped_name, mapped_service, mapped_value, parts, put_first, word_under, words_of, DescriptorsAreMapped, EntryTurns, EnumTurns, FieldTurns, IsUnder, MessageTurns, MethodTurns, MethodsTurn, Turned, Turns, ValueTurns, full, is_target, written_json}
+use Rattle.proto_described.specs.Described.{absolute, below, default_text, entry_described, entry_field, enum_described, enums_described, extension_described, extensions_described, field_described, field_type_name, file_described, is_map, message_described, messages_described, method_described, methods_described, oneof_names, package_named, package_prefix, scalar_type, services_described, type_name_of, type_of, type_text, value_described}
+use Rattle.proto_rename_described.specs.Common.{Taken, behind_first, dotted, mapped_default, mapped_enum, mapped_field, mapped_json, mapped_message, mapped_messages, mapped_method, mapped_name, mapped_service, mapped_value, parts, put_first, word_under, words_of, DescriptorsAreMapped, EntryTurns, EnumTurns, ExtensionTurns, FieldTurns, IsUnder, MessageTurns, MethodTurns, MethodsTurn, Turned, Turns, ValueTurns, full, is_target, written_json}
 
 -- ---- names as text
 
@@ -135,8 +135,8 @@ module _ (e : Renaming) (taken : Taken) (a b : Scene) (strings : (t : ℕ) → v
           by None q = refl
           by (Some c) q = ap Some (t.default c q ∙ ap (λ z. mapped_default e taken (field_type_name a z f) (default_text a c)) (sym (ea ∙ ap dotted (sym ex))))
 
-      json_after : Some (json_name_of b f) ≡ mapped_json e taken x (field_described a fa f)
-      json_after = ap (λ j. Some (written_or j (text b f.name))) t.stays.json ∙ by (written_json e taken a b a f) refl (same_name (x ++ text a f.name ∷ []) (target e)) refl
+      json_after : json_name_of b f ≡ mapped_json e taken x (text a f.name) (json_name_of a f)
+      json_after = ap (λ j. written_or j (text b f.name)) t.stays.json ∙ by (written_json e taken a b a f) refl (same_name (x ++ text a f.name ∷ []) (target e)) refl
         where
           at_target : {v : Bool} → same_name (x ++ text a f.name ∷ []) (target e) ≡ v → is_target e taken a b path (text a f.name) ≡ v
           at_target h = ap (λ z. same_name (z ++ text a f.name ∷ []) (target e)) ex ∙ h
@@ -149,14 +149,14 @@ module _ (e : Renaming) (taken : Taken) (a b : Scene) (strings : (t : ℕ) → v
               ∙ cond-true (bytes_eq (text a f.name) e.old) e.new (turned_by e.entry (text a f.name)) (same_from_word (text a f.name) e.old p.1)
 
           by : (j : Option (List ℕ)) → written_json e taken a b a f ≡ j → (v : Bool) → same_name (x ++ text a f.name ∷ []) (target e) ≡ v
-              → Some (written_or j (text b f.name)) ≡ (if v && not taken.written then Some (json_word e.new) else Some (written_or j (text a f.name)))
-          by j q false h = ap (λ w. Some (written_or j w)) (t.other (at_target h))
+              → written_or j (text b f.name) ≡ (if v && not taken.written then json_word e.new else written_or j (text a f.name))
+          by j q false h = ap (written_or j) (t.other (at_target h))
           by None q true h =
               let w : false ≡ taken.written = ap is_some (sym q) ∙ t.json (at_target h) in
-              ap (λ w. Some (json_word w)) (renamed h) ∙ ap (λ z. if not z then Some (json_word e.new) else Some (json_word (text a f.name))) w
+              ap json_word (renamed h) ∙ ap (λ z. if not z then json_word e.new else json_word (text a f.name)) w
           by (Some j) q true h =
               let w : true ≡ taken.written = ap is_some (sym q) ∙ t.json (at_target h) in
-              ap (λ z. if not z then Some (json_word e.new) else Some j) w
+              ap (λ z. if not z then json_word e.new else j) w
 
       field_after : field_described b fb f ≡ mapped_field e taken x (field_described a fa f)
       field_after = λ i. record {
@@ -165,15 +165,63 @@ module _ (e : Renaming) (taken : Taken) (a b : Scene) (strings : (t : ℕ) → v
         label = t.stays.label i;
         field_type = t.stays.kind i;
         type_name = field_type_after i;
+        extendee = None;
         default_value = default_after i;
         oneof_index = f.oneof;
-        json_name = json_after i;
+        json_name = Some (json_after i);
         proto3_optional = t.stays.optional i;
         options = t.stays.options i;
       }
 
     fields_after : (fs : List FieldOf) → ((f : FieldOf) → Contains fs f → FieldTurns e taken a b path f) → map (field_described b fb) fs ≡ map (mapped_field e taken x) (map (field_described a fa) fs)
     fields_after fs h = map_agree (field_described b fb) (λ f. mapped_field e taken x (field_described a fa f)) fs (λ f c. field_after f (h f c)) ∙ sym (map_map (field_described a fa) (mapped_field e taken x) fs)
+
+    -- ---- extensions
+
+    module _ (r : Reference) (f : FieldOf) (t : ExtensionTurns e taken a b path f) where
+      no_map_after : field_type_name b [] f ≡ option_map (mapped_name e) (field_type_name a [] f)
+      no_map_after =
+          cond-false (is_map f) (Some (below [] (entry_name (text b f.name)))) (type_name_of b f.kind) t.no_map
+          ∙ type_name_after f.kind
+          ∙ ap (option_map (mapped_name e)) (sym (cond-false (is_map f) (Some (below [] (entry_name (text a f.name)))) (type_name_of a f.kind) t.no_map))
+
+      word_after : option_map (default_text b) (value_named (text b) (codes "default") f.options) ≡ option_map (mapped_default e taken (field_type_name a [] f)) (option_map (default_text a) (value_named (text a) (codes "default") f.options))
+      word_after = ap (option_map (default_text b)) t.stays.default ∙ by (value_named (text a) (codes "default") f.options) refl
+        where
+          by : (o : Option Constant) → value_named (text a) (codes "default") f.options ≡ o → option_map (default_text b) o ≡ option_map (mapped_default e taken (field_type_name a [] f)) (option_map (default_text a) o)
+          by None q = refl
+          by (Some c) q = ap Some (t.default c q ∙ ap (λ z. mapped_default e taken z (default_text a c)) (sym (cond-false (is_map f) (Some (below [] (entry_name (text a f.name)))) (type_name_of a f.kind) t.no_map)))
+
+      extension_after : extension_described b r f ≡ mapped_field e taken x (extension_described a r f)
+      extension_after = λ i. record {
+        name = here (Token f.name) t.name i;
+        number = t.stays.number i;
+        label = t.stays.label i;
+        field_type = t.stays.kind i;
+        type_name = no_map_after i;
+        extendee = Some (type_text_after r i);
+        default_value = word_after i;
+        oneof_index = f.oneof;
+        json_name = None;
+        proto3_optional = t.stays.optional i;
+        options = t.stays.options i;
+      }
+
+    extensions_after : (tree : Tree) → Turns e taken a b path tree → extensions_described b tree ≡ map (mapped_field e taken x) (extensions_described a tree)
+    extensions_after End t = refl
+    extensions_after (Leaf (statement.MapField f) rest) t = extensions_after rest t.1
+    extensions_after (Leaf s rest) t = extensions_after rest t
+    extensions_after (Block (header.Extend g) opens within closes rest) t =
+        let fs = fields_in within in
+        ap₂ (λ (ds es : List FieldDesc). ds ++ es)
+        (map_agree (extension_described b g.extendee) (λ f. mapped_field e taken x (extension_described a g.extendee f)) fs (λ f c. extension_after g.extendee f (t.0 f c)) ∙ sym (map_map (extension_described a g.extendee) (mapped_field e taken x) fs))
+        (extensions_after rest t.1)
+        ∙ sym (map_append (mapped_field e taken x) (map (extension_described a g.extendee) fs) (extensions_described a rest))
+    extensions_after (Block (header.Message h) opens within closes rest) t = extensions_after rest t.3
+    extensions_after (Block (header.Oneof h) opens within closes rest) t = extensions_after rest t.1
+    extensions_after (Block (header.Enum h) opens within closes rest) t = extensions_after rest t.2
+    extensions_after (Block (header.Service h) opens within closes rest) t = extensions_after rest t.3
+    extensions_after (Block (header.Method s) opens within closes rest) t = extensions_after rest t
 
     -- ---- enums and oneofs
 
@@ -201,6 +249,7 @@ module _ (e : Renaming) (taken : Taken) (a b : Scene) (strings : (t : ℕ) → v
     enums_after (Block (header.Oneof h) opens within closes rest) t = enums_after rest t.1
     enums_after (Block (header.Service h) opens within closes rest) t = enums_after rest t.3
     enums_after (Block (header.Method s) opens within closes rest) t = enums_after rest t
+    enums_after (Block (header.Extend g) opens within closes rest) t = enums_after rest t.1
 
     oneofs_after : (tree : Tree) → Turns e taken a b path tree → oneof_names b tree ≡ map (word_under e x) (oneof_names a tree)
     oneofs_after End t = refl
@@ -211,6 +260,7 @@ module _ (e : Renaming) (taken : Taken) (a b : Scene) (strings : (t : ℕ) → v
     oneofs_after (Block (header.Enum h) opens within closes rest) t = oneofs_after rest t.2
     oneofs_after (Block (header.Service h) opens within closes rest) t = oneofs_after rest t.3
     oneofs_after (Block (header.Method s) opens within closes rest) t = oneofs_after rest t
+    oneofs_after (Block (header.Extend g) opens within closes rest) t = oneofs_after rest t.1
 
     -- ---- methods
 
@@ -238,16 +288,16 @@ module _ (e : Renaming) (taken : Taken) (a b : Scene) (strings : (t : ℕ) → v
       inner_is : full e taken a b (path ++ EntryOf f.name ∷ []) ≡ inner
       inner_is = path_more (EntryOf f.name)
 
-      json_same : (w : List ℕ) → is_target e taken a b (path ++ EntryOf f.name ∷ []) w ≡ false → Some w ≡ (if same_name (inner ++ w ∷ []) (target e) && not taken.written then Some (json_word e.new) else Some w)
+      json_same : (w : List ℕ) → is_target e taken a b (path ++ EntryOf f.name ∷ []) w ≡ false → w ≡ (if same_name (inner ++ w ∷ []) (target e) && not taken.written then json_word e.new else w)
       json_same w h =
           let other : same_name (inner ++ w ∷ []) (target e) ≡ false = ap (λ z. same_name (z ++ w ∷ []) (target e)) (sym inner_is) ∙ h in
-          sym (ap (λ v. if v && not taken.written then Some (json_word e.new) else Some w) other)
+          sym (ap (λ v. if v && not taken.written then json_word e.new else w) other)
 
       key_after : entry_field key_word 1 (scalar_type (text b f.key)) None ≡ mapped_field e taken inner (entry_field key_word 1 (scalar_type (text a f.key)) None)
-      key_after = λ i. record (entry_field key_word 1 (t.key_type i) None) { name = (sym t.key ∙ ap (λ z. word_under e z key_word) inner_is) i; json_name = json_same key_word t.no_key i }
+      key_after = λ i. record (entry_field key_word 1 (t.key_type i) None) { name = (sym t.key ∙ ap (λ z. word_under e z key_word) inner_is) i; json_name = Some (json_same key_word t.no_key i) }
 
       item_after : entry_field value_word 2 (type_of b f.value) (type_name_of b f.value) ≡ mapped_field e taken inner (entry_field value_word 2 (type_of a f.value) (type_name_of a f.value))
-      item_after = λ i. record (entry_field value_word 2 (t.value_type i) (type_name_after f.value i)) { name = (sym t.value ∙ ap (λ z. word_under e z value_word) inner_is) i; json_name = json_same value_word t.no_value i }
+      item_after = λ i. record (entry_field value_word 2 (t.value_type i) (type_name_after f.value i)) { name = (sym t.value ∙ ap (λ z. word_under e z value_word) inner_is) i; json_name = Some (json_same value_word t.no_value i) }
 
       entry_after : entry_described b f ≡ mapped_message e taken x inner (entry_described a f)
       entry_after = λ i. record (entry_described a f) { name = here (EntryOf f.name) t.name i; field = key_after i ∷ item_after i ∷ [] }
@@ -261,6 +311,7 @@ module _ (e : Renaming) (taken : Taken) (a b : Scene) (strings : (t : ℕ) → v
       λ i. record {
         name = n i;
         field = fields_after path x fa fb ex ea eb (fields_in within) m.fields i;
+        extension = extensions_after path x fa fb ex ea eb within t i;
         enum_type = enums_after path x fa fb ex ea eb within t i;
         extension_range = m.extensions i;
         oneof_decl = oneofs_after path x fa fb ex ea eb within t i;
@@ -289,6 +340,7 @@ module _ (e : Renaming) (taken : Taken) (a b : Scene) (strings : (t : ℕ) → v
   messages_after (Block (header.Enum h) opens within closes rest) path x fa fb ex ea eb t = messages_after rest path x fa fb ex ea eb t.2
   messages_after (Block (header.Service h) opens within closes rest) path x fa fb ex ea eb t = messages_after rest path x fa fb ex ea eb t.3
   messages_after (Block (header.Method s) opens within closes rest) path x fa fb ex ea eb t = messages_after rest path x fa fb ex ea eb t
+  messages_after (Block (header.Extend g) opens within closes rest) path x fa fb ex ea eb t = messages_after rest path x fa fb ex ea eb t.1
 
   services_after : (tree : Tree) (path : List (Source ℕ)) (x : List (List ℕ)) (fa fb : List ℕ) → full e taken a b path ≡ x → fa ≡ dotted x → fb ≡ dotted (ren e x) → Turns e taken a b path tree
       → services_described b tree ≡ map (mapped_service e x) (services_described a tree)
@@ -307,6 +359,7 @@ module _ (e : Renaming) (taken : Taken) (a b : Scene) (strings : (t : ℕ) → v
   services_after (Block (header.Oneof h) opens within closes rest) path x fa fb ex ea eb t = services_after rest path x fa fb ex ea eb t.1
   services_after (Block (header.Enum h) opens within closes rest) path x fa fb ex ea eb t = services_after rest path x fa fb ex ea eb t.2
   services_after (Block (header.Method s) opens within closes rest) path x fa fb ex ea eb t = services_after rest path x fa fb ex ea eb t
+  services_after (Block (header.Extend g) opens within closes rest) path x fa fb ex ea eb t = services_after rest path x fa fb ex ea eb t.1
 
   -- ---- a file
 
@@ -334,6 +387,7 @@ descriptors_are_mapped e taken a b path tree t =
     let above : words_of fa ≡ x = ap words_of ea ∙ words_of_dotted x t.plain in
     let ms = messages_after e taken a b t.strings t.means tree (map (λ t. Token t) ts) x fa fb ex ea eb t.names in
     let es = enums_after e taken a b t.strings t.means (map (λ t. Token t) ts) x fa fb ex ea eb tree t.names in
+    let xs = extensions_after e taken a b t.strings t.means (map (λ t. Token t) ts) x fa fb ex ea eb tree t.names in
     let ss = services_after e taken a b t.strings t.means tree (map (λ t. Token t) ts) x fa fb ex ea eb t.names in
     λ i. record (file_described b path tree) {
       «package» = named i;
@@ -341,6 +395,7 @@ descriptors_are_mapped e taken a b path tree t =
       message_type = (ms ∙ ap (λ z. mapped_messages e taken z (messages_described a fa tree)) (sym above)) i;
       enum_type = (es ∙ ap (λ z. map (mapped_enum e z) (enums_described a tree)) (sym above)) i;
       service = (ss ∙ ap (λ z. map (mapped_service e z) (services_described a tree)) (sym above)) i;
+      extension = (xs ∙ ap (λ z. map (mapped_field e taken z) (extensions_described a tree)) (sym above)) i;
       options = t.options i;
       syntax = if t.version i then syntax.Proto3 else syntax.Proto2;
     }

@@ -1,13 +1,16 @@
 -- What is not changed of a field whose default is a number or a truth value (for the crates above).
-use Rattle.std.proofs.Common.{option_to_list, ◌≡◌, ℕ, false, [], ◌∷◌, ◌++◌, flat_map, Option, Some, None, is_some, refl, sym, subst, inl, Contains}
+use Rattle.std.proofs.Common.{option_to_list, ◌≡◌, ℕ, false, [], ◌∷◌, ◌++◌, flat_map, Option, Some, None, is_some, refl, sym, subst, inl, arith, Contains}
 use Rattle.proto_faults.proofs.Common.{All-contains, Contains-append_left, Contains-append_right, contains_head}
 use Rattle.proto_tree.specs.declared.piece.Header.{Header}
+use Rattle.proto_tree.specs.declared.piece.Header.TheVariants as header
 use Rattle.proto_tree.specs.declared.tree.FieldType.{FieldType}
+use Rattle.proto_tree.specs.Tree.{Tree}
 use Rattle.proto_files.specs.FilesRead.{read_at}
 use Rattle.proto_meaning.specs.Grown.{at}
-use Rattle.proto_parts.specs.Parts.{blocks_in, closed_ranges, fields_in, options_in, statements}
-use Rattle.proto_checks_laws.specs.Renamed.{asked_tokens, block_tokens, field_tokens, header_tokens, message_tokens, option_tokens, range_tokens, scalar_tokens}
-use Rattle.proto_rename_laws.proofs.Common.{scene_of, renamed_words, to_flat_map}
+use Rattle.proto_parts.specs.Parts.{FieldOf, blocks_in, closed_ranges, fields_in, options_in, statements}
+use Rattle.proto_parts.specs.Scenes.{Scene}
+use Rattle.proto_checks_laws.specs.Renamed.{asked_tokens, block_tokens, field_tokens, header_tokens, option_tokens, range_tokens, scalar_tokens}
+use Rattle.proto_rename_laws.proofs.Common.{scene_of, fields_of_block, renamed_words, to_flat_map}
 use Rattle.proto_rename_roles.proofs.TokenRoles.{other_token_stays}
 use Rattle.proto_rename_described.specs.OtherTokens.{LabelsAndScalarsStay, OtherTokensStay}
 use Rattle.proto_rename_described.proofs.Allowed.{allowed_roles}
@@ -16,8 +19,15 @@ none_is : {X : Type 0} (o : Option X) → is_some o ≡ false → o ≡ None
 none_is None h = refl
 none_is (Some x) h = absurd cc
 
+-- what is of a field of a message, or of an extension, is of the block that it stands in
+in_header : (scene : Scene) (h : Header) (within : Tree) (f : FieldOf) → Contains (fields_of_block h within) f → (i : ℕ) → Contains (field_tokens scene f) i → Contains (header_tokens scene h within) i
+in_header scene (header.Message h) within f cf i c =
+    Contains-append_left (flat_map (field_tokens scene) (fields_in within)) (flat_map (range_tokens (λ t. t)) (flat_map closed_ranges (statements within))) i (to_flat_map (field_tokens scene) (fields_in within) f i cf c)
+in_header scene (header.Extend x) within f cf i c = to_flat_map (field_tokens scene) (fields_in within) f i cf c
+in_header scene whole within f cf i c = absurd (omega (arith, cf.1))
+
 pub labels_and_scalars_stay : LabelsAndScalarsStay
-labels_and_scalars_stay files reads name to t a file b h f l cb is cf = (
+labels_and_scalars_stay files reads name to t a file b f l cb cf = (
   λ i q. stays i (Contains-append_left (option_to_list f.label) (option_to_list f.map_key ++ (scalar_tokens f.kind ++ f.number ∷ flat_map (option_tokens (scene_of None files reads file)) f.options)) i (subst (λ o. Contains (option_to_list o) i) (sym q) (contains_head i []))),
   λ i q. stays i (Contains-append_right (option_to_list f.label) (option_to_list f.map_key ++ (scalar_tokens f.kind ++ f.number ∷ flat_map (option_tokens (scene_of None files reads file)) f.options)) i
       (Contains-append_right (option_to_list f.map_key) (scalar_tokens f.kind ++ f.number ∷ flat_map (option_tokens (scene_of None files reads file)) f.options) i
@@ -28,9 +38,7 @@ labels_and_scalars_stay files reads name to t a file b h f l cb is cf = (
     stays i c =
         let scene = scene_of None files reads file in
         let tree = (read_at reads file).tree in
-        let fields = to_flat_map (field_tokens (scene_of None files reads file)) (fields_in b.within) f i cf c in
-        let message : Contains (message_tokens (scene_of None files reads file) b.within) i = Contains-append_left (flat_map (field_tokens (scene_of None files reads file)) (fields_in b.within)) (flat_map (range_tokens (λ t. t)) (flat_map closed_ranges (statements b.within))) i fields in
-        let head : Contains (header_tokens (scene_of None files reads file) b.header b.within) i = subst (λ (z : Header). Contains (header_tokens (scene_of None files reads file) z b.within) i) (sym is) message in
+        let head = in_header scene b.header b.within f cf i c in
         let block : Contains (block_tokens (scene_of None files reads file) b) i = Contains-append_left (header_tokens (scene_of None files reads file) b.header b.within) (flat_map (option_tokens (scene_of None files reads file)) (options_in b.within)) i head in
         let all = Contains-append_right (flat_map (option_tokens (scene_of None files reads file)) (options_in tree)) (flat_map (block_tokens (scene_of None files reads file)) (blocks_in tree)) i (to_flat_map (block_tokens (scene_of None files reads file)) (blocks_in tree) b i cb block) in
         none_is (renamed_words files reads t to (at file i)) (All-contains (λ i. is_some (renamed_words files reads t to (at file i)) ≡ false) (asked_tokens scene tree) i ((allowed_roles files reads name to t a).tokens.asked file l) all)

@@ -1,10 +1,11 @@
--- What a tree declares turns as its names do, and all else stays: message by message, enum by enum, service by service.
+-- What a tree declares turns as its names do, and all else stays: message by message, enum by enum, service by service, `extend` block by `extend` block.
 use Rattle.std.proofs.Common.{◌≡◌, ℕ, suc, Bool, true, false, List, [], ◌∷◌, ◌++◌, map, flat_map, Option, Some, None, is_some, codes, refl, sym, ◌∙◌, ap, subst, inl, inr, arith, Contains}
-use Rattle.proto_faults.proofs.Common.{Contains-append_cases, Contains-append_left, Contains-append_right, contains_cases, contains_head, contains_later, contains_map}
+use Rattle.proto_faults.proofs.Common.{Contains-append_cases, Contains-append_left, Contains-append_right, cond-false, contains_cases, contains_head, contains_later, contains_map}
 use Rattle.proto_case.specs.Camel.{entry_name}
 use Rattle.proto_tree.specs.declared.context.Context.{Context}
 use Rattle.proto_tree.specs.declared.piece.Header.{Header}
 use Rattle.proto_tree.specs.declared.piece.Heading.{Heading}
+use Rattle.proto_tree.specs.declared.piece.Extending.{Extending}
 use Rattle.proto_tree.specs.declared.tree.Constant.{Constant}
 use Rattle.proto_tree.specs.declared.tree.MapField.{MapField}
 use Rattle.proto_tree.specs.declared.tree.Value.{Value as EnumValue}
@@ -13,15 +14,17 @@ use Rattle.proto_tree.specs.declared.context.Kind.TheVariants as kind
 use Rattle.proto_tree.specs.declared.context.Context.TheVariants as context
 use Rattle.proto_tree.specs.declared.piece.Header.TheVariants as header
 use Rattle.proto_tree.specs.declared.piece.Statement.TheVariants as statement
-use Rattle.proto_meaning.proofs.Common.{Renaming, ArePlain, Source, Token, EntryOf, Given, spell, Placed, all_placed, enum, field, file_placed, items_placed, key_word, map_field, message, oneof, package_of, place, placed, prefixes, service, value_word, map_append}
-use Rattle.proto_meaning.specs.declared.kind.Kind.TheVariants.{Message, Entry, Enum, Service, Field, EntryField, Oneof, Value, Method}
+use Rattle.proto_meaning.proofs.Common.{Renaming, ArePlain, Source, Token, EntryOf, Given, spell, Placed, all_placed, enum, extend, field, file_placed, items_placed, key_word, map_field, message, oneof, package_of, place, placed, prefixes, service, value_word, map_append}
+use Rattle.proto_meaning.specs.declared.kind.Kind.{Kind as NameKind}
+use Rattle.proto_meaning.specs.declared.kind.Kind.TheVariants.{Message, Entry, Enum, Service, Field, EntryField, Oneof, Value, Method, Extension}
 use Rattle.proto_listing.specs.FromTree.{block_names, field_names, items_in, members_in, method_names, no_names, picked, value_names}
 use Rattle.proto_parts.proofs.Common.{value_named, BlockOf, FieldOf, blocks_in, fields_from, fields_in, map_field as field_of_map, options_in, plain_field, statement_fields, statements, values_in, Scene, text, value}
 use Rattle.proto_checks_laws.proofs.Common.{DifferInNames, asked_tokens, block_tokens, field_tokens, header_tokens, option_tokens, oneof_field}
 use Rattle.proto_checks_laws.proofs.Outermost.{no_map_field, no_oneof}
-use Rattle.proto_described.specs.Described.{default_text, field_type_name}
+use Rattle.proto_described.specs.Described.{default_text, field_type_name, is_map, type_name_of}
+use Rattle.proto_rename_laws.specs.Defaults.{fields_of_block}
 use Rattle.proto_rename_laws.proofs.Places.{to_flat_map}
-use Rattle.proto_rename_described.specs.Common.{Taken, dotted as behind_dots, mapped_default, EntryTurns, EnumTurns, FieldTurns, MessageTurns, MethodsTurn, Turned, Turns, full, is_target, written_json}
+use Rattle.proto_rename_described.specs.Common.{Taken, dotted as behind_dots, mapped_default, EntryTurns, EnumTurns, ExtensionTurns, FieldTurns, MessageTurns, MethodsTurn, Turned, Turns, full, is_target, written_json}
 use Rattle.proto_rename_described.proofs.FileStays.{enum_options_stay, enum_reserved_stays, extensions_stay, field_stays, field_tokens_kept, key_type_stays, message_options_stay, method_options_stay, reserved_stays, service_options_stay, value_number_stays, value_options_stay, value_tokens_kept, value_type_stays}
 
 no : false ≡ true → ⊥
@@ -75,7 +78,21 @@ field_declared path n (Block (header.Message h) opens within closes rest) w f c 
     placing_behind path (placed path (message h.name (members_in within))) (all_placed path (members_in rest)) f (field_declared path n rest w.2 f c)
 field_declared path n (Block (header.Enum h) opens within closes rest) w f c =
     placing_behind path (placed path (enum h.name (picked value_names no_names within))) (all_placed path (members_in rest)) f (field_declared path n rest w.2 f c)
+field_declared path n (Block (header.Extend g) opens within closes rest) w f c =
+    placing_behind path (placed path (extend (picked field_names no_names within))) (all_placed path (members_in rest)) f (field_declared path n rest w.2 f c)
 field_declared path n (Block whole opens within closes rest) w f c = field_declared path n rest w.2 f c
+
+-- an extension is declared, and is no map field
+extension_declared : (n : ℕ) (t : Tree) → IsWellFormed context.Extend t → (f : FieldOf) → Contains (fields_from n t) f → Contains (picked field_names no_names t) f.name × (is_map f ≡ false)
+extension_declared n End w f c = absurd (omega (arith, c.1))
+extension_declared n (Leaf (statement.Field g) rest) w f c = elim (contains_cases (plain_field None g) f (fields_from n rest) c) [
+  | inl q ↦ subst (λ (z : FieldOf). Contains (g.name ∷ picked field_names no_names rest) z.name × (is_map z ≡ false)) q (contains_head g.name (picked field_names no_names rest), refl)
+  | inr d ↦ (let r = extension_declared n rest w.1 f d in (contains_later g.name f.name (picked field_names no_names rest) r.0, r.1))
+]
+extension_declared n (Leaf (statement.MapField g) rest) w f c = absurd (no w.0)
+extension_declared n (Leaf _ rest) w f c = extension_declared n rest w.1 f c
+extension_declared n (Block (header.Oneof h) opens within closes rest) w f c = absurd (no w.0)
+extension_declared n (Block whole opens within closes rest) w f c = extension_declared n rest w.2 f c
 
 -- a map field is one of the fields
 map_field_there : (n : ℕ) (t : Tree) (f : MapField) → Contains (statements t) (statement.MapField f) → Contains (fields_from n t) (field_of_map f)
@@ -94,15 +111,15 @@ map_field_there n (Block whole opens within closes rest) f c = map_field_there n
 pub record FieldNames (e : Renaming) (taken : Taken) (a b : Scene) (path : List (Source ℕ)) (f : FieldOf) : Type 0 where
   pub other : is_target e taken a b path (text a f.name) ≡ false → text b f.name ≡ text a f.name
   pub json : is_target e taken a b path (text a f.name) ≡ true → is_some (written_json e taken a b a f) ≡ taken.written
-  pub default : (c : Constant) → value_named (text a) (codes "default") f.options ≡ Some c → default_text b c ≡ mapped_default e taken (field_type_name a (behind_dots (full e taken a b path)) f) (default_text a c)
+  pub default : (above : List ℕ) (c : Constant) → value_named (text a) (codes "default") f.options ≡ Some c → default_text b c ≡ mapped_default e taken (field_type_name a above f) (default_text a c)
 
 module _ (e : Renaming) (taken : Taken) (named : ℕ → Bool) (a b : Scene) (differ : DifferInNames named a b) (strings : (t : ℕ) → value b t ≡ value a t)
     (root : Tree) (asked : (t : ℕ) → Contains (asked_tokens a root) t → named t ≡ false)
     (names : (p : Placed) → Contains (file_placed (items_in root)) p → Turned e taken a b p.above p.last)
     (plain : (p : Placed) → Contains (file_placed (items_in root)) p → ArePlain (full e taken a b (p.above ++ p.last ∷ [])))
     (no_given : (path : List (Source ℕ)) (w : List ℕ) → Contains (file_placed (items_in root)) (place path (Given w) EntryField) → is_target e taken a b path w ≡ false)
-    (fields : (path : List (Source ℕ)) (h : Heading) (within : Tree) (f : FieldOf) → Contains (blocks_in root) (block_of (header.Message h) within) → Contains (fields_in within) f
-    → Contains (file_placed (items_in root)) (place path (Token f.name) Field) → FieldNames e taken a b path f) where
+    (fields : (path : List (Source ℕ)) (h : Header) (within : Tree) (f : FieldOf) (k : NameKind) → Contains (blocks_in root) (block_of h within) → Contains (fields_of_block h within) f
+    → Contains (file_placed (items_in root)) (place path (Token f.name) k) → FieldNames e taken a b path f) where
   abbrev Inside : List Placed → Type 0
   Inside ps = (p : Placed) → Contains ps p → Contains (file_placed (items_in root)) p
 
@@ -142,12 +159,12 @@ module _ (e : Renaming) (taken : Taken) (named : ℕ → Bool) (a b : Scene) (di
   field_turns path h within w cb i f cf =
       let d = field_declared path 0 within w f cf in
       let there = i (place path (Token f.name) Field) d.0 in
-      let n = fields path h within f cb cf there in
+      let n = fields path (header.Message h) within f Field cb cf there in
       record {
         name = names (place path (Token f.name) Field) there;
         other = n.other;
         json = n.json;
-        default = n.default;
+        default = n.default (behind_dots (full e taken a b path));
         entry = λ q. (
             let entry = i (place path (EntryOf f.name) Entry) (d.1 q) in
             (names (place path (EntryOf f.name) Entry) entry, subst ArePlain (map_append (spell (text a) entry_name) path (EntryOf f.name ∷ [])) (plain (place path (EntryOf f.name) Entry) entry)));
@@ -167,6 +184,21 @@ module _ (e : Renaming) (taken : Taken) (named : ℕ → Bool) (a b : Scene) (di
         no_value = no_given inner value_word item;
         key_type = key_type_stays e taken named a b differ strings f k;
         value_type = value_type_stays e taken named a b differ strings f k;
+      }
+
+  -- ---- extensions
+
+  extensions_turn : (path : List (Source ℕ)) (g : Extending) (within : Tree) → IsWellFormed context.Extend within → Contains (blocks_in root) (block_of (header.Extend g) within) → Inside (placed path (extend (picked field_names no_names within)))
+      → (f : FieldOf) → Contains (fields_in within) f → ExtensionTurns e taken a b path f
+  extensions_turn path g within w cb i f cf =
+      let d = extension_declared 0 within w f cf in
+      let there = i (place path (Token f.name) Extension) (contains_map (λ t. place path (Token t) Extension) (picked field_names no_names within) f.name d.0) in
+      let n = fields path (header.Extend g) within f Extension cb cf there in
+      record {
+        name = names (place path (Token f.name) Extension) there;
+        default = λ c q. n.default [] c q ∙ ap (λ z. mapped_default e taken z (default_text a c)) (cond-false (is_map f) _ (type_name_of a f.kind) d.1);
+        no_map = d.1;
+        stays = field_stays e taken named a b differ strings f (λ t ct. header_kept (header.Extend g) within cb t (to_flat_map (field_tokens a) (fields_in within) f t cf ct));
       }
 
   -- ---- enums
@@ -255,6 +287,11 @@ module _ (e : Renaming) (taken : Taken) (named : ℕ → Bool) (a b : Scene) (di
         members_turn path rest w.2 (aft mine (all_placed path (members_in rest)) i) (rest_there (header.Enum h) opens within closes rest r) k,
       )
   members_turn path (Block (header.Service h) opens within closes rest) w i r k = absurd (no w.0)
+  members_turn path (Block (header.Extend g) opens within closes rest) w i r k =
+      let mine = placed path (extend (picked field_names no_names within)) in (
+        extensions_turn path g within w.1 (block_there (header.Extend g) opens within closes rest r) (fore mine (all_placed path (members_in rest)) i),
+        members_turn path rest w.2 (aft mine (all_placed path (members_in rest)) i) (rest_there (header.Extend g) opens within closes rest r) k,
+      )
   members_turn path (Block (header.Method s) opens within closes rest) w i r k = members_turn path rest w.2 i (rest_there (header.Method s) opens within closes rest r) k
 
   -- ---- the items of a file
@@ -292,6 +329,11 @@ module _ (e : Renaming) (taken : Taken) (named : ℕ → Bool) (a b : Scene) (di
             (contains_later (place path (Token h.name) Service) (place below (Token j) Method) (map (λ x. place below (Token x) Method) ms) (contains_map (λ x. place below (Token x) Method) ms j d)))) (within_there (header.Service h) opens within closes rest r),
         service_options_stay e taken named a b differ strings within (options_kept (header.Service h) within (block_there (header.Service h) opens within closes rest r)),
         items_turn path (after c kind.OpenService) (last_outer (Block (header.Service h) opens within closes End) c o) rest w.2 (aft mine (items_placed path (items_in rest)) i) (rest_there (header.Service h) opens within closes rest r),
+      )
+  items_turn path c o (Block (header.Extend g) opens within closes rest) w i r =
+      let mine = placed path (extend (picked field_names no_names within)) in (
+        extensions_turn path g within w.1 (block_there (header.Extend g) opens within closes rest r) (fore mine (items_placed path (items_in rest)) i),
+        items_turn path (after c kind.OpenExtend) (last_outer (Block (header.Extend g) opens within closes End) c o) rest w.2 (aft mine (items_placed path (items_in rest)) i) (rest_there (header.Extend g) opens within closes rest r),
       )
   items_turn path c o (Block (header.Method s) opens within closes rest) w i r = items_turn path (after c kind.OpenMethod) (last_outer (Block (header.Method s) opens within closes End) c o) rest w.2 i (rest_there (header.Method s) opens within closes rest r)
 

@@ -2,17 +2,16 @@
 use Rattle.std.specs.Prelude.{◌≡◌, ℕ, ◌<◌, List, [], length, None}
 use Rattle.std.specs.List.{Contains}
 use Rattle.proto_faults.specs.Texts.{Text}
-use Rattle.proto_tree.specs.declared.piece.Heading.{Heading}
-use Rattle.proto_tree.specs.declared.piece.Header.TheVariants as header
 use Rattle.proto_files.specs.Faults.{HasNoFault}
 use Rattle.proto_files.specs.GivenFiles.{FileOf}
 use Rattle.proto_files.specs.FilesRead.{ReadOf, AreRead, read_at}
 use Rattle.proto_imports.specs.Links.{LinkFaults}
-use Rattle.proto_parts.specs.Parts.{BlockOf, FieldOf, blocks_in, fields_in}
+use Rattle.proto_parts.specs.Parts.{BlockOf, FieldOf, blocks_in}
 use Rattle.proto_checks.specs.FieldFlaws.{default_flaws}
 use Rattle.proto_rename_laws.specs.SceneOf.{scene_of}
 use Rattle.proto_desc.specs.Checked.{CheckFaults}
 use Rattle.proto_rename_laws.specs.Cases.{RenameCase}
+use Rattle.proto_rename_laws.specs.Defaults.{fields_of_block}
 use Rattle.proto_rename_laws.specs.Rewording.{AreReworded}
 use Rattle.proto_rename_laws.specs.Targets.{Target, IsNamed, renamed_words}
 
@@ -27,11 +26,10 @@ pub record IsAllowed
 
 -- no default is wrong afterwards
 abbrev pub DefaultsFit : List FileOf → List ReadOf → Type 0
-DefaultsFit after seen = (file : ℕ) (b : BlockOf) (h : Heading) (f : FieldOf)
+DefaultsFit after seen = (file : ℕ) (b : BlockOf) (f : FieldOf)
     → file < length after
     → Contains (blocks_in (read_at seen file).tree) b
-    → b.header ≡ header.Message h
-    → Contains (fields_in b.within) f
+    → Contains (fields_of_block b.header b.within) f
     → default_flaws (scene_of None after seen file) f ≡ []
 
 -- No fault of links and checks comes in.

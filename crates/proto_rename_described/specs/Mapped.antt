@@ -63,14 +63,15 @@ abbrev pub mapped_default : Renaming → Taken → Option Text → Text → Text
 mapped_default e taken type_name word =
     if is_name_of taken.enum type_name && bytes_eq word e.old then e.new else word
 
--- the renamed field's is made anew, where none is written
-abbrev pub mapped_json : Renaming → Taken → List Text → FieldDesc → Option Text
-mapped_json e taken above f =
-    if same_name (above ++ f.name ∷ []) (target e) && not taken.written
-    then Some (json_word e.new)
-    else f.json_name
+-- the JSON name of a field of this name: the renamed field's is made anew, where none is written
+abbrev pub mapped_json : Renaming → Taken → List Text → Text → Text → Text
+mapped_json e taken above name json =
+    if same_name (above ++ name ∷ []) (target e) && not taken.written
+    then json_word e.new
+    else json
 
--- a field right in a message of this full name
+-- A field right in a message of this full name, or an extension right in it or in a package of this
+-- name. An extension has no JSON name, and gets none.
 abbrev pub mapped_field : Renaming → Taken → List Text → FieldDesc → FieldDesc
 mapped_field e taken above f = record {
   name = word_under e above f.name;
@@ -78,9 +79,10 @@ mapped_field e taken above f = record {
   label = f.label;
   field_type = f.field_type;
   type_name = option_map (mapped_name e) f.type_name;
+  extendee = option_map (mapped_name e) f.extendee;
   default_value = option_map (mapped_default e taken f.type_name) f.default_value;
   oneof_index = f.oneof_index;
-  json_name = mapped_json e taken above f;
+  json_name = option_map (mapped_json e taken above f.name) f.json_name;
   proto3_optional = f.proto3_optional;
   options = f.options;
 }
@@ -111,6 +113,7 @@ abbrev pub mapped_message : Renaming → Taken → List Text → List Text → M
 mapped_message e taken above full m = record {
   name = word_under e above m.name;
   field = map (mapped_field e taken full) m.field;
+  extension = map (mapped_field e taken full) m.extension;
   enum_type = map (mapped_enum e full) m.enum_type;
   extension_range = m.extension_range;
   oneof_decl = map (word_under e full) m.oneof_decl;
@@ -155,6 +158,7 @@ mapped_file e taken f = record {
   message_type = mapped_messages e taken (words_of (package_prefix f.«package»)) f.message_type;
   enum_type = map (mapped_enum e (words_of (package_prefix f.«package»))) f.enum_type;
   service = map (mapped_service e (words_of (package_prefix f.«package»))) f.service;
+  extension = map (mapped_field e taken (words_of (package_prefix f.«package»))) f.extension;
   options = f.options;
   syntax = f.syntax;
 }

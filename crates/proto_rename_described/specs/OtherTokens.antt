@@ -1,29 +1,26 @@
--- What is not changed of a field whose default is a number or a truth value.
+-- What is not changed of a field, or of an extension, whose default is a number or a truth value.
 use Rattle.std.specs.Prelude.{◌≡◌, ℕ, ◌<◌, List, length, Some, None}
 use Rattle.std.specs.List.{Contains}
 use Rattle.proto_faults.specs.Texts.{Text}
-use Rattle.proto_tree.specs.declared.piece.Heading.{Heading}
-use Rattle.proto_tree.specs.declared.piece.Header.TheVariants as header
 use Rattle.proto_tree.specs.declared.tree.FieldType.TheVariants as field_type
 use Rattle.proto_files.specs.GivenFiles.{FileOf}
 use Rattle.proto_files.specs.FilesRead.{ReadOf, read_at}
 use Rattle.proto_meaning.specs.Grown.{At, at}
 use Rattle.proto_imports.specs.Links.{link_skeleton}
-use Rattle.proto_parts.specs.Parts.{BlockOf, FieldOf, blocks_in, fields_in}
-use Rattle.proto_rename_laws.specs.Defaults.{renamed_defaults}
+use Rattle.proto_parts.specs.Parts.{BlockOf, FieldOf, blocks_in}
+use Rattle.proto_rename_laws.specs.Defaults.{fields_of_block, renamed_defaults}
 use Rattle.proto_rename_laws.specs.Places.{Names, Uses}
 use Rattle.proto_rename_laws.specs.Targets.{Target, name_map, renamed_words}
 use Rattle.proto_rename_described.specs.Allowed.{IsAllowed}
 
--- Labels and scalar types of messages' fields are not changed.
+-- Labels and scalar types of messages' fields and of extensions are not changed.
 abbrev pub LabelsAndScalarsStay : Type 0
 LabelsAndScalarsStay = (files : List FileOf) (reads : List ReadOf) (name to : Text) (t : Target)
     → IsAllowed files reads name to t
-    → (file : ℕ) (b : BlockOf) (h : Heading) (f : FieldOf)
+    → (file : ℕ) (b : BlockOf) (f : FieldOf)
     → file < length files
     → Contains (blocks_in (read_at reads file).tree) b
-    → b.header ≡ header.Message h
-    → Contains (fields_in b.within) f
+    → Contains (fields_of_block b.header b.within) f
     → ((i : ℕ) → f.label ≡ Some i → renamed_words files reads t to (at file i) ≡ None)
     × ((i : ℕ) → f.kind ≡ field_type.Scalar i → renamed_words files reads t to (at file i) ≡ None)
 

@@ -23,7 +23,7 @@ use Rattle.proto_parts.specs.Parts.{FieldOf, OptionOf, statements, fields_in, va
 use Rattle.proto_parts.specs.Scenes.{MeantOf, Scene, text, value, number_at, signed_at, meant_by}
 use Rattle.proto_parts.specs.Labels.{has_label}
 use Rattle.proto_numbers.specs.NumberFlaws.{range_of, enum_range_of}
-use Rattle.proto_described.specs.Described.{default_text, enum_options, field_number, field_options, field_type_name, field_type_of, file_described, file_options, label_of, message_options, method_options, number_range, scalar_type, type_of, value_described, value_number, value_range}
+use Rattle.proto_described.specs.Described.{default_text, enum_options, field_number, field_options, field_type_name, field_type_of, file_described, file_options, is_map, label_of, message_options, method_options, number_range, scalar_type, type_name_of, type_of, value_described, value_number, value_range}
 use Rattle.proto_rename_described.specs.Mapped.{Taken, dotted, mapped_default, mapped_file, word_under}
 
 -- what a reference means goes under the name map
@@ -79,6 +79,15 @@ module _ (e : Renaming) (taken : Taken) (a b : Scene) where
         ≡ mapped_default e taken (field_type_name a (dotted (full path)) f) (default_text a c)
     pub entry : is_some f.map_key ≡ true
         → Turned path (EntryOf f.name) × ArePlain (full path ++ entry_name (text a f.name) ∷ [])
+    pub stays : FieldStays f
+
+  -- an extension right below this path
+  pub record ExtensionTurns (path : List (Source ℕ)) (f : FieldOf) : Type 0 where
+    pub name : Turned path (Token f.name)
+    pub default : (c : Constant)
+        → value_named (text a) (codes "default") f.options ≡ Some c
+        → default_text b c ≡ mapped_default e taken (type_name_of a f.kind) (default_text a c)
+    pub no_map : is_map f ≡ false
     pub stays : FieldStays f
 
   -- the entry of a map field of a message with this path
@@ -157,6 +166,9 @@ module _ (e : Renaming) (taken : Taken) (a b : Scene) where
       × (service_options b within ≡ service_options a within)
       × Turns path rest
   Turns path (Block (header.Method s) opens within closes rest) = Turns path rest
+  Turns path (Block (header.Extend x) opens within closes rest) =
+      ((f : FieldOf) → Contains (fields_in within) f → ExtensionTurns path f)
+      × Turns path rest
 
   -- a file: its strings and version stay, its references mean what they meant, and its names turn
   pub record FileTurns (tree : Tree) : Type 0 where

@@ -2,9 +2,9 @@
 use Rattle.std.proofs.Common.{◌≡◌, ℕ, zero, suc, ◌+◌, ◌<◌, Bool, true, false, List, [], ◌∷◌, ◌++◌, length, map, refl, sym, ap, subst, ◌∙◌, inl, inr, arith, Contains, slice_index_or}
 use Rattle.proto_faults.proofs.Common.{Contains-append_cases, Contains-append_left, Contains-append_right, contains_cases, contains_map, from_map}
 use Rattle.proto_files.specs.FilesRead.{ReadOf, read_at}
-use Rattle.proto_meaning.proofs.Common.{FileNames, At, at, declared_of, file_declared, all_declared, Source, Token, EntryOf, Given, Declared, shifted_declared, shifted_source, Member, field, map_field, oneof, message, enum, service, Members, no_members, member, Items, no_items, packaged, item, package_of, Placed, place, placed, all_placed, prefixes, items_placed, file_placed, map_append}
+use Rattle.proto_meaning.proofs.Common.{FileNames, At, at, declared_of, file_declared, all_declared, Source, Token, EntryOf, Given, Declared, shifted_declared, shifted_source, Member, field, map_field, oneof, message, enum, service, extend, Members, no_members, member, Items, no_items, packaged, item, package_of, Placed, place, placed, all_placed, prefixes, items_placed, file_placed, map_append}
 use Rattle.proto_meaning.specs.declared.kind.Kind.{Kind}
-use Rattle.proto_meaning.specs.declared.kind.Kind.TheVariants.{Package, Message, Entry, Enum, Service, Field, EntryField, Oneof, Value, Method}
+use Rattle.proto_meaning.specs.declared.kind.Kind.TheVariants.{Package, Message, Entry, Enum, Service, Field, EntryField, Oneof, Value, Method, Extension}
 use Rattle.proto_listing.specs.FromTree.{items_in}
 use Rattle.proto_imports.specs.Links.{names_in}
 
@@ -22,6 +22,7 @@ is_written EntryField = false
 is_written Oneof = true
 is_written Value = true
 is_written Method = true
+is_written Extension = true
 
 abbrev pub EndsAs : Source ℕ → Kind → Type 0
 EndsAs (Token t) k = is_written k ≡ true
@@ -50,6 +51,7 @@ mutual
   ends_of (message t ms) path = (refl, ends_in ms (path ++ Token t ∷ []))
   ends_of (enum t vs) path = (refl, ends_tokens path Value refl vs)
   ends_of (service t ms) path = (refl, ends_tokens (path ++ Token t ∷ []) Method refl ms)
+  ends_of (extend ts) path = ends_tokens path Extension refl ts
 
   ends_in : (ms : Members) (path : List (Source ℕ)) → EndAs (all_placed path ms)
   ends_in no_members path = tt

@@ -41,8 +41,9 @@ word_of_constant (constant.Word x) w c = ap (λ z. constant.Word z) (single x w 
 word_of_constant (constant.Number n) w c = absurd (omega (arith, c.1))
 word_of_constant (constant.Text j) w c = absurd (omega (arith, c.1))
 
-of_block : (h : Header) (within : Tree) (f : FieldOf) → Contains (fields_of_block h within) f → Contains (fields_in within) f
+pub of_block : (h : Header) (within : Tree) (f : FieldOf) → Contains (fields_of_block h within) f → Contains (fields_in within) f
 of_block (header.Message h) within f c = c
+of_block (header.Extend e) within f c = c
 of_block whole within f c = absurd (omega (arith, c.1))
 
 module _ (files : List FileOf) (reads : List ReadOf) (enum : Option (List (List ℕ))) (old : List ℕ) where

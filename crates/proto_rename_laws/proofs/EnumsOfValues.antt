@@ -9,8 +9,8 @@ use Rattle.proto_tree.proofs.Common.{Tree, End, Leaf, Block, dotted}
 use Rattle.proto_tree.specs.declared.piece.Statement.TheVariants as statement
 use Rattle.proto_tree.specs.declared.piece.Header.TheVariants as header
 use Rattle.proto_meaning.specs.declared.kind.Kind.{Kind}
-use Rattle.proto_meaning.specs.declared.kind.Kind.TheVariants.{Message, Enum, Service, Field, Oneof, Value, Method}
-use Rattle.proto_meaning.proofs.Common.{Source, Token, Items, Members, Placed, place, placed, all_placed, prefixes, items_placed, beside, field, map_field, message, service}
+use Rattle.proto_meaning.specs.declared.kind.Kind.TheVariants.{Message, Enum, Service, Field, Oneof, Value, Method, Extension}
+use Rattle.proto_meaning.proofs.Common.{Source, Token, Items, Members, Placed, place, placed, all_placed, prefixes, items_placed, beside, extend, field, map_field, message, service}
 use Rattle.proto_listing.specs.FromTree.{add_statement, block_names, field_names, file_statement, items_in, members_in, method_names, no_names, picked, value_names}
 use Rattle.proto_parts.specs.Parts.{BlockOf, blocks_in, statement_values, values_in}
 use Rattle.proto_scenes.specs.SceneOf.{is_enum_at}
@@ -73,6 +73,12 @@ no_beside path t a b ts p na nb k c = elim (contains_cases (place path (Token t)
   | inl e ↦ na (ap (λ (z : Placed). z.kind) e ∙ k)
   | inr d ↦ (let v = from_map (λ i. place path (Token i) b) ts p d in nb (ap (λ (z : Placed). z.kind) v.2 ∙ k))
 ]
+
+no_extension : (path : List (Source ℕ)) (ts : List ℕ) (p : Placed) → p.kind ≡ Value → Contains (map (λ i. place path (Token i) Extension) ts) p → ⊥
+no_extension path ts p k c = let v = from_map (λ i. place path (Token i) Extension) ts p c in differ (ap (λ (z : Placed). z.kind) v.2 ∙ k)
+  where
+    differ : Extension ≡ Value → ⊥
+    differ e = cc
 
 -- none of a list whose kinds are others
 abbrev NoValues : List Placed → Type 0
@@ -137,6 +143,9 @@ in_members (Block (header.Oneof h) i within j rest) path p k c =
 in_members (Block (header.Enum h) i within j rest) path p k c =
     either (beside path h.name Enum Value (picked value_names no_names within)) (all_placed path (members_in rest)) (Block (header.Enum h) i within j rest) rest p (λ b x. later (header.Enum h) i within j rest b x)
     (λ d. of_enum path h within p k d i j rest) (in_members rest path p k) c
+in_members (Block (header.Extend x) i within j rest) path p k c =
+    either (placed path (extend (picked field_names no_names within))) (all_placed path (members_in rest)) (Block (header.Extend x) i within j rest) rest p (λ b y. later (header.Extend x) i within j rest b y)
+    (λ d. absurd (no_extension path (picked field_names no_names within) p k d)) (in_members rest path p k) c
 in_members (Block whole i within j rest) path p k c = wider _ _ rest _ p (λ q x. x) (λ b x. later whole i within j rest b x) (in_members rest path p k c)
 
 in_package : (path : List (Source ℕ)) (s : Statement) (is : Items) (t : Tree) (p : Placed) → p.kind ≡ Value → (Contains (items_placed path is) p → EnumHas (items_placed path is) t p) → Contains (items_placed path (file_statement s is)) p → EnumHas (items_placed path (file_statement s is)) t p
@@ -170,4 +179,7 @@ in_items (Block (header.Service h) i within j rest) path p k c =
 
         worse : Method ≡ Value → ⊥
         worse e = cc
+in_items (Block (header.Extend x) i within j rest) path p k c =
+    either (placed path (extend (picked field_names no_names within))) (items_placed path (items_in rest)) (Block (header.Extend x) i within j rest) rest p (λ b y. later (header.Extend x) i within j rest b y)
+    (λ d. absurd (no_extension path (picked field_names no_names within) p k d)) (in_items rest path p k) c
 in_items (Block whole i within j rest) path p k c = wider _ _ rest _ p (λ q x. x) (λ b x. later whole i within j rest b x) (in_items rest path p k c)

@@ -11,7 +11,7 @@ use Rattle.proto_tree.specs.declared.class.Class.TheVariants as class
 use Rattle.proto_tree.specs.declared.class.Want.TheVariants as want
 use Rattle.proto_files.proofs.Common.{FileOf, ReadOf, read_at}
 use Rattle.proto_meaning.specs.declared.kind.Kind.{Kind}
-use Rattle.proto_meaning.specs.declared.kind.Kind.TheVariants.{Package, Message, Entry, Enum, Service, Field, EntryField, Oneof, Value, Method}
+use Rattle.proto_meaning.specs.declared.kind.Kind.TheVariants.{Package, Message, Entry, Enum, Service, Field, EntryField, Oneof, Value, Method, Extension}
 use Rattle.proto_meaning.proofs.Common.{Renaming, target, At, at, IsLinked, Reference, Symbol, Workspace, front_at, hit, is_outer, is_type, meaning, meaning_at, typed, Token, Used, name_of, reference_of, symbol_of, spell, name_from_same, map_append, typed_is, has_meaning, meant, front_of, one_symbol}
 use Rattle.proto_imports.specs.Links.{text_of, link_skeleton, names_of_files}
 use Rattle.proto_rename_laws.specs.Common.{is_keyword_of, is_value_keyword, renamed_defaults, SuitFiles, in_file, front_of as front_before, renamed_places, same_at, standing, HasWants, Target, IsNamed, may_rename, name_map, renamed_words}
@@ -48,6 +48,8 @@ outer_keyword Value w (inl h) m = absurd cc
 outer_keyword Value w (inr h) m = absurd cc
 outer_keyword Method w (inl h) m = absurd cc
 outer_keyword Method w (inr h) m = absurd cc
+outer_keyword Extension w (inl h) m = absurd cc
+outer_keyword Extension w (inr h) m = absurd cc
 
 -- ---- what is meant is the front at the hit, and the words
 

@@ -7,7 +7,7 @@ use Rattle.proto_tree.specs.declared.tree.Value.{Value as ValueParts}
 use Rattle.proto_tree.proofs.Common.{Numbered, End, flat, trees_are_numbered}
 use Rattle.proto_files.proofs.Common.{FileOf, file_at, ReadOf, AreRead, read_at}
 use Rattle.proto_meaning.specs.declared.kind.Kind.{Kind}
-use Rattle.proto_meaning.specs.declared.kind.Kind.TheVariants.{Package, Message, Entry, Enum, Service, Field, EntryField, Oneof, Value, Method}
+use Rattle.proto_meaning.specs.declared.kind.Kind.TheVariants.{Package, Message, Entry, Enum, Service, Field, EntryField, Oneof, Value, Method, Extension}
 use Rattle.proto_meaning.proofs.Common.{place_from, place_of, At, at, declared_of, joined, Symbol, Source, Token, EntryOf, Given, Declared, IsAimEntry, name_of, shifted_declared, shifted_source, symbol_of, package_of, map_append, snoc_parts}
 use Rattle.proto_listing.specs.FromTree.{items_in}
 use Rattle.proto_imports.specs.Links.{link_skeleton, names_in, names_of_files, text_of}
@@ -84,6 +84,7 @@ written EntryField h = h
 written Oneof h = refl
 written Value h = refl
 written Method h = refl
+written Extension h = refl
 
 find_some : (p : BlockOf → Bool) (xs : List BlockOf) (x : BlockOf) → Contains xs x → p x ≡ true → (y : BlockOf) × (find p xs ≡ Some y)
 find_some p [] x c h = absurd (omega (arith, c.1))

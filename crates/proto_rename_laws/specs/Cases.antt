@@ -13,7 +13,7 @@ use Rattle.proto_tree.specs.declared.class.Want.TheVariants as want
 use Rattle.proto_files.specs.GivenFiles.{FileOf, file_at}
 use Rattle.proto_files.specs.FilesRead.{ReadOf, read_at}
 use Rattle.proto_meaning.specs.declared.kind.Kind.{Kind}
-use Rattle.proto_meaning.specs.declared.kind.Kind.TheVariants.{Package, Message, Entry, Enum, Service, Field, EntryField, Oneof, Value, Method}
+use Rattle.proto_meaning.specs.declared.kind.Kind.TheVariants.{Package, Message, Entry, Enum, Service, Field, EntryField, Oneof, Value, Method, Extension}
 use Rattle.proto_meaning.specs.Edits.{Collides, IsCaptured}
 use Rattle.proto_meaning.specs.Grown.{At}
 use Rattle.proto_meaning.specs.Joined.{joined}
@@ -46,6 +46,7 @@ is_keyword_of Field word = false
 is_keyword_of EntryField word = false
 is_keyword_of Oneof word = false
 is_keyword_of Method word = false
+is_keyword_of Extension word = false
 
 -- ---- the block of a declaration
 
@@ -53,7 +54,7 @@ is_keyword_of Method word = false
 abbrev pub scene_at : List FileOf → List ReadOf → At → Scene
 scene_at files reads a = scene_of None files reads a.file
 
--- a message with a field of this name token
+-- a message with a field of this name token, or an `extend` with such an extension
 pub record IsFieldIn
     (files : List FileOf) (reads : List ReadOf) (a : At) (b : BlockOf) (f : FieldOf) : Type 0 where
   pub block : Contains (blocks_in (read_at reads a.file).tree) b
@@ -65,14 +66,15 @@ abbrev pub HasMember : Tree → ℕ → Type 0
 HasMember within token = Contains (map (λ f. f.name) (fields_in within)) token
     ⊎ Contains (map (λ v. v.name) (values_in within)) token
 
--- the message of the field, or the enum of the value, reserves the word
+-- the message of the field, or the enum of the value, reserves the word (an `extend` reserves
+-- nothing, so this holds of no extension)
 abbrev pub Reserves : List FileOf → List ReadOf → At → Text → Type 0
 Reserves files reads a word = (b : BlockOf) × Contains (blocks_in (read_at reads a.file).tree) b
     × HasMember b.within a.token
     × Contains (map (value (scene_at files reads a)) (reserved_names_in b.within)) word
 
--- a field of a proto3 file without a written JSON name would get
--- that of another field of its message
+-- a field of a proto3 file without a written JSON name would get that of another field of its
+-- message (a file that has no fault has no extension in proto3, so this holds of none)
 pub record Clashes
     (files : List FileOf) (reads : List ReadOf) (a : At) (word : Text) : Type 0 where
   pub b : BlockOf

@@ -1,4 +1,5 @@
--- Defaults that mean the renamed value: those of its name where the field's type means its enum.
+-- Defaults that mean the renamed value: those of its name where the type of the field, or of the
+-- extension, means its enum.
 use Rattle.std.specs.Prelude.{ℕ, suc, Bool, false, ◌==◌, ◌&&◌, if◌then◌else◌, List, [], ◌∷◌, ◌++◌, flat_map, find, map, Option, Some, None, codes}
 use Rattle.std.specs.Option.{option_and_then}
 use Rattle.std.specs.Str.{bytes_eq}
@@ -20,15 +21,17 @@ use Rattle.proto_parts.specs.Parts.{FieldOf, blocks_in, fields_in}
 use Rattle.proto_checks_laws.specs.Renamed.{constant_tokens}
 use Rattle.proto_scenes.specs.SceneOf.{meaning_of}
 
--- the fields of a message; no other block has any
+-- the fields of a message, and the extensions of an `extend`; those of a oneof are its message's,
+-- and no other block has any
 abbrev pub fields_of_block : Header → Tree → List FieldOf
 fields_of_block (header.Message h) within = fields_in within
 fields_of_block (header.Oneof h) within = []
 fields_of_block (header.Enum h) within = []
 fields_of_block (header.Service h) within = []
 fields_of_block (header.Method s) within = []
+fields_of_block (header.Extend e) within = fields_in within
 
--- the fields of all messages of a file
+-- the fields of all messages of a file, and all its extensions
 abbrev pub fields_of_file : Tree → List FieldOf
 fields_of_file tree = flat_map (λ b. fields_of_block b.header b.within) (blocks_in tree)
 

@@ -11,8 +11,6 @@ use Rattle.proto_tree.specs.Tree.{flat}
 use Rattle.proto_tree.specs.declared.tree.Reference.{Reference}
 use Rattle.proto_tree.specs.declared.tree.Signed.{Signed}
 use Rattle.proto_tree.specs.declared.tree.Value.{Value}
-use Rattle.proto_tree.specs.declared.piece.Heading.{Heading}
-use Rattle.proto_tree.specs.declared.piece.Header.TheVariants as header
 use Rattle.proto_tree.specs.declared.class.Class.TheVariants as class
 use Rattle.proto_tree.specs.declared.class.Want.TheVariants as want
 use Rattle.proto_tree.specs.declared.tree.Constant.TheVariants as constant
@@ -30,7 +28,7 @@ use Rattle.proto_checks_laws.specs.Renamed.{asked_tokens}
 use Rattle.proto_scenes.specs.SceneOf.{scene_of}
 use Rattle.proto_rename_laws.specs.Rewording.{NewWords}
 use Rattle.proto_rename_laws.specs.Places.{Names, Uses}
-use Rattle.proto_rename_laws.specs.Defaults.{meaning_from, means_value, renamed_defaults, type_meaning}
+use Rattle.proto_rename_laws.specs.Defaults.{fields_of_block, meaning_from, means_value, renamed_defaults, type_meaning}
 use Rattle.proto_rename_laws.specs.Targets.{Target, HasValue, name_map, renamed_words}
 
 -- ---- names, words of references, and defaults
@@ -86,7 +84,7 @@ pub record HasRoles
       → file < length files
       → All (λ i. is_some (renamed_words files reads t to (at file i)) ≡ false)
       (asked_tokens (scene_of None files reads file) (read_at reads file).tree)
-  -- a token names one field of a message
+  -- a token names one field, or one extension, of a block
   pub fields : (file : ℕ) (b : BlockOf)
       → Contains (blocks_in (read_at reads file).tree) b
       → AllPairs (λ f g. f.name ≢ g.name) (fields_in b.within)
@@ -179,25 +177,23 @@ pub record HasDefaultRoles
       then to
       else text (at file w))
 
--- All fields of messages have these roles.
+-- All fields of messages, and all extensions, have these roles.
 pub record HasFieldRoles
     (files : List FileOf) (reads : List ReadOf) (t : Target) (to : Text) (after : List FileOf)
     (seen : List ReadOf) : Type 0 where
-  pub defaults : (file : ℕ) (b : BlockOf) (h : Heading) (f : FieldOf)
+  pub defaults : (file : ℕ) (b : BlockOf) (f : FieldOf)
       → file < length files
       → Contains (blocks_in (read_at reads file).tree) b
-      → b.header ≡ header.Message h
-      → Contains (fields_in b.within) f
+      → Contains (fields_of_block b.header b.within) f
       → HasDefaultRoles (renamed_words files reads t to) (text_of files reads) (text_of after seen)
       (meaning_from files reads file) t.enum (text_of files reads t.token) to file f
 
--- The words of the defaults of all fields of messages are as they are to be.
+-- The words of the defaults of all fields of messages, and of all extensions, are as they are to be.
 abbrev pub HaveDefaultWords : List FileOf → List ReadOf → Target → Text → Type 0
-HaveDefaultWords files reads t to = (file : ℕ) (b : BlockOf) (h : Heading) (f : FieldOf)
+HaveDefaultWords files reads t to = (file : ℕ) (b : BlockOf) (f : FieldOf)
     → file < length files
     → Contains (blocks_in (read_at reads file).tree) b
-    → b.header ≡ header.Message h
-    → Contains (fields_in b.within) f
+    → Contains (fields_of_block b.header b.within) f
     → HasDefaultWords files reads t to file f
 
 -- ---- all of it

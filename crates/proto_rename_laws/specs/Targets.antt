@@ -6,7 +6,7 @@ use Rattle.proto_case.specs.Camel.{entry_name}
 use Rattle.proto_files.specs.GivenFiles.{FileOf}
 use Rattle.proto_files.specs.FilesRead.{ReadOf, read_at}
 use Rattle.proto_meaning.specs.declared.kind.Kind.{Kind}
-use Rattle.proto_meaning.specs.declared.kind.Kind.TheVariants.{Package, Message, Entry, Enum, Service, Field, EntryField, Oneof, Value, Method}
+use Rattle.proto_meaning.specs.declared.kind.Kind.TheVariants.{Package, Message, Entry, Enum, Service, Field, EntryField, Oneof, Value, Method, Extension}
 use Rattle.proto_meaning.specs.Edits.{Renaming}
 use Rattle.proto_meaning.specs.Faults.{place_of}
 use Rattle.proto_meaning.specs.Grown.{At}
@@ -19,7 +19,7 @@ use Rattle.proto_rename_laws.specs.Defaults.{renamed_defaults}
 use Rattle.proto_rename_laws.specs.Rewording.{NewWords}
 use Rattle.proto_rename_laws.specs.Places.{change_at, renamed_places}
 
--- a kind that may be renamed: messages, enums, services, fields, values and methods
+-- a kind that may be renamed: messages, enums, services, fields, extensions, values and methods
 abbrev pub may_rename : Kind → Bool
 may_rename Package = false
 may_rename Message = true
@@ -31,6 +31,7 @@ may_rename EntryField = false
 may_rename Oneof = false
 may_rename Value = true
 may_rename Method = true
+may_rename Extension = true
 
 -- a written declaration: its token, what it stands below, whether it is a map field,
 -- and for a value the name of its enum

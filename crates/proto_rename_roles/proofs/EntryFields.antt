@@ -2,8 +2,8 @@
 use Rattle.std.proofs.Common.{◌≡◌, ℕ, List, [], ◌∷◌, ◌++◌, map, refl, arith, Contains}
 use Rattle.proto_faults.proofs.Common.{AllByRecursion, All-contains, All-from_recursion, Contains-append_left, Contains-append_right, contains_later}
 use Rattle.proto_meaning.specs.declared.kind.Kind.{Kind}
-use Rattle.proto_meaning.specs.declared.kind.Kind.TheVariants.{Message, Field, Value, Method}
-use Rattle.proto_meaning.proofs.Common.{Source, Token, EntryOf, Given, Member, field, map_field, oneof, message, enum, service, Members, no_members, member, Items, no_items, packaged, item, package_of, Placed, place, placed, all_placed, prefixes, items_placed, file_placed}
+use Rattle.proto_meaning.specs.declared.kind.Kind.TheVariants.{Message, Field, Value, Method, Extension}
+use Rattle.proto_meaning.proofs.Common.{Source, Token, EntryOf, Given, Member, field, map_field, oneof, message, enum, service, extend, Members, no_members, member, Items, no_items, packaged, item, package_of, Placed, place, placed, all_placed, prefixes, items_placed, file_placed}
 
 -- where the name ends with no token, the field that it is of
 abbrev pub HasField : List Placed → List (Source ℕ) → Source ℕ → Type 0
@@ -45,6 +45,7 @@ module _ (declared : List Placed) where
     have_of (message t ms) path i = (tt, have_in ms (path ++ Token t ∷ []) (λ p c. i p (contains_later (place path (Token t) Message) p (all_placed (path ++ Token t ∷ []) ms) c)))
     have_of (enum t vs) path i = (tt, have_tokens path Value vs)
     have_of (service t ms) path i = (tt, have_tokens (path ++ Token t ∷ []) Method ms)
+    have_of (extend ts) path i = have_tokens path Extension ts
 
     have_in : (ms : Members) (path : List (Source ℕ)) → Inside (all_placed path ms) → Have (all_placed path ms)
     have_in no_members path i = tt

@@ -26,7 +26,7 @@ use Rattle.proto_checks_laws.specs.Roles.{ValueHasRole}
 use Rattle.proto_checks_laws.proofs.FieldOrder.{field_names_rise}
 use Rattle.proto_checks_laws.proofs.Roles.{defaults_are_not_asked, field_options_have_roles, names_are_not_asked, value_numbers_are_numbers}
 use Rattle.proto_rename_laws.proofs.Common.{is_enum_at, lexemes_of, scene_of, means_value, renamed_defaults, type_meaning, Names, Uses, front_of, renamed_places, standing, AreApart, HasDefaultWords, HasEnumRoles, HasRoles, HasWants, HasEnum, HasValue, IsEnumOf, IsNamed, Target, may_rename, name_map, renamed_words, IsDeclaredBy, declared_by, declared_there, path_of, name_of_file, used_by, word_of_file, files_are_linked, files_are_woven, enum_name, one_declared, one_enum, place_last, from_flat_map, stands_at, find_there, index_map}
-use Rattle.proto_rename_laws.proofs.DefaultTokens.{IsDefaultOf, default_of_file}
+use Rattle.proto_rename_laws.proofs.DefaultTokens.{IsDefaultOf, default_of_file, of_block}
 use Rattle.proto_rename_roles.proofs.EntryFields.{HasField, has_field}
 use Rattle.proto_rename_laws.proofs.OldTexts.{changed_to}
 use Rattle.proto_rename_roles.specs.TokenRoles.{AllTokensHaveRoles}
@@ -228,7 +228,10 @@ module _ (files : List FileOf) (reads : List ReadOf) (r : AreRead files reads) w
   field_is_named k b f cb cf =
       let l = block_inside k b cb in
       let d = fields_are_declared (read_at reads k).tree (lexemes_of files reads k) (spelled k l) b f cb cf in
-      placed_names k l d.0 f.name kind.Field d.1.0
+      elim d.1 [
+        | inl x ↦ placed_names k l d.0 f.name kind.Field x.0
+        | inr x ↦ placed_names k l d.0 f.name kind.Extension x.2
+      ]
 
   value_is_named : (k : ℕ) (b : BlockOf) (i : ℕ) → Contains (blocks_in (read_at reads k).tree) b → Contains (map (λ (x : ValueParts). x.name) (values_in b.within)) i → Names (link_skeleton files reads) (at k i)
   value_is_named k b i cb ci =
@@ -460,6 +463,7 @@ module _ (files : List FileOf) (reads : List ReadOf) (r : AreRead files reads) w
 
           by : (h : Header) → IsDeclared (file_placed (items_in (read_at reads k).tree)) h b.within → v.name ≡ u.name
           by (header.Enum h) d = of_path d.0 (d.2 v cv) (d.2 u cu)
+          by (header.Extend x) d = absurd (none (values_in b.within) v d.2 cv)
           by whole d = absurd (none (values_in b.within) v d.3 cv)
 
       value_apart : (d : Declared At) (v : ℕ) → HasValue files reads d v → t.enum ≡ Some (name_of (text_of files reads) entry_name d.path) → text_of files reads (at (place_of d).file v) ≡ text_of files reads t.token → at (place_of d).file v ≡ t.token
@@ -533,5 +537,5 @@ tokens_have_roles files reads name to t r clean named =
     record {
       tokens = token_roles files reads r ok name to t named;
       enums = enum_roles files reads r ok name to t named;
-      defaults = λ file b h f l cb is cf. default_words files reads r ok name to t named file b f cb cf;
+      defaults = λ file b f l cb cf. default_words files reads r ok name to t named file b f cb (of_block b.header b.within f cf);
     }

@@ -146,6 +146,7 @@ signature_no s =
 
 header_no : (h : Header) → No (flat_header h)
 header_no (header.Method s) = signature_no s
+header_no (header.Extend e) = (refl, words_no e.extendee.dot e.extendee.words)
 header_no _ = (refl, (refl, tt))
 
 -- ---- marks of values

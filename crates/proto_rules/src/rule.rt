@@ -2,11 +2,13 @@
 
 ghost use Rattle.std.specs.Prelude.{◌≡◌, ◌↔◌, Some};
 
+use std::fmt;
+
 /// How many rules there are.
 pub(crate) const RULE_COUNT: usize = 27;
 
 /// A lint rule, by what it finds, in the order of their identifiers.
-#[derive(Clone, Copy, PartialEq, Eq, PartialOrd, Ord)]
+#[derive(Clone, Copy, Debug, PartialEq, Eq, PartialOrd, Ord)]
 pub enum Rule {
     /// A file whose package is not that of the first file of its directory.
     DirectorySamePackage,
@@ -62,6 +64,12 @@ pub enum Rule {
     ServiceSuffix,
     /// A file without a syntax statement.
     SyntaxSpecified,
+}
+
+impl fmt::Display for Rule {
+    fn fmt<W: fmt::Write>(&self, f: &mut fmt::Formatter<W>) -> fmt::Result {
+        f.write_str(self.name())
+    }
 }
 
 impl Rule {

@@ -21,7 +21,7 @@ turn p q x xs h on true e false f = ap (λ (z : Bool). cond z (Some x) (find p (
 turn p q x xs h on false e true f = let t : q x ≡ true = h f in absurd (cc)
 turn p q x xs h on false e false f = on
 
-find_filter : {A : Type 0} (p q : A → Bool) → ((x : A) → p x ≡ true → q x ≡ true) → (xs : List A) → find p (filter q xs) ≡ find p xs
+pub find_filter : {A : Type 0} (p q : A → Bool) → ((x : A) → p x ≡ true → q x ≡ true) → (xs : List A) → find p (filter q xs) ≡ find p xs
 find_filter p q h [] = refl
 find_filter p q h (x ∷ xs) = turn p q x xs (h x) (find_filter p q h xs) (q x) refl (p x) refl
 

@@ -1,4 +1,5 @@
 pub mod EnumRows
 pub mod EnumTrees
 pub mod MeantEnums
+pub mod MeantPlaces
 pub mod ReadScenes

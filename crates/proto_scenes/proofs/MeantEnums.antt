@@ -12,45 +12,12 @@ use Rattle.proto_names.specs.declared.references.Meant.{Meant}
 use Rattle.proto_names.proofs.LinkMeanings.{rising_by}
 use Rattle.proto_parts.specs.declared.scene.MeantAt.{MeantAt}
 use Rattle.proto_parts.specs.Scenes.{EnumOf, MeantOf}
+use Rattle.proto_scenes.proofs.MeantPlaces.{place_meant}
 use Rattle.proto_scenes.specs.Common.{enum_of_name, meant_in_table, enum_at, enum_named, meaning_of, meant_as, means_of}
 
 -- as the tokens of other elements rise, so do these
 pub means_rise : (xs : List MeantAt) (ys : List Meant) → map (λ m. m.token) xs ≡ map (λ m. m.token) ys → AllPairs (λ a b. a.token < b.token) ys → AllPairs (λ a b. a.token < b.token) xs
 means_rise = rising_by (λ m. m.token) (λ m. m.token)
-
--- ---- finding one that is there
-
-pub record Found {A : Type 0} (p : A → Bool) (xs : List A) : Type 0 where
-  pub it : A
-  pub is : find p xs ≡ Some it
-  pub there : Contains xs it
-  pub passes : p it ≡ true
-
-found : {A : Type 0} (p : A → Bool) (xs : List A) (x : A) → Contains xs x → p x ≡ true → Found p xs
-found p [] x c e = absurd (omega (arith, c.1))
-found {A} p (y ∷ xs) x c e = go (λ d. found p xs x d e) (p y) refl
-  where
-    go : (Contains xs x → Found p xs) → (b : Bool) → p y ≡ b → Found p (y ∷ xs)
-    go on true f = record { it = y; is = ap (λ (b : Bool). cond b (Some y) (find p xs)) f; there = contains_head y xs; passes = f }
-    go on false f = elim (contains_cases y x xs c) [
-      | inl same ↦ (let t : p y ≡ true = ap p same ∙ e in absurd (cc))
-      | inr later ↦ (let r = on later in record { it = r.it; is = ap (λ (b : Bool). cond b (Some y) (find p xs)) f ∙ r.is; there = contains_later y r.it xs r.there; passes = r.passes })
-    ]
-
-type_is_no_package : (k : Kind) → is_type k ≡ true → k ≢ Package
-type_is_no_package k t e = let f : is_type k ≡ false = ap is_type e in absurd (cc)
-
-in_no_package : (k : Kind) → is_type k ≡ true → is_package k ≡ false
-in_no_package Package t = sym t
-in_no_package Message t = refl
-in_no_package Entry t = refl
-in_no_package Enum t = refl
-in_no_package Service t = refl
-in_no_package Field t = refl
-in_no_package EntryField t = refl
-in_no_package Oneof t = refl
-in_no_package Value t = refl
-in_no_package Method t = refl
 
 -- the enum of a name that is no package's
 enum_there : (l : LinkOf) (enum : At → Option EnumOf) (row : ℕ) (n : NameOf) → name_at l row ≡ Some n → is_package n.kind ≡ false → enum_of_name l enum row ≡ enum (at (get_or n.files 0 0) n.token)
@@ -59,34 +26,14 @@ enum_there l enum row n h other =
     ∙ ap (λ (b : Bool). option_and_then (λ file. option_and_then (λ token. enum (at file token)) (if b then None else Some n.token)) (if b then None else Some (get_or n.files 0 0))) other
 
 module _ (files : List FileOf) (reads : List ReadOf) (l : LinkOf) (link : IsLinkRead files reads l) (enum : At → Option EnumOf) (table : (a : At) → enum a ≡ enum_at files reads a) where
-  -- the name of a symbol has its kind
-  same_kind : (row : ℕ) (n : NameOf) → name_at l row ≡ Some n → (s : Symbol) → Contains (names_of_files files reads).symbols s → n.text ≡ joined s.name → n.kind ≡ s.kind
-  same_kind row n h s c e =
-      let x = link.by.names.there s c in
-      let here : row ≡ x.0 = link.by.names.once row x.0 n x.1 h x.2 (e ∙ sym x.3) in
-      let same : n ≡ x.1 = same_Some n x.1 (sym h ∙ ap (name_at l) here ∙ x.2) in
-      ap (λ (y : NameOf). y.kind) same ∙ x.4
-
   -- the enum at the place of a name that is meant
   enum_meant : (file : ℕ) (u : Used ℕ) (name : List (List ℕ)) → meaning_of files reads file u ≡ Some name → (row : ℕ) (n : NameOf) → name_at l row ≡ Some n → n.text ≡ joined name → enum_of_name l enum row ≡ enum_named files reads name
   enum_meant file u name means row n h text =
-      let declared = (link_skeleton files reads).declared in
-      let spelled : Declared At → List (List ℕ) = λ d. name_of (text_of files reads) entry_name d.path in
-      let t = meant (names_of_files files reads) (used_named (text_of files reads) file u) name means in
-      let kind : n.kind ≡ t.0.kind = same_kind row n h t.0 t.1 (text ∙ ap joined (sym t.2)) in
-      let type : is_type n.kind ≡ true = ap is_type kind ∙ t.3 in
-      let d0 = from_map (symbol_of (text_of files reads) entry_name) declared t.0 t.1 in
-      let named : spelled d0.0 ≡ name = ap (λ (s : Symbol). s.name) d0.2 ∙ t.2 in
-      let f = found (λ d. same_name (spelled d) name) declared d0.0 d0.1 (same_from_name (spelled d0.0) name named) in
-      let d = f.it in
-      let same : spelled d ≡ name = name_from_same (spelled d) name f.passes in
-      let kind_there : n.kind ≡ d.kind = same_kind row n h (symbol_of (text_of files reads) entry_name d) (contains_map (symbol_of (text_of files reads) entry_name) declared d f.there) (text ∙ ap joined (sym same)) in
-      let other : d.kind ≢ Package = type_is_no_package d.kind (ap is_type (sym kind_there) ∙ type) in
-      let place = (stands_at (text_of files reads) (link_skeleton files reads) l link.by d f.there other row n h (text ∙ ap joined (sym same))).1 in
-      enum_there l enum row n h (in_no_package n.kind type)
+      let p = place_meant files reads l link file u name means row n h text in
+      enum_there l enum row n h p.other
       ∙ table (at (get_or n.files 0 0) n.token)
-      ∙ ap (enum_at files reads) place
-      ∙ sym (ap (option_and_then (λ (x : Declared At). enum_at files reads (place_of x))) f.is)
+      ∙ ap (enum_at files reads) p.place
+      ∙ sym (ap (option_and_then (λ (x : Declared At). enum_at files reads (place_of x))) p.is)
 
   one_meant : (file : ℕ) (m : Meant) (u : Used ℕ) → meant_by_link l m ≡ meant_by_use files reads file u → m.row < length l.names → meant_in_table l enum m ≡ meant_as files reads u.first (meaning_of files reads file u)
   one_meant file m u e within =

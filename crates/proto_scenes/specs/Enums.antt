@@ -33,6 +33,7 @@ is_enum (header.Message h) = false
 is_enum (header.Oneof h) = false
 is_enum (header.Service h) = false
 is_enum (header.Method s) = false
+is_enum (header.Extend e) = false
 
 -- the blocks of a tree that are enums, in messages and outside them, in order
 abbrev pub enums_in : Tree → List BlockOf

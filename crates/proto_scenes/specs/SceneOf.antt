@@ -57,6 +57,7 @@ is_enum_at token (header.Message h) = false
 is_enum_at token (header.Oneof h) = false
 is_enum_at token (header.Service h) = false
 is_enum_at token (header.Method s) = false
+is_enum_at token (header.Extend e) = false
 
 -- the enum whose name is at this token of a file, if it is an enum's
 abbrev pub enum_at : List FileOf → List ReadOf → At → Option EnumOf

@@ -20,7 +20,7 @@ fn push_members<'a>(found: &mut Vec<&'a Enum>, members: &'a [Member]) -> Result<
 }
 
 #[cycle(enums)]
-#[tactic(auto, using(crate::proofs::EnumTrees::enum_alone, crate::proofs::EnumTrees::message_enums, crate::proofs::EnumTrees::oneof_enums))]
+#[tactic(auto, using(crate::proofs::EnumTrees::enum_alone, crate::proofs::EnumTrees::message_enums, crate::proofs::EnumTrees::oneof_enums, crate::proofs::EnumTrees::extend_enums))]
 fn push_member<'a>(found: &mut Vec<&'a Enum>, member: &'a Member) -> Result<(), NoMemory>
     ensures { OnOk result (map (λ e. enum_block e.now) found.new.items
         ≡ map (λ e. enum_block e.now) found.old.items ++ enums_in (member_tree member.now)) }
@@ -29,12 +29,13 @@ fn push_member<'a>(found: &mut Vec<&'a Enum>, member: &'a Member) -> Result<(), 
         Member::Enum(enumeration) => found.push(enumeration)?,
         Member::Message(message) => push_members(found, &message.members)?,
         Member::Oneof(_) => {}
+        Member::Extend(_) => {}
         _ => {}
     }
     Ok(())
 }
 
-#[tactic(auto, using(crate::proofs::EnumTrees::enum_alone, crate::proofs::EnumTrees::message_enums, crate::proofs::EnumTrees::oneof_enums, crate::proofs::EnumTrees::service_enums))]
+#[tactic(auto, using(crate::proofs::EnumTrees::enum_alone, crate::proofs::EnumTrees::message_enums, crate::proofs::EnumTrees::oneof_enums, crate::proofs::EnumTrees::service_enums, crate::proofs::EnumTrees::extend_enums))]
 fn push_item<'a>(found: &mut Vec<&'a Enum>, item: &'a Item) -> Result<(), NoMemory>
     ensures { OnOk result (map (λ e. enum_block e.now) found.new.items
         ≡ map (λ e. enum_block e.now) found.old.items ++ enums_in (item_tree item.now)) }
@@ -43,6 +44,7 @@ fn push_item<'a>(found: &mut Vec<&'a Enum>, item: &'a Item) -> Result<(), NoMemo
         Item::Enum(enumeration) => found.push(enumeration)?,
         Item::Message(message) => push_members(found, &message.members)?,
         Item::Service(_) => {}
+        Item::Extend(_) => {}
         _ => {}
     }
     Ok(())

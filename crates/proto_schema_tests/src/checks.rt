@@ -1,4 +1,4 @@
-//! One schema and more for each fault of the checks, with the place of the fault.
+//! One schema and more for each fault of the checks of one file, with the place of the fault.
 
 use crate::calls::expect_answers;
 
@@ -298,6 +298,66 @@ const OTHERS: &[(&str, &str)] = &[
     ),
 ];
 
+// An extension is asked as a field, but for its name, its JSON name and the numbers of others.
+const EXTENSIONS: &[(&str, &str)] = &[
+    (
+        "a.proto message M { extensions 1 to max; } extend M { optional int32 x = 0; }",
+        "a.proto:65: 17 NumberRange",
+    ),
+    (
+        "a.proto message M { extensions 1 to max; } extend M { repeated M x = 536870912; }",
+        "a.proto:61: 17 NumberRange",
+    ),
+    (
+        "a.proto message M { extensions 1 to max; extend M { optional int32 x = 19000; } }",
+        "a.proto:63: 17 NumberRange",
+    ),
+    (
+        "a.proto message M { extensions 1; } extend M { M x = 1; }",
+        "a.proto:39: 25 Label",
+    ),
+    (
+        "a.proto message M { extensions 1; } extend M { required int32 x = 1; }",
+        "a.proto:39: 38 RequiredExtension",
+    ),
+    (
+        "a.proto message M { extensions 1; extend M { required int32 x = 0; } }",
+        "a.proto:37: 38 RequiredExtension",
+    ),
+    (
+        "a.proto message M { extensions 1; } extend M { optional int32 x = 1 [json_name = \"y\"]; }",
+        "a.proto:61: 27 BadOption",
+    ),
+    (
+        "a.proto message M { extensions 1; } extend M { optional int32 x = 1 [packed = true]; }",
+        "a.proto:61: 27 BadOption",
+    ),
+    (
+        "a.proto message M { extensions 1; } extend M { optional int32 x = 1 [deprecated = true, deprecated = true]; }",
+        "a.proto:80: 27 BadOption",
+    ),
+    (
+        "a.proto message M { extensions 1; } extend M { optional int32 x = 1 [default = 2147483648]; }",
+        "a.proto:61: 28 BadDefault",
+    ),
+    (
+        "a.proto message M { reserved 2 to 9; reserved \"x\"; extensions 1; } extend M { optional int32 x = 1 [packed = true]; }",
+        "a.proto:92: 27 BadOption",
+    ),
+    (
+        "a.proto message N { extensions 1; } message M { extensions 1; extend M { optional int32 x = 1; } extend N { optional int32 y = 1 [packed = true]; } }",
+        "a.proto:122: 27 BadOption",
+    ),
+    (
+        "a.proto syntax = \"proto3\"; message M {} extend M { required int32 x = 0; }",
+        "a.proto:32: 31 NotInProto3",
+    ),
+    (
+        "a.proto syntax = \"proto3\"; message M { extend M { int32 x = 1 [default = 1]; } }",
+        "a.proto:31: 31 NotInProto3",
+    ),
+];
+
 #[test]
 fn numbers_are_refused_at_their_place(rt: HostRuntime) {
     expect_answers(&rt, NUMBERS);
@@ -321,6 +381,11 @@ fn defaults_are_refused_at_their_place(rt: HostRuntime) {
 #[test]
 fn other_faults_stand_at_their_place(rt: HostRuntime) {
     expect_answers(&rt, OTHERS);
+}
+
+#[test]
+fn extensions_are_refused_at_their_place(rt: HostRuntime) {
+    expect_answers(&rt, EXTENSIONS);
 }
 
 const FAULTS_OF_TWO: &[(&str, &str)] = &[

@@ -12,6 +12,8 @@ mod compiling;
 #[cfg(test)]
 mod descriptors;
 #[cfg(test)]
+mod extensions;
+#[cfg(test)]
 mod inputs;
 #[cfg(test)]
 mod names;

@@ -2,6 +2,7 @@
 
 mod calls;
 mod clashes;
+mod extensions;
 mod faults;
 mod limits;
 mod meanings;

@@ -9,7 +9,7 @@ use Rattle.proto_tree.specs.declared.piece.Statement.TheVariants as statement
 use Rattle.proto_tree.proofs.Common.{Tree, End, Leaf, Block, dotted}
 use Rattle.proto_meaning.specs.declared.kind.Kind.{Kind}
 use Rattle.proto_meaning.specs.declared.kind.Kind.TheVariants as kind
-use Rattle.proto_meaning.proofs.Common.{Source, Token, EntryOf, Given, Items, Placed, all_placed, items_placed, key_word, package_of, place, placed, prefixes, map_field, value_word}
+use Rattle.proto_meaning.proofs.Common.{Source, Token, EntryOf, Given, Items, Placed, extend, all_placed, extend, items_placed, key_word, package_of, place, placed, prefixes, map_field, value_word}
 use Rattle.proto_listing.specs.FromTree.{block_names, field_names, items_in, members_in, method_names, no_names, picked, value_names}
 use Rattle.proto_files.proofs.Common.{read_at, file_at}
 use Rattle.proto_statement_laws.specs.Deletions.{FieldsStandOnce, IsFieldOf, StandsAt, InMessage, InOneof, Deeper, PastLeaf, PastBlock, StandsIn, First, AfterLeaf, AfterBlock}
@@ -113,6 +113,13 @@ value_apart e = cc
 method_apart : kind.Method ≡ kind.Field → ⊥
 method_apart e = cc
 
+-- an extension is no field
+no_extension : {P : Type 0} (path : List (Source ℕ)) (t : Tree) (p : Placed) → p.kind ≡ kind.Field → Contains (placed path (extend (picked field_names no_names t))) p → P
+no_extension path t p f c = no_beside path kind.Extension (picked field_names no_names t) p apart f c
+  where
+    apart : kind.Extension ≡ kind.Field → ⊥
+    apart e = cc
+
 -- ---- the fields of a oneof
 
 among : (t : Tree) (name : ℕ) → Contains (picked field_names no_names t) name → IsRight t name
@@ -164,6 +171,10 @@ in_members (Block (header.Enum h) i within j rest) path p c f = elim (contains_c
     | inr b ↦ past_block (header.Enum h) i within j rest p (in_members rest path p b f)
   ]
 ]
+in_members (Block (header.Extend e) i within j rest) path p c f = elim (Contains-append_cases (placed path (extend (picked field_names no_names within))) (all_placed path (members_in rest)) p c) [
+  | inl a ↦ no_extension path within p f a
+  | inr b ↦ past_block (header.Extend e) i within j rest p (in_members rest path p b f)
+]
 in_members (Block whole i within j rest) path p c f = past_block whole i within j rest p (in_members rest path p c f)
 
 -- ---- a file
@@ -204,6 +215,10 @@ in_file (Block (header.Service h) i within j rest) path p c f = elim (contains_c
     | inl a ↦ no_beside (path ++ Token h.name ∷ []) kind.Method (picked method_names block_names within) p method_apart f a
     | inr b ↦ block_there (header.Service h) i within j rest p (in_file rest path p b f)
   ]
+]
+in_file (Block (header.Extend e) i within j rest) path p c f = elim (Contains-append_cases (placed path (extend (picked field_names no_names within))) (items_placed path (items_in rest)) p c) [
+  | inl a ↦ no_extension path within p f a
+  | inr b ↦ block_there (header.Extend e) i within j rest p (in_file rest path p b f)
 ]
 in_file (Block whole i within j rest) path p c f = block_there whole i within j rest p (in_file rest path p c f)
 

@@ -1,7 +1,9 @@
 mod Decimals
 mod Declared
 mod Enums
+mod Extensions
 mod FieldNamed
+mod FoundBlocks
 mod NamedFiles
 mod NamedTrees
 mod OneRead

@@ -5,11 +5,12 @@ use Rattle.proto_tree.specs.declared.piece.Header.TheVariants as header
 use Rattle.proto_tree.specs.declared.piece.Heading.{Heading}
 use Rattle.proto_tree.specs.declared.piece.Statement.{Statement}
 use Rattle.proto_tree.specs.declared.piece.Statement.TheVariants as statement
+use Rattle.proto_tree.specs.Moved.{move_extending}
 use Rattle.proto_tree.proofs.Common.{Move, move_header, move_separated, move_statement, move_tree, dotted, Tree, End, Leaf, Block}
 use Rattle.proto_meaning.specs.declared.kind.Kind.TheVariants as kind
-use Rattle.proto_meaning.proofs.Common.{Source, Token, Used, shifted_source, shifted_used, Placed, all_placed, beside, items_placed, package_of, place, prefixes, map_map}
-use Rattle.proto_listing.proofs.Common.{file_names, statement_uses, block_names, flat_uses, item_uses, items_in, member_uses, members_in, method_names, no_names, picked, value_names, dotted_moved}
-use Rattle.proto_statement_names.proofs.Common.{MayGoAt, HasMore, IsAny, move_placed, both_moved, flat_uses_moved, item_uses_moved, items_moved, member_uses_moved, names_moved, path_more, path_of, prefixes_moved}
+use Rattle.proto_meaning.proofs.Common.{Source, Token, Used, shifted_source, shifted_used, Placed, all_placed, beside, extend, items_placed, package_of, place, placed, prefixes, map_map}
+use Rattle.proto_listing.proofs.Common.{file_names, statement_uses, block_names, field_names, flat_uses, item_uses, items_in, member_uses, members_in, method_names, no_names, picked, value_names, dotted_moved}
+use Rattle.proto_statement_names.proofs.Common.{MayGoAt, HasMore, IsAny, move_placed, both_moved, extend_moved, extend_uses, flat_uses_moved, item_uses_moved, items_moved, member_uses_moved, names_moved, path_more, path_of, prefixes_moved}
 use Rattle.proto_statement_described.specs.Deletions.{BehindBlock, BehindLeaf, Deeper, InMessage, IsDeletedIn, Reservation, WrittenField, statement_of}
 use Rattle.proto_statement_described.proofs.DeletedHeads.{imports_less, packages_less}
 use Rattle.proto_statement_deleted.specs.NamedTrees.{TreesAreNamed}
@@ -40,6 +41,7 @@ block_split path (header.Message y) i within j x = ap (λ (z : List Placed). z +
 block_split path (header.Enum y) i within j x = ap (λ (z : List Placed). z ++ items_placed path (items_in x)) (sym (append-nil (beside path y.name kind.Enum kind.Value (picked value_names no_names within))))
 block_split path (header.Service y) i within j x =
     ap (λ (z : List Placed). z ++ items_placed path (items_in x)) (sym (append-nil (place path (Token y.name) kind.Service ∷ map (λ m. place (path ++ Token y.name ∷ []) (Token m) kind.Method) (picked method_names block_names within))))
+block_split path (header.Extend e) i within j x = ap (λ (z : List Placed). z ++ items_placed path (items_in x)) (sym (append-nil (placed path (extend (picked field_names no_names within)))))
 block_split path whole i within j x = refl
 
 block_item : (h : Move) (path : List (Source ℕ)) (y : Header) (i : ℕ) (within : Tree) (j : ℕ) → OneItem h path (λ x. Block y i within j x) (λ t. Block (move_header h y) (h i) (move_tree h within) (h j) t)
@@ -69,6 +71,8 @@ module _ (g : Move) where
   uses_past_item P scope (header.Service h) i within j x t m =
       behind_more (shifted_used g) P (item_uses scope x) (item_uses (path_of g scope) t) (flat_uses (scope ++ Token h.name ∷ []) within) (flat_uses (path_of g scope ++ Token (g h.name) ∷ []) (move_tree g within))
       (ap (λ p. flat_uses p (move_tree g within)) (sym (path_more g scope (Token h.name))) ∙ flat_uses_moved g (scope ++ Token h.name ∷ []) within) m
+  uses_past_item P scope (header.Extend e) i within j x t m =
+      behind_more (shifted_used g) P (item_uses scope x) (item_uses (path_of g scope) t) (extend_uses scope e within) (extend_uses (path_of g scope) (move_extending g e) (move_tree g within)) (extend_moved g scope e within) m
   uses_past_item P scope whole i within j x t m = m
 
   uses_same_item : (scope : List (Source ℕ)) (h : Header) (i : ℕ) (within : Tree) (j : ℕ) (x t : Tree) → item_uses (path_of g scope) t ≡ map (shifted_used g) (item_uses scope x)
@@ -77,6 +81,7 @@ module _ (g : Move) where
       both_moved g (member_uses (scope ++ Token h.name ∷ []) within) (item_uses scope x) _ _ (ap (λ p. member_uses p (move_tree g within)) (sym (path_more g scope (Token h.name))) ∙ member_uses_moved g (scope ++ Token h.name ∷ []) within) m
   uses_same_item scope (header.Service h) i within j x t m =
       both_moved g (flat_uses (scope ++ Token h.name ∷ []) within) (item_uses scope x) _ _ (ap (λ p. flat_uses p (move_tree g within)) (sym (path_more g scope (Token h.name))) ∙ flat_uses_moved g (scope ++ Token h.name ∷ []) within) m
+  uses_same_item scope (header.Extend e) i within j x t m = both_moved g (extend_uses scope e within) (item_uses scope x) _ _ (extend_moved g scope e within) m
   uses_same_item scope whole i within j x t m = m
 
 -- ---- the three trees

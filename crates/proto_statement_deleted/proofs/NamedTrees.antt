@@ -7,11 +7,12 @@ use Rattle.proto_tree.specs.declared.piece.Heading.{Heading}
 use Rattle.proto_tree.specs.declared.piece.Statement.{Statement}
 use Rattle.proto_tree.specs.declared.piece.Statement.TheVariants as statement
 use Rattle.proto_tree.specs.declared.tree.Field.{Field}
+use Rattle.proto_tree.specs.Moved.{move_extending}
 use Rattle.proto_tree.proofs.Common.{Move, move_header, move_statement, move_tree, Tree, End, Leaf, Block}
 use Rattle.proto_meaning.specs.declared.kind.Kind.TheVariants as kind
-use Rattle.proto_meaning.proofs.Common.{Source, Token, Used, shifted_used, Placed, all_placed, beside, map_field, place, placed, map_append}
+use Rattle.proto_meaning.proofs.Common.{Source, Token, Used, shifted_used, Placed, all_placed, beside, extend, map_field, place, placed, map_append}
 use Rattle.proto_listing.specs.FromTree.{field_names, flat_uses, member_uses, members_in, no_names, picked, statement_uses, value_names}
-use Rattle.proto_statement_names.proofs.Common.{MayGoAt, HasMore, move_placed, more_back, more_front, both_moved, field_names_moved, fields_picked, flat_uses_moved, member_uses_moved, members_moved, path_more, path_of, statement_moved}
+use Rattle.proto_statement_names.proofs.Common.{MayGoAt, HasMore, move_placed, more_back, more_front, both_moved, extend_moved, extend_uses, field_names_moved, fields_picked, flat_uses_moved, member_uses_moved, members_moved, path_more, path_of, statement_moved}
 use Rattle.proto_statement_described.specs.Deletions.{AtField, AtOneof, BehindBlock, BehindLeaf, Deeper, Found, FurtherOn, InMessage, IsAmong, IsDeletedIn, IsDeletedRight, OfMap, PastBlock, PastLeaf, Plain, Reservation, WrittenField, statement_of}
 
 -- ---- moved lists with more in them
@@ -61,6 +62,7 @@ block_first : (path : List (Source ℕ)) (h : Header) (i : ℕ) (within : Tree) 
 block_first path (header.Message h) i within j rest = ap (λ (z : List Placed). place path (Token h.name) kind.Message ∷ z) (sym (append_assoc (all_placed (path ++ Token h.name ∷ []) (members_in within)) [] (all_placed path (members_in rest))))
 block_first path (header.Oneof h) i within j rest = sym (append_assoc (beside path h.name kind.Oneof kind.Field (picked field_names no_names within)) [] (all_placed path (members_in rest)))
 block_first path (header.Enum h) i within j rest = sym (append_assoc (beside path h.name kind.Enum kind.Value (picked value_names no_names within)) [] (all_placed path (members_in rest)))
+block_first path (header.Extend e) i within j rest = sym (append_assoc (placed path (extend (picked field_names no_names within))) [] (all_placed path (members_in rest)))
 block_first path whole i within j rest = refl
 
 -- ---- behind an item
@@ -102,6 +104,8 @@ module _ (g : Move) where
       (ap (λ p. member_uses p (move_tree g within)) (sym (path_more g scope (Token h.name))) ∙ member_uses_moved g (scope ++ Token h.name ∷ []) within) m
   uses_past_block P scope (header.Oneof h) i within j x t m =
       behind_more (shifted_used g) P (member_uses scope x) (member_uses (path_of g scope) t) (flat_uses scope within) (flat_uses (path_of g scope) (move_tree g within)) (flat_uses_moved g scope within) m
+  uses_past_block P scope (header.Extend e) i within j x t m =
+      behind_more (shifted_used g) P (member_uses scope x) (member_uses (path_of g scope) t) (extend_uses scope e within) (extend_uses (path_of g scope) (move_extending g e) (move_tree g within)) (extend_moved g scope e within) m
   uses_past_block P scope whole i within j x t m = m
 
   uses_same_block : (scope : List (Source ℕ)) (h : Header) (i : ℕ) (within : Tree) (j : ℕ) (x t : Tree) → member_uses (path_of g scope) t ≡ map (shifted_used g) (member_uses scope x)
@@ -109,6 +113,7 @@ module _ (g : Move) where
   uses_same_block scope (header.Message h) i within j x t m =
       both_moved g (member_uses (scope ++ Token h.name ∷ []) within) (member_uses scope x) _ _ (ap (λ p. member_uses p (move_tree g within)) (sym (path_more g scope (Token h.name))) ∙ member_uses_moved g (scope ++ Token h.name ∷ []) within) m
   uses_same_block scope (header.Oneof h) i within j x t m = both_moved g (flat_uses scope within) (member_uses scope x) _ _ (flat_uses_moved g scope within) m
+  uses_same_block scope (header.Extend e) i within j x t m = both_moved g (extend_uses scope e within) (member_uses scope x) _ _ (extend_moved g scope e within) m
   uses_same_block scope whole i within j x t m = m
 
   -- ---- among the fields of a oneof

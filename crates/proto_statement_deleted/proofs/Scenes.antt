@@ -13,8 +13,8 @@ use Rattle.proto_statement_described.proofs.Common.{enum_named, is_proto3_file, 
 use Rattle.proto_checks_laws.proofs.MovedParts.{maps_moved}
 use Rattle.proto_statement_names.proofs.Common.{MeanTheSame, HasMore, more_has, index_past}
 use Rattle.proto_statement_names.proofs.Less.{type_stays as type_keeps}
-use Rattle.proto_statement_deleted.specs.Scenes.{IsReadWithout, OtherScenesStay, ScenesHaveTokens}
-use Rattle.proto_statement_deleted.proofs.Declared.{named, new_text, old_text, other_lexemes, other_texts, other_version, same_version, type_stays}
+use Rattle.proto_statement_deleted.specs.Scenes.{IsReadWithout, ScenesHaveTokens}
+use Rattle.proto_statement_deleted.proofs.Declared.{named, new_text, old_text, other_lexemes, other_texts, other_version, same_version, enum_stays}
 use Rattle.proto_statement_deleted.proofs.NamedFiles.{used_more}
 use Rattle.proto_statement_deleted.proofs.Spelled.{other_reference, referred_by}
 
@@ -27,7 +27,7 @@ is_referred files reads f l u c =
     contains_map (reference_of (text_of files reads) entry_name) (link_skeleton files reads).used (used_in f u) (subst (λ m. Contains (link_skeleton files reads).used (used_in m u)) zero_is (use_in 0 f reads u l c))
 
 -- a file that uses something is there
-is_there : (reads : List ReadOf) (f : ℕ) (u : Used ℕ) → Contains (uses_of reads f) u → f < length reads
+pub is_there : (reads : List ReadOf) (f : ℕ) (u : Used ℕ) → Contains (uses_of reads f) u → f < length reads
 is_there reads f u c = elim (cases_lt f (length reads)) [
   | inl l ↦ l
   | inr ge ↦
@@ -47,7 +47,7 @@ whole files reads t None = refl
 whole files reads t (Some name) = refl
 
 -- a list that is mapped is cut where its image is
-cut_map : {A B : Type 0} (f : A → B) (xs : List A) (front back : List B) → map f xs ≡ front ++ back → (a : List A) × (b : List A) × (xs ≡ a ++ b) × (map f a ≡ front) × (map f b ≡ back)
+pub cut_map : {A B : Type 0} (f : A → B) (xs : List A) (front back : List B) → map f xs ≡ front ++ back → (a : List A) × (b : List A) × (xs ≡ a ++ b) × (map f a ≡ front) × (map f b ≡ back)
 cut_map f xs [] back e = ([], xs, refl, refl, e)
 cut_map f [] (y ∷ front) back e = absurd cc
 cut_map f (x ∷ xs) (y ∷ front) back e =
@@ -66,7 +66,7 @@ module _ (files : List FileOf) (reads : List ReadOf) (after : List FileOf) (seen
       let m = has_meaning (meaning v q) (linked.resolved q c) in
       let t = meant v q m.0 m.1 in
       let keeps = type_keeps t.0.kind t.3 (linked.no_entry q c t.0 t.1 (m.1 ∙ ap Some (sym t.2))) in
-      let enum : enum_named after seen m.0 ≡ enum_named files reads m.0 = subst (λ n. enum_named after seen n ≡ enum_named files reads n) t.2 (type_stays files reads after seen place g k w r x without is linked t.0 t.1 keeps) in
+      let enum : enum_named after seen m.0 ≡ enum_named files reads m.0 = subst (λ n. enum_named after seen n ≡ enum_named files reads n) t.2 (enum_stays files reads after seen place g k w r x without is linked t.0 t.1 keeps) in
       ap (meant_as after seen a) (same q c ∙ m.1)
       ∙ ap (λ (e : Option EnumOf). let z : MeantOf = record { token = a; name = joined m.0; enum = e } in z) enum
       ∙ ap (λ (o : Option (List (List ℕ))). let z : MeantOf = record { token = a; name = (meant_as files reads b o).name; enum = (meant_as files reads b o).enum } in z) (sym m.1)
@@ -89,7 +89,7 @@ module _ (files : List FileOf) (reads : List ReadOf) (after : List FileOf) (seen
   old_each : (u : Used ℕ) → meant_in files reads place (shifted_used g u) ≡ move_meant g (mid_meant u)
   old_each u = whole files reads (g u.first) (meaning_of files reads place (shifted_used g u))
 
-  more : HasMore (λ (u : Used ℕ). (i : ℕ) → u.first ≢ g i) (map (shifted_used g) (file_names x).used) (uses_of reads place)
+  pub more : HasMore (λ (u : Used ℕ). (i : ℕ) → u.first ≢ g i) (map (shifted_used g) (file_names x).used) (uses_of reads place)
   more = used_more g k w r (λ (u : Used ℕ). (i : ℕ) → u.first ≢ g i) is.own x (tree_at reads place) (tree_at seen place) is.trees
 
   old_tokens : HasTokens g middle (scene_at files reads place)
@@ -114,14 +114,24 @@ module _ (files : List FileOf) (reads : List ReadOf) (after : List FileOf) (seen
   here : place < length reads
   here = let l = is.within in let s = is.read.same in omega (arith, l, s)
 
+  -- a reference of the tree of neither is the same in the old file and in the new one
+  referred : (u : Used ℕ) → used_named (text_of after seen) place (shifted_used k u) ≡ used_named (text_of files reads) place (shifted_used g u)
+  referred u =
+      referred_by place k (text_of after seen) (word_at without) (new_text files reads after seen place g k w r x without is linked) u
+      ∙ sym (referred_by place g (text_of files reads) (word_at without) (old_text files reads after seen place g k w r x without is linked) u)
+
+  refers : (u : Used ℕ) → Contains (file_names x).used u → Contains (names_of_files files reads).references (used_named (text_of files reads) place (shifted_used g u))
+  refers u c =
+      let there : Contains (uses_of reads place) (shifted_used g u) = more_has (λ (v : Used ℕ). (i : ℕ) → v.first ≢ g i) (map (shifted_used g) (file_names x).used) (uses_of reads place) more (shifted_used g u) (contains_map (shifted_used g) (file_names x).used u c) in
+      is_referred files reads place here (shifted_used g u) there
+
+  pub meaning_alike : (u : Used ℕ) → Contains (file_names x).used u → meaning_of after seen place (shifted_used k u) ≡ meaning_of files reads place (shifted_used g u)
+  meaning_alike u c = ap (meaning (names_of_files after seen)) (referred u) ∙ same (used_named (text_of files reads) place (shifted_used g u)) (refers u c)
+
   new_each : (u : Used ℕ) → Contains (file_names x).used u → meant_in after seen place (shifted_used k u) ≡ move_meant k (mid_meant u)
   new_each u c =
-      let q = used_named (text_of files reads) place (shifted_used g u) in
-      let there : Contains (uses_of reads place) (shifted_used g u) = more_has (λ (v : Used ℕ). (i : ℕ) → v.first ≢ g i) (map (shifted_used g) (file_names x).used) (uses_of reads place) more (shifted_used g u) (contains_map (shifted_used g) (file_names x).used u c) in
-      let as_referred : used_named (text_of after seen) place (shifted_used k u) ≡ q =
-      referred_by place k (text_of after seen) (word_at without) (new_text files reads after seen place g k w r x without is linked) u
-      ∙ sym (referred_by place g (text_of files reads) (word_at without) (old_text files reads after seen place g k w r x without is linked) u) in
-      ap (λ (z : Reference). meant_as after seen (k u.first) (meaning (names_of_files after seen) z)) as_referred ∙ meant_alike q (is_referred files reads place here (shifted_used g u) there) (k u.first) (g u.first)
+      ap (λ (z : Reference). meant_as after seen (k u.first) (meaning (names_of_files after seen) z)) (referred u)
+      ∙ meant_alike (used_named (text_of files reads) place (shifted_used g u)) (refers u c) (k u.first) (g u.first)
 
   new_tokens : HasTokens k middle (scene_at after seen place)
   new_tokens =
@@ -143,16 +153,22 @@ module _ (files : List FileOf) (reads : List ReadOf) (after : List FileOf) (seen
 
   -- ---- other files
 
+  other_referred : (j : ℕ) → j ≢ place → (u : Used ℕ) → used_named (text_of after seen) j u ≡ used_named (text_of files reads) j u
+  other_referred j n = other_reference j (text_of files reads) (text_of after seen) (other_texts files reads after seen place g k w r x without is linked j n)
+
+  pub other_meaning : (j : ℕ) → j ≢ place → (u : Used ℕ) → Contains (uses_of reads j) u → meaning_of after seen j u ≡ meaning_of files reads j u
+  other_meaning j n u c = ap (meaning (names_of_files after seen)) (other_referred j n u) ∙ same (used_named (text_of files reads) j u) (is_referred files reads j (is_there reads j u c) u c)
+
   other_means : (j : ℕ) → j ≢ place → means_of after seen j ≡ means_of files reads j
   other_means j n =
       ap (λ (s : ReadOf). map (meant_in after seen j) (file_names s.tree).used) (is.reads_stay j n)
       ∙ map_agree (meant_in after seen j) (meant_in files reads j) (uses_of reads j) (λ u c.
       let q = used_named (text_of files reads) j u in
-      ap (λ (z : Reference). meant_as after seen u.first (meaning (names_of_files after seen) z)) (other_reference j (text_of files reads) (text_of after seen) (other_texts files reads after seen place g k w r x without is linked j n) u)
+      ap (λ (z : Reference). meant_as after seen u.first (meaning (names_of_files after seen) z)) (other_referred j n u)
       ∙ meant_alike q (is_referred files reads j (is_there reads j u c) u c) u.first u.first
       ∙ sym (whole files reads u.first (meaning_of files reads j u)))
 
-  other_scene : (j : ℕ) → j ≢ place → scene_at after seen j ≡ scene_at files reads j
+  pub other_scene : (j : ℕ) → j ≢ place → scene_at after seen j ≡ scene_at files reads j
   other_scene j n =
       λ i. record {
         lexemes = other_lexemes files reads after seen place g k w r x without is linked j n i;
@@ -166,15 +182,4 @@ scenes_have_tokens files reads after seen place g k w r x without is linked same
   middle = middle files reads after seen place g k w r x without is linked same;
   old = old_tokens files reads after seen place g k w r x without is linked same;
   new = new_tokens files reads after seen place g k w r x without is linked same;
-}
-
-pub other_scenes_stay : OtherScenesStay
-other_scenes_stay files reads after seen place g k w r x without is linked same = record {
-  read = is.read;
-  seen_are = is.seen_are;
-  count = is.count;
-  within = is.within;
-  paths = is.paths;
-  trees = λ j n. ap (λ (s : ReadOf). s.tree) (is.reads_stay j n);
-  scenes = other_scene files reads after seen place g k w r x without is linked same;
 }

@@ -13,7 +13,7 @@ use Rattle.proto_numbers.specs.declared.flaw.Flaw.{Flaw}
 use Rattle.proto_numbers.specs.declared.numbers.NumberAt.{NumberAt}
 use Rattle.proto_numbers.proofs.Common.{flaw_if, field_number_flaws, is_field_number, is_within, most_field, number_of_field as numbered, outside, range_of}
 use Rattle.proto_parts.proofs.Common.{BlockOf, FieldOf, blocks_in, closed_ranges, fields_from, fields_in, options_in, statement_fields, statements, Scene, number_at, number_of as number_of_digits}
-use Rattle.proto_checks.proofs.Common.{field_flaws, option_flaws, block_flaws, flaws_in_blocks, message_flaws}
+use Rattle.proto_checks.proofs.Common.{field_flaws, file_flaws, option_flaws, block_flaws, flaws_in_blocks, message_flaws}
 use Rattle.proto_checks_laws.proofs.DeletedFlaws.{nil_parts}
 use Rattle.proto_parts.specs.declared.options.Element.TheVariants as element
 use Rattle.proto_statement_described.proofs.Common.{fault_of, flaws_of, of_flaw, OfMap, Plain, WrittenField, field_of, number_of, statement_of, scene_at}
@@ -156,7 +156,7 @@ small_enough n h =
 
 numbers_in_limits : (scene : Scene) (t : Tree) → message_flaws scene t ≡ [] → outside is_field_number (map (numbered scene) (fields_in t)) ≡ []
 numbers_in_limits scene t e =
-    let rest = (nil_parts (flat_map (field_flaws scene) (fields_in t)) _ e).1 in
+    let rest = (nil_parts (flat_map (field_flaws scene element.Field) (fields_in t)) _ e).1 in
     let numbers = (nil_parts (field_number_flaws (map (range_of scene) (flat_map closed_ranges (statements t))) (map (numbered scene) (fields_in t))) _ rest).0 in
     (nil_parts (outside is_field_number (map (numbered scene) (fields_in t))) _ numbers).0
 
@@ -171,7 +171,8 @@ numbers_are_small files reads f are clean at =
       | inr x ↦ absurd (start_no x.0)
     ] in
     let none : flaws_of files reads f.file ≡ [] = none_of (flaws_of files reads f.file) (λ x c. clean (fault_of files reads f.file x) (of_flaw reads f.file x are at.within c)) in
-    let blocks : flaws_in_blocks scene tree ≡ [] = (nil_parts (option_flaws scene element.File (options_in tree)) (flaws_in_blocks scene tree) none).1 in
+    let alone : file_flaws scene tree ≡ [] = (nil_parts (file_flaws scene tree) _ none).0 in
+    let blocks : flaws_in_blocks scene tree ≡ [] = (nil_parts (option_flaws scene element.File (options_in tree)) (flaws_in_blocks scene tree) alone).1 in
     let block : block_flaws scene it.block.header it.block.within ≡ [] = none_at (λ (b : BlockOf). block_flaws scene b.header b.within) (blocks_in tree) it.block it.within blocks in
     let message : message_flaws scene it.block.within ≡ [] = subst (λ (h : Header). block_flaws scene h it.block.within ≡ []) it.is block in
     let limits = numbers_in_limits scene it.block.within message in

@@ -25,10 +25,11 @@ use Rattle.proto_statement_deleted.specs.Workspace.{AreLeft, DeletionsAreDeletio
 use Rattle.proto_statement_deleted.proofs.Decimals.{decimals_are_numbers}
 use Rattle.proto_statement_deleted.proofs.Declared.{named, new_text, old_text, other_texts}
 use Rattle.proto_statement_deleted.proofs.Enums.{same_words}
+use Rattle.proto_statement_deleted.proofs.Extensions.{other_scenes_stay}
 use Rattle.proto_statement_changes.proofs.FieldNames.{name_is_word}
 use Rattle.proto_statement_deleted.proofs.OneRead.{around, come_in, here, many, other, paths_stay, read_here, read_other, same_path}
 use Rattle.proto_statement_deleted.proofs.OwnTokens.{first_stays, name_apart, reserved_behind, use_apart}
-use Rattle.proto_statement_deleted.proofs.Scenes.{other_scenes_stay, scenes_have_tokens}
+use Rattle.proto_statement_deleted.proofs.Scenes.{scenes_have_tokens}
 use Rattle.proto_statement_deleted.proofs.SmallNumbers.{numbers_are_small}
 use Rattle.proto_statement_deleted.proofs.Trees.{trees_are_deleted}
 use Rattle.proto_statement_deleted.proofs.Written.{IsWritten, written}

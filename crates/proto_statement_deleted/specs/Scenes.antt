@@ -62,7 +62,7 @@ ScenesHaveTokens =
     → MeanTheSame files reads after seen
     → HaveTokens files reads after seen place g k
 
--- and each other file reads the same.
+-- and each other file reads the same, and the extensions of all files stay.
 abbrev pub OtherScenesStay : Type 0
 OtherScenesStay =
     (files : List FileOf) (reads : List ReadOf) (after : List FileOf) (seen : List ReadOf)

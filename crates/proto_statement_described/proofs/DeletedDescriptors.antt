@@ -2,18 +2,19 @@
 use Rattle.std.proofs.Common.{◌≡◌, ℕ, ℤ, ◌+◌, ◌==◌, ◌||◌, length, true, false, List, [], ◌∷◌, ◌++◌, map, flat_map, Option, None, codes, refl, sym, ◌∙◌, ap, ap₂, if◌then◌else◌, eq-eqb}
 use Rattle.proto_faults.proofs.Common.{list_any, cond-false, cond-true, flat_map-append, map-append}
 use Rattle.proto_text.proofs.OneEdit.{length_map}
+use Rattle.proto_tree.specs.declared.piece.Extending.{Extending}
 use Rattle.proto_tree.specs.declared.piece.Statement.{Statement}
 use Rattle.proto_tree.specs.declared.piece.Statement.TheVariants as statement
 use Rattle.proto_tree.specs.declared.piece.Header.TheVariants as header
 use Rattle.proto_tree.specs.declared.tree.MapField.{MapField}
-use Rattle.proto_tree.proofs.Common.{Move, move_map_field, move_range, move_statement, move_tree, Tree, End, Leaf, Block}
+use Rattle.proto_tree.proofs.Common.{Move, move_header, move_map_field, move_range, move_statement, move_tree, Tree, End, Leaf, Block}
 use Rattle.proto_parts.proofs.Common.{FieldOf, extension_ranges, fields_in, options_in, reserved_names, reserved_ranges, statement_options, statements, Scene, number_at, text, value, truth_option}
 use Rattle.proto_numbers.specs.NumberFlaws.{range_of}
 use Rattle.proto_checks_laws.proofs.Common.{flat_moved, maps_kept, extension_ranges_moved, move_field_of, move_option_of, options_moved, reserved_ranges_moved, statement_names_moved, statement_options_moved, range_moved}
 use Rattle.proto_listing.proofs.Common.{Wanted, imports_in, items_in, move_wanted}
 use Rattle.proto_meaning.specs.Tree.{package_of}
 use Rattle.proto_descriptors.specs.declared.file.Syntax.TheVariants as syntax
-use Rattle.proto_described.specs.Described.{field_number, file_options, package_named, package_prefix, public_places, services_described, below, entry_described, message_options, enums_described, field_described, message_described, messages_described, number_range, oneof_names}
+use Rattle.proto_described.specs.Described.{field_number, file_options, package_named, package_prefix, public_places, services_described, below, entry_described, message_options, enums_described, extensions_described, field_described, message_described, messages_described, number_range, oneof_names}
 use Rattle.proto_descriptors.specs.declared.message.NumberRange.{NumberRange}
 use Rattle.proto_descriptors.specs.Descriptors.{FieldDesc, MessageDesc, Messages, NoMessages, Message}
 use Rattle.proto_statement_described.specs.Common.{Deeper, AtField, AtOneof, BehindBlock, BehindLeaf, InMessage, IsDeletedIn, IsDeletedRight, PastBlock, PastLeaf, Plain, OfMap, Reservation, Reserves, WrittenField, field_of, name_of, reserved, statement_of, at_place, places_before, with_more, without_place, DeletionsAreMapped, field_place, is_its, is_named_at, mapped_messages, range_of_field, statements_before, without_entry, without_field, IsMovedScene}
@@ -21,17 +22,18 @@ use Rattle.proto_statement_described.proofs.Parts.{IsReader, named_one, no_range
 use Rattle.proto_statement_described.proofs.DeletedHeads.{imports_less, packages_less}
 use Rattle.proto_statement_described.proofs.MovedImports.{publics_moved}
 use Rattle.proto_statement_described.proofs.Places.{IsParted, at_is, none_in, none_moved, parted, place_is, some_behind, with_is, without_is}
-use Rattle.proto_statement_described.proofs.MovedDescriptors.{each_same, enum_same, enums_same, entry_same, field_same, message_same, messages_same, oneofs_same, ranges_same, truths, services_same, service_same, package_same, options_same}
+use Rattle.proto_statement_described.proofs.MovedDescriptors.{each_same, enum_same, enums_same, entry_same, extend_same, extensions_same, field_same, message_same, messages_same, oneofs_same, ranges_same, truths, services_same, service_same, package_same, options_same}
 
 -- ---- imports that are moved
 
 paths : (g : Move) (a b : Scene) → IsMovedScene g a b → (ws vs : List Wanted) → vs ≡ map (move_wanted g) ws → map (λ (w : Wanted). value b w.path) vs ≡ map (λ (w : Wanted). value a w.path) ws
 paths g a b all ws vs e = ap (map (λ (w : Wanted). value b w.path)) e ∙ maps_kept (move_wanted g) (λ (w : Wanted). value a w.path) (λ (w : Wanted). value b w.path) (λ w. all.same.strings w.path) ws
 
-message_by : (scene : Scene) (full : List ℕ) (name : ℕ) (t v : Tree) → statements t ≡ statements v → fields_in t ≡ fields_in v → enums_described scene t ≡ enums_described scene v → oneof_names scene t ≡ oneof_names scene v → message_described scene full name t ≡ message_described scene full name v
-message_by scene full name t v e f n o = λ i. record {
+message_by : (scene : Scene) (full : List ℕ) (name : ℕ) (t v : Tree) → statements t ≡ statements v → fields_in t ≡ fields_in v → extensions_described scene t ≡ extensions_described scene v → enums_described scene t ≡ enums_described scene v → oneof_names scene t ≡ oneof_names scene v → message_described scene full name t ≡ message_described scene full name v
+message_by scene full name t v e f x n o = λ i. record {
   name = text scene name;
   field = map (field_described scene full) (f i);
+  extension = x i;
   enum_type = n i;
   extension_range = map (λ r. number_range (range_of scene r)) (flat_map extension_ranges (e i));
   oneof_decl = o i;
@@ -54,6 +56,18 @@ module _ (g k : Move) (middle old new : Scene) (to_old : IsMovedScene g middle o
       let r = right_enums x t u sw in
       (λ i. enum_same g middle old to_old h.name within i ∷ r.0 i, λ i. enum_same k middle new to_new h.name within i ∷ r.1 i)
   right_enums _ _ _ (PastBlock whole i within j x t u sw) = right_enums x t u sw
+
+  -- the extensions of a block behind which the field goes
+  past_extend : (e : Extending) (within x t u : Tree) → (extensions_described old t ≡ extensions_described middle x) × (extensions_described new u ≡ extensions_described middle x)
+      → (extensions_described old (Block (move_header g (header.Extend e)) 0 (move_tree g within) 0 t) ≡ extensions_described middle (Block (header.Extend e) 0 within 0 x)) × (extensions_described new (Block (move_header k (header.Extend e)) 0 (move_tree k within) 0 u) ≡ extensions_described middle (Block (header.Extend e) 0 within 0 x))
+  past_extend e within x t u r = (λ i. extend_same g middle old to_old e within i ++ r.0 i, λ i. extend_same k middle new to_new e within i ++ r.1 i)
+
+  right_extensions : (x t u : Tree) → IsDeletedRight g k aim res x t u → (extensions_described old t ≡ extensions_described middle x) × (extensions_described new u ≡ extensions_described middle x)
+  right_extensions _ _ _ (AtField rest) = (extensions_same g middle old to_old rest, extensions_same k middle new to_new rest)
+  right_extensions _ _ _ (AtOneof h fd i x t j rest same some at) = (extensions_same g middle old to_old rest, extensions_same k middle new to_new rest)
+  right_extensions _ _ _ (PastLeaf a x t u sw) = right_extensions x t u sw
+  right_extensions _ _ _ (PastBlock (header.Extend e) i within j x t u sw) = past_extend e within x t u (right_extensions x t u sw)
+  right_extensions _ _ _ (PastBlock whole i within j x t u sw) = right_extensions x t u sw
 
   right_oneofs : (x t u : Tree) → IsDeletedRight g k aim res x t u → (oneof_names old t ≡ oneof_names middle x) × (oneof_names new u ≡ oneof_names middle x)
   right_oneofs _ _ _ (AtField rest) = (oneofs_same g middle old to_old rest, oneofs_same k middle new to_new rest)
@@ -194,11 +208,13 @@ module _ (g k : Move) (middle old new : Scene) (to_old : IsMovedScene g middle o
       let deprecated : truth_option (text new) (codes "deprecated") (options_in u) ≡ truth_option (text old) (codes "deprecated") (options_in t) =
       ap (truth_option (text new) (codes "deprecated")) ps ∙ truths k middle new to_new (codes "deprecated") (options_in x)
       ∙ sym (ap (truth_option (text old) (codes "deprecated")) os ∙ truths g middle old to_old (codes "deprecated") (options_in x)) in
+      let extended = right_extensions x t u sw in
       let enums = right_enums x t u sw in
       let oneofs = right_oneofs x t u sw in
       λ i. record {
         name = (to_new.same.texts h ∙ sym (to_old.same.texts h)) i;
         field = fields i;
+        extension = (extended.1 ∙ sym extended.0) i;
         enum_type = (enums.1 ∙ sym enums.0) i;
         extension_range = extensions i;
         oneof_decl = (oneofs.1 ∙ sym oneofs.0) i;
@@ -218,6 +234,13 @@ module _ (g k : Move) (middle old new : Scene) (to_old : IsMovedScene g middle o
       (λ i. enum_same g middle old to_old h.name within i ∷ r.0 i, λ i. enum_same k middle new to_new h.name within i ∷ r.1 i)
   outer_enums _ _ _ (BehindBlock whole i within j x t u sw) = outer_enums x t u sw
 
+  outer_extensions : (x t u : Tree) → IsDeletedIn g k aim res x t u → (extensions_described old t ≡ extensions_described middle x) × (extensions_described new u ≡ extensions_described middle x)
+  outer_extensions _ _ _ (InMessage h i x t u j rest sw) = (extensions_same g middle old to_old rest, extensions_same k middle new to_new rest)
+  outer_extensions _ _ _ (Deeper h i x t u j rest sw) = (extensions_same g middle old to_old rest, extensions_same k middle new to_new rest)
+  outer_extensions _ _ _ (BehindLeaf a x t u sw) = outer_extensions x t u sw
+  outer_extensions _ _ _ (BehindBlock (header.Extend e) i within j x t u sw) = past_extend e within x t u (outer_extensions x t u sw)
+  outer_extensions _ _ _ (BehindBlock whole i within j x t u sw) = outer_extensions x t u sw
+
   outer_oneofs : (x t u : Tree) → IsDeletedIn g k aim res x t u → (oneof_names old t ≡ oneof_names middle x) × (oneof_names new u ≡ oneof_names middle x)
   outer_oneofs _ _ _ (InMessage h i x t u j rest sw) = (oneofs_same g middle old to_old rest, oneofs_same k middle new to_new rest)
   outer_oneofs _ _ _ (Deeper h i x t u j rest sw) = (oneofs_same g middle old to_old rest, oneofs_same k middle new to_new rest)
@@ -232,11 +255,12 @@ module _ (g k : Move) (middle old new : Scene) (to_old : IsMovedScene g middle o
   around full h x t u sw =
       let ss = outer_statements g k aim res x t u sw in
       let fs = outer_fields g k aim res 0 x t u sw in
+      let ds = outer_extensions x t u sw in
       let es = outer_enums x t u sw in
       let os = outer_oneofs x t u sw in
-      message_by old full (g h) t (move_tree g x) ss.0 fs.0 (es.0 ∙ sym (enums_same g middle old to_old x)) (os.0 ∙ sym (oneofs_same g middle old to_old x))
+      message_by old full (g h) t (move_tree g x) ss.0 fs.0 (ds.0 ∙ sym (extensions_same g middle old to_old x)) (es.0 ∙ sym (enums_same g middle old to_old x)) (os.0 ∙ sym (oneofs_same g middle old to_old x))
       ∙ message_same g middle old to_old full h x ∙ sym (message_same k middle new to_new full h x)
-      ∙ sym (message_by new full (k h) u (move_tree k x) ss.1 fs.1 (es.1 ∙ sym (enums_same k middle new to_new x)) (os.1 ∙ sym (oneofs_same k middle new to_new x)))
+      ∙ sym (message_by new full (k h) u (move_tree k x) ss.1 fs.1 (ds.1 ∙ sym (extensions_same k middle new to_new x)) (es.1 ∙ sym (enums_same k middle new to_new x)) (os.1 ∙ sym (oneofs_same k middle new to_new x)))
 
   -- a message without the field, and the one that has it
   past : (within : Tree) → is_its token within ≡ false → (m : MessageDesc) (inner more : Messages)
@@ -311,6 +335,7 @@ deletions_are_mapped g k middle old new path aim res x t u to_old to_new reservi
     let is = imports_less g k aim res x t u sw in
     let es = outer_enums g k middle old new to_old to_new aim res reserving fresh x t u sw in
     let ss = services_less g k middle old new to_old to_new aim res reserving fresh x t u sw in
+    let xs = outer_extensions g k middle old new to_old to_new aim res reserving fresh x t u sw in
     let os = outer_statements g k aim res x t u sw in
     let same_package : package_named new (package_of (items_in u)) ≡ package_named old (package_of (items_in t)) = package_same k middle new to_new (package_of (items_in x)) (package_of (items_in u)) pk.1 ∙ sym (package_same g middle old to_old (package_of (items_in x)) (package_of (items_in t)) pk.0) in
     let messages : messages_described new (package_prefix (package_named new (package_of (items_in u)))) u ≡ mapped_messages (name_of aim) t (messages_described old (package_prefix (package_named old (package_of (items_in t)))) t) =
@@ -328,6 +353,7 @@ deletions_are_mapped g k middle old new path aim res x t u to_old to_new reservi
       message_type = messages i;
       enum_type = (es.1 ∙ sym es.0) i;
       service = (ss.1 ∙ sym ss.0) i;
+      extension = (xs.1 ∙ sym xs.0) i;
       options = options i;
       syntax = if proto3 i then syntax.Proto3 else syntax.Proto2;
     }

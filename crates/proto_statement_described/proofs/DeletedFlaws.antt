@@ -15,8 +15,8 @@ use Rattle.proto_numbers.specs.declared.flaw.Flaw.{Flaw}
 use Rattle.proto_numbers.specs.declared.numbers.NumberAt.{NumberAt}
 use Rattle.proto_parts.specs.declared.ranges.RangeAt.{RangeAt}
 use Rattle.proto_checks_laws.specs.Deleted.{range_of_one}
-use Rattle.proto_checks.proofs.Common.{field_flaws, option_flaws, allows_alias, block_flaws, first_value_flaws, enum_flaws, extension_flaws, flaws_in_blocks, is_empty, json_clashes, message_flaws, name_flaws, value_option_flaws, with_reserved_name, reserved_again}
-use Rattle.proto_numbers.proofs.Common.{flaw_if, marked, field_number_flaws, broken_ranges, enum_range_of, is_value_number, least_value, most_value, number_of_field, number_of_value, outside, overlaps, range_of, repeated_numbers, reserved_numbers}
+use Rattle.proto_checks.proofs.Common.{field_flaws, option_flaws, allows_alias, block_flaws, first_value_flaws, enum_flaws, extension_flaws, flaws_in_blocks, flaws_of_extension, is_empty, json_clashes, message_flaws, name_flaws, value_option_flaws, with_reserved_name, reserved_again}
+use Rattle.proto_numbers.proofs.Common.{flaw_if, marked, field_number_flaws, broken_ranges, enum_range_of, is_field_number, is_value_number, least_value, most_value, number_of_field, number_of_value, outside, overlaps, range_of, repeated_numbers, reserved_numbers}
 use Rattle.proto_checks_laws.proofs.Common.{IsMoved, moved, statement_ranges_moved, statement_words_moved, maps_kept, maps_moved, move_block_of, move_field_of, move_option_of, statement_names_moved, statement_options_moved, blocks_moved, statements_moved, options_moved, empty_kept, Moves, block_moved, clashes_moved, each, field_moved, field_number_moved, field_numbers_moved, if_moved, move_number_at, move_range_at, names_moved, option_flaws_moved, range_moved}
 use Rattle.proto_checks_laws.proofs.DeletedFlaws.{nil_joined, nil_parts, deletions_keep_json_names, deletions_keep_names, deletions_keep_numbers}
 use Rattle.proto_statement_described.specs.Deletions.{Deeper, AtField, AtOneof, BehindBlock, BehindLeaf, Found, FurtherOn, InMessage, IsAmong, IsDeletedIn, IsDeletedRight, PastBlock, PastLeaf, FieldNamesDiffer, DeletionsBringNoFlaw, Reservation, Reserves, WrittenField, field_of, name_of, reserved}
@@ -50,7 +50,7 @@ its_own f front back x e =
     let p = nil_parts (flat_map f front) (flat_map f (x ∷ back)) (sym (flat_map-append f front (x ∷ back)) ∙ e) in
     (nil_parts (f x) (flat_map f back) p.1).0
 
-no_flaw : (b : Bool) (k : FaultKind) (t : ℕ) → flaw_if b k t ≡ [] → b ≡ false
+pub no_flaw : (b : Bool) (k : FaultKind) (t : ℕ) → flaw_if b k t ≡ [] → b ≡ false
 no_flaw true k t e = absurd cc
 no_flaw false k t e = refl
 
@@ -58,7 +58,7 @@ no_flaw false k t e = refl
 
 same_message : (scene : Scene) (t v : Tree) → statements t ≡ statements v → fields_in t ≡ fields_in v → message_flaws scene t ≡ message_flaws scene v
 same_message scene t v e f = ap₂ (λ (ss : List Statement) (fs : List FieldOf).
-    flat_map (field_flaws scene) fs
+    flat_map (field_flaws scene element.Field) fs
     ++ (field_number_flaws (map (range_of scene) (flat_map closed_ranges ss)) (map (number_of_field scene) fs)
     ++ (name_flaws scene (flat_map reserved_names ss) (map (λ x. x.name) fs)
     ++ (json_clashes scene fs
@@ -84,6 +84,7 @@ same_block scene (header.Oneof h) t v e f = ap (λ (ss : List Statement). flaw_i
 same_block scene (header.Enum h) t v e f = same_enum scene h.name t v e
 same_block scene (header.Service h) t v e f = ap (λ (ss : List Statement). option_flaws scene element.Service (flat_map statement_options ss)) e
 same_block scene (header.Method h) t v e f = ap (λ (ss : List Statement). option_flaws scene element.Method (flat_map statement_options ss)) e
+same_block scene (header.Extend x) t v e f = ap (λ (fs : List FieldOf). flaw_if scene.is_proto3 kind.NotInProto3 x.keyword ++ (outside is_field_number (map (number_of_field scene) fs) ++ flat_map (flaws_of_extension scene) fs)) f
 
 -- ---- names of fields
 
@@ -148,11 +149,11 @@ module _ (g k : Move) (middle old new : Scene) (is_old : IsMoved g middle old) (
     there = fields_old.1.is
 
     -- each field by itself
-    fields_clean : flat_map (field_flaws old) (fields_in t) ≡ [] → flat_map (field_flaws new) (fields_in u) ≡ []
+    fields_clean : flat_map (field_flaws old element.Field) (fields_in t) ≡ [] → flat_map (field_flaws new element.Field) (fields_in u) ≡ []
     fields_clean e =
-        over (each g (move_field_of g) (field_flaws middle) (field_flaws old) (field_moved g middle old is_old) (fields_in x) refl)
-        (each k (move_field_of k) (field_flaws middle) (field_flaws new) (field_moved k middle new is_new) (fields_in x) fields_new)
-        (ap (flat_map (field_flaws old)) stay ∙ less (field_flaws old) (map (move_field_of g) front) (map (move_field_of g) back) gone (sym (ap (flat_map (field_flaws old)) there) ∙ e))
+        over (each g (move_field_of g) (field_flaws middle element.Field) (field_flaws old element.Field) (field_moved g middle old is_old element.Field) (fields_in x) refl)
+        (each k (move_field_of k) (field_flaws middle element.Field) (field_flaws new element.Field) (field_moved k middle new is_new element.Field) (fields_in x) fields_new)
+        (ap (flat_map (field_flaws old element.Field)) stay ∙ less (field_flaws old element.Field) (map (move_field_of g) front) (map (move_field_of g) back) gone (sym (ap (flat_map (field_flaws old element.Field)) there) ∙ e))
 
     -- the JSON names
     json_clean : json_clashes old (fields_in t) ≡ [] → json_clashes new (fields_in u) ≡ []
@@ -290,12 +291,12 @@ module _ (g k : Move) (middle old new : Scene) (is_old : IsMoved g middle old) (
 
     message_clean : message_flaws old t ≡ [] → message_flaws new u ≡ []
     message_clean e =
-        let a = nil_parts (flat_map (field_flaws old) (fields_in t)) _ e in
+        let a = nil_parts (flat_map (field_flaws old element.Field) (fields_in t)) _ e in
         let b = nil_parts (field_number_flaws (map (range_of old) (flat_map closed_ranges (statements t))) (map (number_of_field old) (fields_in t))) _ a.1 in
         let c = nil_parts (name_flaws old (reserved_names_in t) (map (λ f. f.name) (fields_in t))) _ b.1 in
         let d = nil_parts (json_clashes old (fields_in t)) _ c.1 in
         let f = nil_parts (extension_flaws old t) (option_flaws old element.Message (options_in t)) d.1 in
-        nil_joined (flat_map (field_flaws new) (fields_in u)) _ (fields_clean a.0)
+        nil_joined (flat_map (field_flaws new element.Field) (fields_in u)) _ (fields_clean a.0)
         (nil_joined (field_number_flaws (map (range_of new) (flat_map closed_ranges (statements u))) (map (number_of_field new) (fields_in u))) _ (numbers_clean b.0)
         (nil_joined (name_flaws new (reserved_names_in u) (map (λ f. f.name) (fields_in u))) _ (names_clean c.0)
         (nil_joined (json_clashes new (fields_in u)) _ (json_clean d.0)

@@ -2,6 +2,7 @@ pub mod Common
 mod DeletedDescriptors
 mod DeletedFlaws
 pub mod DeletedHeads
+pub mod ExtensionLists
 mod FieldNames
 pub mod Kept
 mod MovedDescriptors
@@ -10,3 +11,4 @@ pub mod MovedScenes
 pub mod OneFile
 mod Parts
 mod Places
+mod SameExtensions

@@ -1,5 +1,5 @@
 -- The descriptor of a file whose tokens are moved.
-use Rattle.std.proofs.Common.{◌≡◌, ℕ, Bool, true, false, ◌&&◌, ◌||◌, if◌then◌else◌, List, [], ◌∷◌, map, flat_map, find, Option, Some, None, option_map, is_some, codes, option_and_then, refl, sym, ◌∙◌, ap, ap₂}
+use Rattle.std.proofs.Common.{◌≡◌, ℕ, Bool, true, false, ◌&&◌, ◌||◌, if◌then◌else◌, List, [], ◌∷◌, ◌++◌, map, flat_map, find, Option, Some, None, option_map, is_some, codes, option_and_then, refl, sym, ◌∙◌, ap, ap₂}
 use Rattle.proto_faults.proofs.Common.{signed_decimal, or_nothing}
 use Rattle.proto_tree.specs.declared.tree.Constant.{Constant}
 use Rattle.proto_tree.specs.declared.tree.Constant.TheVariants as constant
@@ -11,6 +11,7 @@ use Rattle.proto_tree.specs.declared.tree.Reference.{Reference}
 use Rattle.proto_tree.specs.declared.tree.Signature.{Signature}
 use Rattle.proto_tree.specs.declared.tree.Signed.{Signed}
 use Rattle.proto_tree.specs.declared.tree.Value.{Value}
+use Rattle.proto_tree.specs.declared.piece.Extending.{Extending}
 use Rattle.proto_tree.specs.declared.piece.Statement.TheVariants as statement
 use Rattle.proto_tree.specs.declared.piece.Header.TheVariants as header
 use Rattle.proto_tree.proofs.Common.{Move, move_constant, move_map_field, move_option, move_range, move_reference, move_signature, move_signed, move_tree, move_type, move_value, Tree, End, Leaf, Block}
@@ -20,12 +21,12 @@ use Rattle.proto_meaning.proofs.Common.{joined, key_word, package_of, value_word
 use Rattle.proto_parts.proofs.Common.{is_named, text_of, text_option, truth_named, truth_option, value_named, word_of, word_option, FieldOf, OptionOf, enum_ranges, extension_ranges, fields_in, options_in, reserved_names_in, reserved_ranges, settings_of, statements, values_in, MeantOf, Scene, meant_by, text, value, has_label}
 use Rattle.proto_checks_laws.proofs.Common.{IsMoved, without_imports, enum_ranges_moved, extension_ranges_moved, fields_moved, file_options_moved, find_moved, flat_kept, given_moved, maps_kept, move_field_of, move_option_of, options_moved, reserved_names_moved, reserved_ranges_moved, settings_moved, some_kept, values_moved, enum_range_moved, json_name_moved, label_moved, named_moved, number_moved, range_moved, signed_moved, text_moved, word_moved}
 use Rattle.proto_numbers.specs.NumberFlaws.{enum_range_of, range_of}
-use Rattle.proto_described.specs.Described.{absolute, below, default_number, default_text, entry_described, entry_field, enum_described, enums_described, field_described, field_number, field_type_name, field_type_of, file_described, file_options, is_map, label_of, message_described, messages_described, method_described, methods_described, mode_named, level_named, number_range, oneof_names, package_named, package_prefix, public_places, scalar_type, service_described, services_described, type_name_of, type_of, type_text, value_described, value_number, value_range}
+use Rattle.proto_described.specs.Described.{absolute, below, default_number, default_text, entry_described, entry_field, enum_described, enums_described, extension_described, extensions_described, field_described, field_with, field_number, field_type_name, field_type_of, file_described, file_options, is_map, label_of, message_described, messages_described, method_described, methods_described, mode_named, level_named, number_range, oneof_names, package_named, package_prefix, public_places, scalar_type, service_described, services_described, type_name_of, type_of, type_text, value_described, value_number, value_range}
 use Rattle.proto_descriptors.specs.declared.field.FieldType.{FieldType}
 use Rattle.proto_descriptors.specs.declared.field.FieldType.TheVariants as field_type
 use Rattle.proto_descriptors.specs.declared.field.Label.TheVariants as label
 use Rattle.proto_descriptors.specs.declared.file.Syntax.TheVariants as syntax
-use Rattle.proto_descriptors.specs.Descriptors.{EnumDesc, MessageDesc, Messages, NoMessages, Message, MethodDesc, ServiceDesc}
+use Rattle.proto_descriptors.specs.Descriptors.{EnumDesc, FieldDesc, MessageDesc, Messages, NoMessages, Message, MethodDesc, ServiceDesc}
 use Rattle.proto_statement_described.specs.Common.{with_imports, IsMovedScene}
 
 and_then_map : {A B C : Type 0} (f : A → B) (h : B → Option C) (o : Option A) → option_and_then h (option_map f o) ≡ option_and_then (λ x. h (f x)) o
@@ -91,7 +92,10 @@ module _ (g : Move) (a b : Scene) (all : IsMovedScene g a b) where
   type_name_moved (written_type.Scalar t) = refl
   type_name_moved (written_type.Reference r) = meant_name r
 
-  -- ---- fields
+  type_text_same : (r : Reference) → type_text b (move_reference g r) ≡ type_text a r
+  type_text_same r = ap or_nothing (meant_name r)
+
+  -- ---- fields and extensions
 
   has_moved : (w : List ℕ) (f : FieldOf) → has_label b w (move_field_of g f) ≡ has_label a w f
   has_moved w f = label_moved g a b all.same w f.label
@@ -108,16 +112,18 @@ module _ (g : Move) (a b : Scene) (all : IsMovedScene g a b) where
   default_moved (constant.Word w) = all.same.texts w
   default_moved (constant.Text j) = flat_kept g (value a) (value b) all.same.strings (j.first ∷ j.rest)
 
-  pub field_same : (full : List ℕ) (f : FieldOf) → field_described b full (move_field_of g f) ≡ field_described a full f
-  field_same full f = λ i. record {
+  -- with what is said of its message
+  field_with_same : (full : List ℕ) {extendee extendee' json json' : Option (List ℕ)} (f : FieldOf) → extendee' ≡ extendee → json' ≡ json → field_with b full extendee' json' (move_field_of g f) ≡ field_with a full extendee json f
+  field_with_same full f extendees names = λ i. record {
     name = all.same.texts f.name i;
     number = field_number (number_moved g a b all.same f.number i);
     label = label_same f i;
     field_type = types i;
     type_name = type_names i;
+    extendee = extendees i;
     default_value = defaults i;
     oneof_index = f.oneof;
-    json_name = Some (json_name_moved g a b all.same f i);
+    json_name = names i;
     proto3_optional = version i && has_moved (codes "optional") f i;
     options = record { packed = truths (codes "packed") f.options i; deprecated = truths (codes "deprecated") f.options i };
   }
@@ -135,10 +141,27 @@ module _ (g : Move) (a b : Scene) (all : IsMovedScene g a b) where
           ap (option_map (default_text b)) (named (codes "default") f.options) ∙ map_map (move_constant g) (default_text b) (value_named (text a) (codes "default") f.options)
           ∙ map_same (λ c. default_text b (move_constant g c)) (default_text a) default_moved (value_named (text a) (codes "default") f.options)
 
+  pub field_same : (full : List ℕ) (f : FieldOf) → field_described b full (move_field_of g f) ≡ field_described a full f
+  field_same full f = field_with_same full f refl (ap Some (json_name_moved g a b all.same f))
+
+  extension_same : (r : Reference) (f : FieldOf) → extension_described b (move_reference g r) (move_field_of g f) ≡ extension_described a r f
+  extension_same r f = field_with_same [] f (ap Some (type_text_same r)) refl
+
   -- ---- lists
 
   pub each_same : {A B : Type 0} (m : A → A) (f k : A → B) → ((x : A) → k (m x) ≡ f x) → (xs ys : List A) → ys ≡ map m xs → map k ys ≡ map f xs
   each_same m f k e xs ys y = ap (map k) y ∙ maps_kept m f k e xs
+
+  -- the extensions of one block, and of all
+
+  pub extend_same : (e : Extending) (x : Tree) → map (extension_described b (move_reference g e.extendee)) (fields_in (move_tree g x)) ≡ map (extension_described a e.extendee) (fields_in x)
+  extend_same e x = each_same (move_field_of g) (extension_described a e.extendee) (extension_described b (move_reference g e.extendee)) (extension_same e.extendee) (fields_in x) (fields_in (move_tree g x)) (fields_moved g 0 x)
+
+  pub extensions_same : (x : Tree) → extensions_described b (move_tree g x) ≡ extensions_described a x
+  extensions_same End = refl
+  extensions_same (Leaf s rest) = extensions_same rest
+  extensions_same (Block (header.Extend e) i within j rest) = ap₂ (λ (y z : List FieldDesc). y ++ z) (extend_same e within) (extensions_same rest)
+  extensions_same (Block whole i within j rest) = extensions_same rest
 
   -- ---- enums
 
@@ -185,6 +208,7 @@ module _ (g : Move) (a b : Scene) (all : IsMovedScene g a b) where
   message_same full name x = λ i. record {
     name = all.same.texts name i;
     field = each_same (move_field_of g) (field_described a full) (field_described b full) (field_same full) (fields_in x) (fields_in (move_tree g x)) (fields_moved g 0 x) i;
+    extension = extensions_same x i;
     enum_type = enums_same x i;
     extension_range = ranges_same (flat_map extension_ranges (statements x)) _ (given_moved g (move_range g g) extension_ranges (extension_ranges_moved g) x) i;
     oneof_decl = oneofs_same x i;
@@ -197,6 +221,7 @@ module _ (g : Move) (a b : Scene) (all : IsMovedScene g a b) where
   entry_same f = λ i. record {
     name = entry_name (all.same.texts f.name i);
     field = entry_field key_word 1 (scalar_type (all.same.texts f.key i)) None ∷ entry_field value_word 2 (type_moved f.value i) (type_name_moved f.value i) ∷ [];
+    extension = [];
     enum_type = [];
     extension_range = [];
     oneof_decl = [];
@@ -218,9 +243,6 @@ module _ (g : Move) (a b : Scene) (all : IsMovedScene g a b) where
 
   stream_same : (o : Option ℕ) → is_some (move_option g o) ≡ is_some o
   stream_same = some_kept g
-
-  type_text_same : (r : Reference) → type_text b (move_reference g r) ≡ type_text a r
-  type_text_same r = ap or_nothing (meant_name r)
 
   method_same : (s : Signature) (os ps : List OptionOf) → ps ≡ map (move_option_of g) os → method_described b (move_signature g s) ps ≡ method_described a s os
   method_same s os ps e = λ i. record {
@@ -267,6 +289,13 @@ no_enums a (Leaf (statement.Import i) rest) = no_enums a rest
 no_enums a (Leaf _ rest) = no_enums a rest
 no_enums a (Block (header.Enum h) i within j rest) = ap (λ (es : List EnumDesc). enum_described a h.name within ∷ es) (no_enums a rest)
 no_enums a (Block whole i within j rest) = no_enums a rest
+
+no_extensions : (a : Scene) (x : Tree) → extensions_described a (without_imports x) ≡ extensions_described a x
+no_extensions a End = refl
+no_extensions a (Leaf (statement.Import i) rest) = no_extensions a rest
+no_extensions a (Leaf _ rest) = no_extensions a rest
+no_extensions a (Block (header.Extend e) i within j rest) = ap (λ (fs : List FieldDesc). map (extension_described a e.extendee) (fields_in within) ++ fs) (no_extensions a rest)
+no_extensions a (Block whole i within j rest) = no_extensions a rest
 
 no_services : (a : Scene) (x : Tree) → services_described a (without_imports x) ≡ services_described a x
 no_services a End = refl
@@ -321,6 +350,7 @@ imports_alone g a b path s t all e = λ i. record {
   message_type = (ap (λ (p : Option (List ℕ)). messages_described b (package_prefix p) t) pk ∙ ms (package_prefix (package_named a (package_of (items_in s))))) i;
   enum_type = (sym (no_enums b t) ∙ ap (enums_described b) e ∙ enums_same g a b all (without_imports s) ∙ no_enums a s) i;
   service = (sym (no_services b t) ∙ ap (services_described b) e ∙ services_same g a b all (without_imports s) ∙ no_services a s) i;
+  extension = (sym (no_extensions b t) ∙ ap (extensions_described b) e ∙ extensions_same g a b all (without_imports s) ∙ no_extensions a s) i;
   options = options_same g a b all (options_in s) (options_in t) (file_options_moved g s t e) i;
   syntax = if sym all.same.version i then syntax.Proto3 else syntax.Proto2;
 }

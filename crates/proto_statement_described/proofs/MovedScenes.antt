@@ -57,7 +57,7 @@ none_found : (t : ℕ) (ms : List MeantOf) → ((m : MeantOf) → Contains ms m 
 none_found t [] h = refl
 none_found t (m ∷ ms) h = ap₂ (λ (b : Bool) (o : Option MeantOf). cond b (Some m) o) (ne_eqb m.token t (h m (contains_head m ms))) (none_found t ms (λ n c. h n (contains_later m n ms c)))
 
-first_moved : (g : Move) (o : Option ℕ) (w : Separated ℕ) → first_of (move_option g o) (move_separated g g w) ≡ g (first_of o w)
+pub first_moved : (g : Move) (o : Option ℕ) (w : Separated ℕ) → first_of (move_option g o) (move_separated g g w) ≡ g (first_of o w)
 first_moved g None w = refl
 first_moved g (Some i) w = refl
 

@@ -1,6 +1,6 @@
 -- Files of which one is read otherwise: the checks of all, and their descriptors (for the crates above).
-use Rattle.std.proofs.Common.{◌≡◌, ◌≢◌, ℕ, zero, suc, ◌+◌, ◌<◌, List, [], ◌∷◌, length, map, refl, sym, ap, ap₂, subst, ◌∙◌, inl, inr, arith, Contains}
-use Rattle.proto_faults.proofs.Common.{cases_eq, contains_head}
+use Rattle.std.proofs.Common.{◌≡◌, ◌≢◌, ℕ, zero, suc, ◌+◌, ◌<◌, List, [], ◌∷◌, length, map, None, refl, sym, ap, ap₂, subst, ◌∙◌, inl, inr, arith, Contains}
+use Rattle.proto_faults.proofs.Common.{Contains-append_cases, Contains-append_left, Contains-append_right, cases_eq, contains_head}
 use Rattle.proto_tree.specs.Tree.{Tree}
 use Rattle.proto_files.proofs.Common.{HasNoFault, AreRead, ReadOf, read_at, FileOf, file_at, read_once}
 use Rattle.proto_parts.specs.Scenes.{Scene}
@@ -9,6 +9,7 @@ use Rattle.proto_checks.specs.FileFlaws.{file_flaws}
 use Rattle.proto_checks_laws.proofs.Common.{moved, imports_move_flaws}
 use Rattle.proto_described.specs.Described.{file_described}
 use Rattle.proto_descriptors.specs.Descriptors.{FileDesc}
+use Rattle.proto_extensions.specs.Extensions.{workspace_flaws}
 use Rattle.proto_desc.specs.Checked.{CheckFaults, described_from, fault_of, flaws_of, of_flaw}
 use Rattle.proto_statement_described.specs.Files.{AdditionsLeaveNoFault, AdditionsMapDescriptors, DeletionsLeaveNoFault, DeletionsMapDescriptors, DropsLeaveNoFault, DropsMapDescriptors, OthersStay, scene_at, tree_at}
 use Rattle.proto_statement_described.specs.Common.{with_dependency, without_dependency, changed_at, mapped_deletion}
@@ -16,6 +17,7 @@ use Rattle.proto_statement_described.proofs.DeletedDescriptors.{deletions_are_ma
 use Rattle.proto_statement_described.proofs.DeletedFlaws.{deletions_bring_no_flaw, map_nil}
 use Rattle.proto_statement_described.proofs.FieldNames.{field_names_differ}
 use Rattle.proto_statement_described.proofs.MovedImports.{additions_are_mapped, drops_are_mapped}
+use Rattle.proto_statement_described.proofs.SameExtensions.{no_flaw_of_extensions}
 
 -- ---- flaws
 
@@ -25,21 +27,31 @@ no_flaws (f ∷ fs) h = absurd (h f (contains_head f fs))
 
 module _ (files : List FileOf) (reads : List ReadOf) (after : List FileOf) (seen : List ReadOf) (place : ℕ) (o : OthersStay files reads after seen place) where
   pub old_flaws : HasNoFault (CheckFaults files) → file_flaws (scene_at files reads place) (tree_at reads place) ≡ []
-  old_flaws clean = no_flaws (flaws_of files reads place) (λ f h. clean (fault_of files reads place f) (of_flaw reads place f o.read o.within h))
+  old_flaws clean = no_flaws (file_flaws (scene_at files reads place) (tree_at reads place)) (λ f h. clean (fault_of files reads place f) (of_flaw reads place f o.read o.within (Contains-append_left (file_flaws (scene_at files reads place) (tree_at reads place)) _ f h)))
+
+  -- no flaw of the numbers of extensions
+  old_extensions : HasNoFault (CheckFaults files) → (k : ℕ) → k < length files → workspace_flaws None files reads k ≡ []
+  old_extensions clean k l =
+      let alone : List Flaw = file_flaws (scene_at files reads k) (tree_at reads k) in
+      no_flaws (workspace_flaws None files reads k) (λ f h. clean (fault_of files reads k f) (of_flaw reads k f o.read l (Contains-append_right alone (workspace_flaws None files reads k) f h)))
 
   -- where the file has no flaw, there is no fault
   pub no_fault : HasNoFault (CheckFaults files) → file_flaws (scene_at after seen place) (tree_at seen place) ≡ [] → HasNoFault (CheckFaults after)
   no_fault clean none x (of_flaw others k f are l h) =
       let here : Contains (flaws_of after seen k) f = subst (λ (rs : List ReadOf). Contains (flaws_of after rs k) f) (read_once after others seen are o.seen_are) h in
-      elim (cases_eq k place) [
-        | inl e ↦
-            let nothing : flaws_of after seen k ≡ [] = ap (flaws_of after seen) e ∙ none in
-            let c = subst (λ (fs : List Flaw). Contains fs f) nothing here in
-            absurd (omega (arith, c.1))
-        | inr n ↦
-            let same : flaws_of after seen k ≡ flaws_of files reads k = ap₂ file_flaws (o.scenes k n) (o.trees k n) in
-            clean (fault_of files reads k f) (of_flaw reads k f o.read (omega (arith, l, o.count)) (subst (λ (fs : List Flaw). Contains fs f) same here))
+      let there : k < length files = omega (arith, l, o.count) in
+      elim (Contains-append_cases (file_flaws (scene_at after seen k) (tree_at seen k)) (workspace_flaws None after seen k) f here) [
+        | inl alone ↦ elim (cases_eq k place) [
+          | inl e ↦ nothing_in f (ap (λ m. file_flaws (scene_at after seen m) (tree_at seen m)) e ∙ none) alone
+          | inr n ↦
+              let same : file_flaws (scene_at after seen k) (tree_at seen k) ≡ file_flaws (scene_at files reads k) (tree_at reads k) = ap₂ file_flaws (o.scenes k n) (o.trees k n) in
+              clean (fault_of files reads k f) (of_flaw reads k f o.read there (Contains-append_left (file_flaws (scene_at files reads k) (tree_at reads k)) (workspace_flaws None files reads k) f (subst (λ (fs : List Flaw). Contains fs f) same alone)))
+        ]
+        | inr joint ↦ nothing_in f (no_flaw_of_extensions files reads after seen o.extensions k (old_extensions clean k there)) joint
       ]
+    where
+      nothing_in : {P : Type 0} {fs : List Flaw} (f : Flaw) → fs ≡ [] → Contains fs f → P
+      nothing_in f e c = let d = subst (λ (fs : List Flaw). Contains fs f) e c in absurd (omega (arith, d.1))
 
 -- ---- descriptors
 

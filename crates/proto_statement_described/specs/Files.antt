@@ -17,6 +17,7 @@ use Rattle.proto_descriptors.specs.Descriptors.{FileDesc}
 use Rattle.proto_desc.specs.SceneOf.{scene_of}
 use Rattle.proto_desc.specs.Checked.{AreDescribed, CheckFaults}
 use Rattle.proto_statement_described.specs.Deletions.{IsDeletedIn, Reservation, Reserves, WrittenField, name_of}
+use Rattle.proto_statement_described.specs.Extensions.{ExtensionsStay}
 use Rattle.proto_statement_described.specs.Imports.{HasImport, with_dependency, without_dependency}
 use Rattle.proto_statement_described.specs.Lists.{changed_at}
 use Rattle.proto_statement_described.specs.Mapped.{mapped_deletion}
@@ -30,8 +31,8 @@ scene_at files reads k = scene_of None files reads k
 abbrev pub tree_at : List ReadOf → ℕ → Tree
 tree_at reads k = (read_at reads k).tree
 
--- The file at this place is read otherwise; no path changes, and each other
--- file has its tree and reads the same.
+-- The file at this place is read otherwise; no path changes, each other file has its tree and reads
+-- the same, and the extensions of all files stay.
 pub record OthersStay
     (files : List FileOf) (reads : List ReadOf) (after : List FileOf) (seen : List ReadOf)
     (place : ℕ) : Type 0 where
@@ -42,6 +43,7 @@ pub record OthersStay
   pub paths : (k : ℕ) → (file_at after k).path ≡ (file_at files k).path
   pub trees : (k : ℕ) → k ≢ place → tree_at seen k ≡ tree_at reads k
   pub scenes : (k : ℕ) → k ≢ place → scene_at after seen k ≡ scene_at files reads k
+  pub extensions : ExtensionsStay files reads after seen
 
 -- ---- a field less
 

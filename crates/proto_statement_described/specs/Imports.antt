@@ -26,6 +26,7 @@ with_imports dependency public d = record {
   message_type = d.message_type;
   enum_type = d.enum_type;
   service = d.service;
+  extension = d.extension;
   options = d.options;
   syntax = d.syntax;
 }

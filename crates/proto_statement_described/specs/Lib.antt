@@ -1,5 +1,6 @@
 pub mod Common
 pub mod Deletions
+pub mod Extensions
 pub mod Files
 pub mod Imports
 pub mod Kept

@@ -52,6 +52,7 @@ abbrev pub without_field : ℕ → Tree → MessageDesc → MessageDesc
 without_field token within m = record {
   name = m.name;
   field = without_place (field_place token within) m.field;
+  extension = m.extension;
   enum_type = m.enum_type;
   extension_range = m.extension_range;
   oneof_decl = m.oneof_decl;
@@ -104,6 +105,7 @@ mapped_deletion token tree d = record {
   message_type = mapped_messages token tree d.message_type;
   enum_type = d.enum_type;
   service = d.service;
+  extension = d.extension;
   options = d.options;
   syntax = d.syntax;
 }

@@ -1,10 +1,11 @@
 -- Whether a field is alone in a oneof of trees that stand one behind another; and that this is so by their blocks.
-use Rattle.std.proofs.Common.{◌≡◌, ◌⊎◌, ℕ, ◌≤◌, Bool, true, false, ◌||◌, List, [], ◌∷◌, ◌++◌, length, map, refl, sym, ap, ◌∙◌, inl, inr, arith, Contains, eq-eqb, eqb-true}
+use Rattle.std.proofs.Common.{◌≡◌, ◌⊎◌, ℕ, ◌≤◌, Bool, true, false, ◌||◌, List, [], ◌∷◌, ◌++◌, length, map, refl, sym, ap, subst, ◌∙◌, inl, inr, arith, Contains, eq-eqb, eqb-true}
 use Rattle.proto_faults.proofs.Common.{both_ways, or_cases, or_left, or_right, Contains-append_cases, Contains-append_left, Contains-append_right, contains_cases, contains_head, contains_later}
 use Rattle.proto_parts.specs.Parts.{BlockOf, FieldOf, blocks_in, fields_in}
 use Rattle.proto_statement_edits.specs.FieldPlaces.{alone_in, is_only}
 use Rattle.proto_tree.specs.declared.context.Context.{Context}
 use Rattle.proto_tree.specs.declared.context.Context.TheVariants as context
+use Rattle.proto_tree.specs.declared.context.Kind.{Kind}
 use Rattle.proto_tree.specs.declared.piece.Header.{Header}
 use Rattle.proto_tree.specs.declared.piece.Header.TheVariants as header
 use Rattle.proto_tree.specs.declared.piece.Heading.{Heading}
@@ -12,7 +13,7 @@ use Rattle.proto_tree.specs.declared.tree.Block.{Block as Braced}
 use Rattle.proto_tree.specs.declared.tree.Field.{Field}
 use Rattle.proto_tree.specs.declared.tree.Member.{Member}
 use Rattle.proto_tree.specs.declared.tree.Signature.{Signature}
-use Rattle.proto_tree.proofs.Common.{field_tree, member_tree, message_tree, oneof_tree, trees, Tree, End, Leaf, Block, IsWellFormed, after, header_kind, joined, statement_kind}
+use Rattle.proto_tree.proofs.Common.{field_tree, member_tree, message_tree, oneof_tree, trees, Tree, End, Leaf, Block, IsWellFormed, after, allows, header_kind, joined, statement_kind}
 
 or_assoc : (a b c : Bool) → ((a || b) || c) ≡ (a || (b || c))
 or_assoc true b c = refl
@@ -90,23 +91,27 @@ alone_holds name (Block whole i within j rest) e = later name rest (Block whole 
 no_method : (s : Signature) (o : Heading) → header.Method s ≡ header.Oneof o → ⊥
 no_method s o e = cc
 
-none_in_oneof : (t : Tree) → IsWellFormed context.Oneof t → (b : BlockOf) → Contains (blocks_in t) b → (o : Heading) → b.header ≡ header.Oneof o → ⊥
-none_in_oneof End fine b c o e = absurd (omega (arith, c.1))
-none_in_oneof (Leaf s rest) fine b c o e = none_in_oneof rest fine.1 b c o e
-none_in_oneof (Block (header.Message h) i within j rest) fine b c o e = absurd (both_ways false refl fine.0)
-none_in_oneof (Block whole i within j rest) fine b c o e = absurd (both_ways false refl fine.0)
+-- where no block may stand
+no_blocks : (c : Context) → ((h : Header) → allows c (header_kind h) ≡ false) → ((k : Kind) → after c k ≡ c) → (t : Tree) → IsWellFormed c t → (b : BlockOf) → Contains (blocks_in t) b → ⊥
+no_blocks c none stays End fine b d = absurd (omega (arith, d.1))
+no_blocks c none stays (Leaf s rest) fine b d = no_blocks c none stays rest (subst (λ (z : Context). IsWellFormed z rest) (stays (statement_kind s)) fine.1) b d
+no_blocks c none stays (Block h i within j rest) fine b d = absurd (both_ways (allows c (header_kind h)) (none h) fine.0)
 
-none_in_enum : (t : Tree) → IsWellFormed context.Enum t → (b : BlockOf) → Contains (blocks_in t) b → (o : Heading) → b.header ≡ header.Oneof o → ⊥
-none_in_enum End fine b c o e = absurd (omega (arith, c.1))
-none_in_enum (Leaf s rest) fine b c o e = none_in_enum rest fine.1 b c o e
-none_in_enum (Block (header.Message h) i within j rest) fine b c o e = absurd (both_ways false refl fine.0)
-none_in_enum (Block whole i within j rest) fine b c o e = absurd (both_ways false refl fine.0)
+none_in_oneof : (h : Header) → allows context.Oneof (header_kind h) ≡ false
+none_in_oneof (header.Message h) = refl
+none_in_oneof whole = refl
 
-none_in_method : (t : Tree) → IsWellFormed context.Method t → (b : BlockOf) → Contains (blocks_in t) b → (o : Heading) → b.header ≡ header.Oneof o → ⊥
-none_in_method End fine b c o e = absurd (omega (arith, c.1))
-none_in_method (Leaf s rest) fine b c o e = none_in_method rest fine.1 b c o e
-none_in_method (Block (header.Message h) i within j rest) fine b c o e = absurd (both_ways false refl fine.0)
-none_in_method (Block whole i within j rest) fine b c o e = absurd (both_ways false refl fine.0)
+none_in_enum : (h : Header) → allows context.Enum (header_kind h) ≡ false
+none_in_enum (header.Message h) = refl
+none_in_enum whole = refl
+
+none_in_method : (h : Header) → allows context.Method (header_kind h) ≡ false
+none_in_method (header.Message h) = refl
+none_in_method whole = refl
+
+none_in_extend : (h : Header) → allows context.Extend (header_kind h) ≡ false
+none_in_extend (header.Message h) = refl
+none_in_extend whole = refl
 
 none_in_service : (t : Tree) → IsWellFormed context.Service t → (b : BlockOf) → Contains (blocks_in t) b → (o : Heading) → b.header ≡ header.Oneof o → ⊥
 none_in_service End fine b c o e = absurd (omega (arith, c.1))
@@ -114,7 +119,7 @@ none_in_service (Leaf s rest) fine b c o e = none_in_service rest fine.1 b c o e
 none_in_service (Block (header.Method s) i within j rest) fine b c o e = elim (contains_cases (record { header = header.Method s; within = within }) b (blocks_in within ++ blocks_in rest) c) [
   | inl same ↦ no_method s o (ap (λ (z : BlockOf). z.header) same ∙ e)
   | inr d ↦ elim (Contains-append_cases (blocks_in within) (blocks_in rest) b d) [
-    | inl x ↦ none_in_method within fine.1 b x o e
+    | inl x ↦ no_blocks context.Method none_in_method (λ k. refl) within fine.1 b x
     | inr x ↦ none_in_service rest fine.2 b x o e
   ]
 ]
@@ -143,12 +148,12 @@ holds_alone name c (Block (header.Message h) i within j rest) fine x = elim (in_
     no_message e = cc
 holds_alone name c (Block (header.Oneof h) i within j rest) fine x = elim (in_block (header.Oneof h) within rest x.b x.block) [
   | inl e ↦ or_left (is_only name (fields_in within)) (alone_in name rest) (only_from name (fields_in within) (ap (λ z. map (λ f. f.name) (fields_in z)) e.1 ∙ x.only))
-  | inr (inl d) ↦ absurd (none_in_oneof within fine.1 x.b d x.h x.oneof)
+  | inr (inl d) ↦ absurd (no_blocks context.Oneof none_in_oneof (λ k. refl) within fine.1 x.b d)
   | inr (inr d) ↦ or_right (is_only name (fields_in within)) (alone_in name rest) (holds_alone name (after c (header_kind (header.Oneof h))) rest fine.2 (again name (Block (header.Oneof h) i within j rest) rest x d))
 ]
 holds_alone name c (Block (header.Enum h) i within j rest) fine x = elim (in_block (header.Enum h) within rest x.b x.block) [
   | inl e ↦ absurd (not_it (e.0 ∙ x.oneof))
-  | inr (inl d) ↦ absurd (none_in_enum within fine.1 x.b d x.h x.oneof)
+  | inr (inl d) ↦ absurd (no_blocks context.Enum none_in_enum (λ k. refl) within fine.1 x.b d)
   | inr (inr d) ↦ holds_alone name (after c (header_kind (header.Enum h))) rest fine.2 (again name (Block (header.Enum h) i within j rest) rest x d)
 ]
   where
@@ -164,11 +169,19 @@ holds_alone name c (Block (header.Service h) i within j rest) fine x = elim (in_
     not_it e = cc
 holds_alone name c (Block (header.Method s) i within j rest) fine x = elim (in_block (header.Method s) within rest x.b x.block) [
   | inl e ↦ absurd (not_it (e.0 ∙ x.oneof))
-  | inr (inl d) ↦ absurd (none_in_method within fine.1 x.b d x.h x.oneof)
+  | inr (inl d) ↦ absurd (no_blocks context.Method none_in_method (λ k. refl) within fine.1 x.b d)
   | inr (inr d) ↦ holds_alone name (after c (header_kind (header.Method s))) rest fine.2 (again name (Block (header.Method s) i within j rest) rest x d)
 ]
   where
     not_it : header.Method s ≡ header.Oneof x.h → ⊥
+    not_it e = cc
+holds_alone name c (Block (header.Extend k) i within j rest) fine x = elim (in_block (header.Extend k) within rest x.b x.block) [
+  | inl e ↦ absurd (not_it (e.0 ∙ x.oneof))
+  | inr (inl d) ↦ absurd (no_blocks context.Extend none_in_extend (λ k. refl) within fine.1 x.b d)
+  | inr (inr d) ↦ holds_alone name (after c (header_kind (header.Extend k))) rest fine.2 (again name (Block (header.Extend k) i within j rest) rest x d)
+]
+  where
+    not_it : header.Extend k ≡ header.Oneof x.h → ⊥
     not_it e = cc
 
 -- two fields or more

@@ -111,41 +111,25 @@ outer_after context.Start _ h = refl
 outer_after context.File kind.Package h = refl
 outer_after context.File _ h = refl
 outer_after context.Packaged k h = refl
-outer_after context.Message k h = absurd (both_ways false refl h)
-outer_after context.Oneof k h = absurd (both_ways false refl h)
-outer_after context.Enum k h = absurd (both_ways false refl h)
-outer_after context.Service k h = absurd (both_ways false refl h)
-outer_after context.Method k h = absurd (both_ways false refl h)
+outer_after _ k h = absurd (both_ways false refl h)
 
 no_field : (c : Context) → is_outer c ≡ true → allows c kind.Field ≡ true → ⊥
 no_field context.Start h e = both_ways false refl e
 no_field context.File h e = both_ways false refl e
 no_field context.Packaged h e = both_ways false refl e
-no_field context.Message h e = both_ways false refl h
-no_field context.Oneof h e = both_ways false refl h
-no_field context.Enum h e = both_ways false refl h
-no_field context.Service h e = both_ways false refl h
-no_field context.Method h e = both_ways false refl h
+no_field _ h e = both_ways false refl h
 
 no_map : (c : Context) → is_outer c ≡ true → allows c kind.MapField ≡ true → ⊥
 no_map context.Start h e = both_ways false refl e
 no_map context.File h e = both_ways false refl e
 no_map context.Packaged h e = both_ways false refl e
-no_map context.Message h e = both_ways false refl h
-no_map context.Oneof h e = both_ways false refl h
-no_map context.Enum h e = both_ways false refl h
-no_map context.Service h e = both_ways false refl h
-no_map context.Method h e = both_ways false refl h
+no_map _ h e = both_ways false refl h
 
 no_labeled : (c : Context) → is_outer c ≡ true → allows c kind.LabeledField ≡ true → ⊥
 no_labeled context.Start h e = both_ways false refl e
 no_labeled context.File h e = both_ways false refl e
 no_labeled context.Packaged h e = both_ways false refl e
-no_labeled context.Message h e = both_ways false refl h
-no_labeled context.Oneof h e = both_ways false refl h
-no_labeled context.Enum h e = both_ways false refl h
-no_labeled context.Service h e = both_ways false refl h
-no_labeled context.Method h e = both_ways false refl h
+no_labeled _ h e = both_ways false refl h
 
 not_allowed : (c : Context) (s : Statement) (name number : ℕ) → is_outer c ≡ true → IsFieldOf s name number → allows c (statement_kind s) ≡ true → ⊥
 not_allowed c (statement.Field f) name number o h e = by f.label e

@@ -15,6 +15,7 @@ use Rattle.proto_statement_changes.proofs.Common.{AdditionsAreChanges, AreFiles,
 use Rattle.proto_statement_names.proofs.Common.{unknown_path, AreClean, AdditionsKeepLinks, AdditionsKeepMeanings, IsAdded, MeanTheSame}
 use Rattle.proto_statement_imports.specs.Common.{AreMoved, AdditionsAreMade, AreFaultless, MayAdd}
 use Rattle.proto_statement_imports.proofs.ChangedFile.{IsChange, is_change, lexemes_here, tree_here}
+use Rattle.proto_statement_imports.proofs.Extensions.{extensions_stay}
 use Rattle.proto_statement_imports.proofs.FilePlaces.{place_named, place_within}
 use Rattle.proto_statement_imports.proofs.ImportFaults.{none_or}
 use Rattle.proto_statement_imports.proofs.Inserted.{IsInserted, are_moved, import_more, wanted_by}
@@ -93,6 +94,7 @@ module _ (laws : Laws) (files : List FileOf) (reads : List ReadOf) (after : List
       paths = c.path;
       trees = c.trees;
       scenes = (moved_files_read files reads after seen place (moved p p 3) moved_files means).0;
+      extensions = extensions_stay files reads after seen place (moved p p 3) moved_files means;
     };
     move = moved p p 3;
     scenes = (moved_files_read files reads after seen place (moved p p 3) moved_files means).1;

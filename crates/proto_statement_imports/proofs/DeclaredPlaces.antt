@@ -3,8 +3,8 @@ use Rattle.std.proofs.Common.{◌≡◌, ℕ, ◌+◌, List, [], ◌∷◌, ◌+
 use Rattle.proto_faults.proofs.Lists.{contains_cases}
 use Rattle.proto_files.specs.FilesRead.{ReadOf, read_at}
 use Rattle.proto_meaning.specs.declared.kind.Kind.{Kind}
-use Rattle.proto_meaning.specs.declared.kind.Kind.TheVariants.{Field, Method, Value}
-use Rattle.proto_meaning.proofs.Common.{place_from, place_of, At, all_declared, at, Declared, EntryOf, Given, Source, Token, shifted_declared, shifted_source, Items, Member, Members, Placed, all_placed, enum, field, file_placed, item, items_placed, key_word, map_field, member, message, no_items, no_members, oneof, package_of, packaged, place, placed, prefixes, service, value_word}
+use Rattle.proto_meaning.specs.declared.kind.Kind.TheVariants.{Extension, Field, Method, Value}
+use Rattle.proto_meaning.proofs.Common.{place_from, place_of, At, all_declared, at, Declared, EntryOf, Given, Source, Token, shifted_declared, shifted_source, Items, Member, Members, Placed, all_placed, enum, extend, field, file_placed, item, items_placed, key_word, map_field, member, message, no_items, no_members, oneof, package_of, packaged, place, placed, prefixes, service, value_word}
 use Rattle.proto_listing.specs.FromTree.{items_in}
 use Rattle.proto_imports.specs.Links.{names_in}
 use Rattle.proto_statement_names.proofs.Declarations.{declared_by}
@@ -63,6 +63,7 @@ mutual
   have_of (message t ms) path = (have_token path t, have_in ms (path ++ Token t ∷ []))
   have_of (enum t vs) path = (have_token path t, have_tokens path Value vs)
   have_of (service t ms) path = (have_token path t, have_tokens (path ++ Token t ∷ []) Method ms)
+  have_of (extend ts) path = have_tokens path Extension ts
 
   have_in : (ms : Members) (path : List (Source ℕ)) → AllHave (all_placed path ms)
   have_in no_members path = tt

@@ -18,6 +18,7 @@ use Rattle.proto_statement_names.proofs.Common.{AreClean, IsImportMore, DropsKee
 use Rattle.proto_statement_names.proofs.NamesOut.{imports_are_more}
 use Rattle.proto_statement_imports.specs.Common.{AreMoved, AreFaultless, DropsAreMade, MayDrop}
 use Rattle.proto_statement_imports.proofs.ChangedFile.{IsChange, change_back, is_change, lexemes_here, tree_here}
+use Rattle.proto_statement_imports.proofs.Extensions.{extensions_stayed}
 use Rattle.proto_statement_imports.proofs.ImportFaults.{follows_those, names_file, not_twice}
 use Rattle.proto_statement_imports.proofs.Inserted.{IsInserted, are_moved, has_import, import_more, wanted_by}
 use Rattle.proto_statement_imports.proofs.MovedScenes.{moved_files_read}
@@ -105,6 +106,7 @@ module _ (laws : Laws) (files : List FileOf) (reads : List ReadOf) (after : List
       paths = c.path;
       trees = c.trees;
       scenes = λ k n. sym ((moved_files_read after seen files reads place (moved i.keyword i.keyword (length ls)) moved_files means).0 k n);
+      extensions = extensions_stayed after seen files reads place (moved i.keyword i.keyword (length ls)) moved_files means;
     };
     move = moved i.keyword i.keyword (length ls);
     scenes = scenes;

@@ -3,6 +3,7 @@ mod Apart
 pub mod ChangedFile
 pub mod DeclaredPlaces
 mod Drops
+mod Extensions
 pub mod FilePlaces
 mod FoundImports
 mod ImportFaults

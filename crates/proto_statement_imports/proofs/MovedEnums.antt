@@ -1,5 +1,5 @@
 -- The enums of files, where the tokens of one file are moved.
-use Rattle.std.proofs.Common.{◌≡◌, ◌≢◌, ℕ, ◌==◌, Bool, not, if◌then◌else◌, List, [], ◌∷◌, map, find, Option, Some, None, option_map, refl, sym, ◌∙◌, ap, ap₂, subst, inl, inr, slice_get, eq-eqb, ne_eqb}
+use Rattle.std.proofs.Common.{◌≡◌, ◌≢◌, ℕ, ◌==◌, Bool, not, List, [], ◌∷◌, map, find, Option, Some, None, option_map, refl, sym, ◌∙◌, ap, ap₂, inl, inr, slice_get, eq-eqb, ne_eqb}
 use Rattle.std.proofs.lemmas.Bool.{cases_eq}
 use Rattle.proto_text.proofs.Common.{word_at, Lexeme}
 use Rattle.proto_tree.specs.declared.piece.Header.{Header}
@@ -12,7 +12,7 @@ use Rattle.proto_parts.proofs.Common.{number_of, BlockOf, blocks_in, values_in, 
 use Rattle.proto_checks_laws.proofs.MovedParts.{file_blocks_moved, find_moved, maps_kept, move_block_of, values_moved}
 use Rattle.proto_statement_described.proofs.Common.{enum_at, enum_within, is_enum_at, is_proto3_file, lexemes_of, starts_past_zero, tree_at, imports_keep_versions}
 use Rattle.proto_statement_imports.specs.MovedFiles.{AreMoved}
-use Rattle.proto_statement_imports.proofs.MovedTexts.{moved_at, moved_there, own_text}
+use Rattle.proto_statement_imports.proofs.MovedTexts.{each_moved, moved_at, own_text}
 
 module _ (files : List FileOf) (reads : List ReadOf) (after : List FileOf) (seen : List ReadOf) (place : ℕ) (g : Move) (h : AreMoved files reads after seen place g) where
   pub version_own : is_proto3_file after seen place ≡ is_proto3_file files reads place
@@ -21,7 +21,7 @@ module _ (files : List FileOf) (reads : List ReadOf) (after : List FileOf) (seen
 
   -- ---- an enum of the file
 
-  same_test : (i j : ℕ) → (g i == g j) ≡ (i == j)
+  pub same_test : (i j : ℕ) → (g i == g j) ≡ (i == j)
   same_test i j = elim (cases_eq i j) [
     | inl e ↦ eq-eqb (g i) (g j) (ap g e) ∙ sym (eq-eqb i j e)
     | inr n ↦ ne_eqb (g i) (g j) (λ q. n (h.apart i j q)) ∙ sym (ne_eqb i j n)
@@ -66,7 +66,4 @@ module _ (files : List FileOf) (reads : List ReadOf) (after : List FileOf) (seen
       (h.others k n) (h.trees k n)
 
   pub enum_moved : (a : At) → enum_at after seen (moved_at place g a) ≡ enum_at files reads a
-  enum_moved a = elim (cases_eq a.file place) [
-    | inl e ↦ ap (λ b. enum_at after seen (at a.file (if b then g a.token else a.token))) (eq-eqb a.file place e) ∙ subst (λ k. enum_at after seen (at k (g a.token)) ≡ enum_at files reads (at k a.token)) (sym e) (enum_here a.token)
-    | inr n ↦ ap (enum_at after seen) (moved_there place g a.file a.token n) ∙ enum_there a.file a.token n
-  ]
+  enum_moved = each_moved place g (enum_at files reads) (enum_at after seen) enum_here enum_there

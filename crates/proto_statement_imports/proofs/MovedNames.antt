@@ -82,12 +82,17 @@ module _ (files : List FileOf) (reads : List ReadOf) (after : List FileOf) (seen
       ∙ find_moved (shifted_declared (moved_at place g)) (λ (d : Declared At). same_name (name_of (text_of files reads) entry_name d.path) name) (λ (d : Declared At). same_name (name_of (text_of after seen) entry_name d.path) name)
       (λ d. ap (λ x. same_name x name) (name_moved files reads after seen place g h d.path)) (link_skeleton files reads).declared
 
-  pub enums_stay : (name : List (List ℕ)) → enum_named after seen name ≡ enum_named files reads name
-  enums_stay name = ap (option_and_then (λ (d : Declared At). enum_at after seen (place_of d))) (found_moved name) ∙ by (declared_as files reads name) refl
+  -- what is read where a name stands
+  pub named_stays : {X : Type 0} (was now : At → Option X) → ((a : At) → now (moved_at place g a) ≡ was a) → (name : List (List ℕ))
+      → option_and_then (λ (d : Declared At). now (place_of d)) (declared_as after seen name) ≡ option_and_then (λ (d : Declared At). was (place_of d)) (declared_as files reads name)
+  named_stays was now moves name = ap (option_and_then (λ (d : Declared At). now (place_of d))) (found_moved name) ∙ by (declared_as files reads name) refl
     where
       by : (o : Option (Declared At)) → declared_as files reads name ≡ o
-          → option_and_then (λ (d : Declared At). enum_at after seen (place_of d)) (option_map (shifted_declared (moved_at place g)) o) ≡ option_and_then (λ (d : Declared At). enum_at files reads (place_of d)) o
+          → option_and_then (λ (d : Declared At). now (place_of d)) (option_map (shifted_declared (moved_at place g)) o) ≡ option_and_then (λ (d : Declared At). was (place_of d)) o
       by None e = refl
       by (Some d) e =
           let there = find_there (λ (d : Declared At). same_name (name_of (text_of files reads) entry_name d.path) name) (link_skeleton files reads).declared d e in
-          ap (enum_at after seen) (place_moved (moved_at place g) 0 reads d there.0) ∙ enum_moved files reads after seen place g h (place_of d)
+          ap now (place_moved (moved_at place g) 0 reads d there.0) ∙ moves (place_of d)
+
+  pub enums_stay : (name : List (List ℕ)) → enum_named after seen name ≡ enum_named files reads name
+  enums_stay = named_stays (enum_at files reads) (enum_at after seen) (enum_moved files reads after seen place g h)

@@ -8,6 +8,7 @@ use Rattle.proto_parts.specs.Scenes.{MeantOf}
 use Rattle.proto_statement_described.proofs.Common.{meaning_of, meant_as, means_of, scene_at, HasTokens, IsMovedScene, move_meant, scenes_are_moved}
 use Rattle.proto_statement_names.specs.Kept.{MeanTheSame}
 use Rattle.proto_statement_imports.specs.MovedFiles.{AreMoved, MovedFilesRead}
+use Rattle.proto_statement_imports.specs.OtherScenes.{IsLeft}
 use Rattle.proto_statement_imports.proofs.MovedEnums.{version_own}
 use Rattle.proto_statement_imports.proofs.MovedNames.{enums_stay, names_move}
 use Rattle.proto_statement_imports.proofs.MovedTexts.{use_here}
@@ -20,12 +21,15 @@ meant_moved files reads g t (Some m) = refl
 module _ (files : List FileOf) (reads : List ReadOf) (after : List FileOf) (seen : List ReadOf) (place : ℕ) (g : Move) (h : AreMoved files reads after seen place g) (means : MeanTheSame files reads after seen) where
   -- ---- other files
 
+  pub is_left : (k : ℕ) → k ≢ place → IsLeft files reads after seen k
+  is_left k n = record { lexemes = h.others k n; tree = h.trees k n; enums = λ u c m e. enums_stay files reads after seen place g h m }
+
   pub scene_there : (k : ℕ) → k ≢ place → scene_at after seen k ≡ scene_at files reads k
-  scene_there k n = other_scenes_stay files reads after seen k means (record { lexemes = h.others k n; tree = h.trees k n; enums = λ u c m e. enums_stay files reads after seen place g h m })
+  scene_there k n = other_scenes_stay files reads after seen k means (is_left k n)
 
   -- ---- the file
 
-  means_here : (u : Used ℕ) → Contains (uses_of reads place) u → meaning_of after seen place (shifted_used g u) ≡ meaning_of files reads place u
+  pub means_here : (u : Used ℕ) → Contains (uses_of reads place) u → meaning_of after seen place (shifted_used g u) ≡ meaning_of files reads place u
   means_here u c =
       ap (meaning (names_of_files after seen)) (use_here files reads after seen place g h u) ∙ means (used_named (text_of files reads) place u) (reference_there files reads place u c)
 

@@ -24,6 +24,13 @@ module _ (place : ℕ) (g : Move) where
   pub moved_there : (k i : ℕ) → k ≢ place → moved_at place g (at k i) ≡ at k i
   moved_there k i n = ap (λ b. at k (if b then g i else i)) (ne_eqb k place n)
 
+  -- what is read at each token, if it is at those of the file and at those of each other one
+  pub each_moved : {X : Type 0} (was now : At → X) → ((i : ℕ) → now (at place (g i)) ≡ was (at place i)) → ((k i : ℕ) → k ≢ place → now (at k i) ≡ was (at k i)) → (a : At) → now (moved_at place g a) ≡ was a
+  each_moved was now here there a = elim (cases_eq a.file place) [
+    | inl e ↦ ap (λ b. now (at a.file (if b then g a.token else a.token))) (eq-eqb a.file place e) ∙ subst (λ k. now (at k (g a.token)) ≡ was (at k a.token)) (sym e) (here a.token)
+    | inr n ↦ ap now (moved_there a.file a.token n) ∙ there a.file a.token n
+  ]
+
   source_here : (s : Source ℕ) → shifted_source (at place) (shifted_source g s) ≡ shifted_source (moved_at place g) (shifted_source (at place) s)
   source_here (Token i) = ap (λ (a : At). Token a) (sym (moved_here i))
   source_here (EntryOf i) = ap (λ (a : At). EntryOf a) (sym (moved_here i))
@@ -55,10 +62,7 @@ module _ (files : List FileOf) (reads : List ReadOf) (after : List FileOf) (seen
   other_text k i n = ap (λ (ls : List Lexeme). word_at ls i) (h.others k n)
 
   text_moved : (a : At) → text_of after seen (moved_at place g a) ≡ text_of files reads a
-  text_moved a = elim (cases_eq a.file place) [
-    | inl e ↦ ap (λ b. text_of after seen (at a.file (if b then g a.token else a.token))) (eq-eqb a.file place e) ∙ subst (λ k. text_of after seen (at k (g a.token)) ≡ text_of files reads (at k a.token)) (sym e) (own_text a.token)
-    | inr n ↦ ap (text_of after seen) (moved_there place g a.file a.token n) ∙ other_text a.file a.token n
-  ]
+  text_moved = each_moved place g (text_of files reads) (text_of after seen) own_text other_text
 
   word_moved : (s : Source At) → spell (text_of after seen) entry_name (shifted_source (moved_at place g) s) ≡ spell (text_of files reads) entry_name s
   word_moved (Token a) = text_moved a
@@ -73,7 +77,7 @@ module _ (files : List FileOf) (reads : List ReadOf) (after : List FileOf) (seen
   -- ---- references
 
   abbrev referring : ℕ → Used ℕ → List (List ℕ) → List (List ℕ) → Reference
-  referring k u scope words = record { file = k; scope = scope; is_absolute = u.is_absolute; is_method = u.is_method; words = words }
+  referring k u scope words = record { file = k; scope = scope; is_absolute = u.is_absolute; wants_message = u.wants_message; words = words }
 
   pub use_here : (u : Used ℕ) → used_named (text_of after seen) place (shifted_used g u) ≡ used_named (text_of files reads) place u
   use_here u =

@@ -40,7 +40,7 @@ source_in k was now e (EntryOf i) = ap entry_name (e i)
 source_in k was now e (Given w) = refl
 
 abbrev referring : ℕ → Used ℕ → List (List ℕ) → List (List ℕ) → Reference
-referring k u scope words = record { file = k; scope = scope; is_absolute = u.is_absolute; is_method = u.is_method; words = words }
+referring k u scope words = record { file = k; scope = scope; is_absolute = u.is_absolute; wants_message = u.wants_message; words = words }
 
 pub use_stays : (k : ℕ) (was now : At → List ℕ) → ((i : ℕ) → now (at k i) ≡ was (at k i)) → (u : Used ℕ) → used_named now k u ≡ used_named was k u
 use_stays k was now e u =
@@ -67,7 +67,7 @@ module _ (files : List FileOf) (reads : List ReadOf) (after : List FileOf) (seen
       by (Some m) same = ap (λ (x : Option EnumOf). let v : MeantOf = record { token = t; name = joined m; enum = x } in v) (same m refl)
 
   module _ (k : ℕ) (means : MeanTheSame files reads after seen) (h : IsLeft files reads after seen k) where
-    meaning_stays : (u : Used ℕ) → Contains (uses_of reads k) u → meaning_of after seen k u ≡ meaning_of files reads k u
+    pub meaning_stays : (u : Used ℕ) → Contains (uses_of reads k) u → meaning_of after seen k u ≡ meaning_of files reads k u
     meaning_stays u c =
         ap (meaning (names_of_files after seen)) (use_stays k (text_of files reads) (text_of after seen) (λ i. ap (λ (ls : List Lexeme). word_at ls i) h.lexemes) u)
         ∙ means (used_named (text_of files reads) k u) (reference_there files reads k u c)

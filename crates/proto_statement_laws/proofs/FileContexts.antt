@@ -34,6 +34,7 @@ settled context.Oneof k o = absurd o
 settled context.Enum k o = absurd o
 settled context.Service k o = absurd o
 settled context.Method k o = absurd o
+settled context.Extend k o = absurd o
 
 pub outer : (c : Context) → IsSettled c → IsOuter c
 outer _ in_file = tt
@@ -52,6 +53,7 @@ import_may context.Oneof o = absurd o
 import_may context.Enum o = absurd o
 import_may context.Service o = absurd o
 import_may context.Method o = absurd o
+import_may context.Extend o = absurd o
 
 -- at the start of a file `syntax` may stand, and else what may stand further on
 start_allows : (k : Kind) → allows context.File k ≡ true → allows context.Start k ≡ true

@@ -94,6 +94,7 @@ drop_within g x c _ o (First rest) = record { tree = move_tree g rest; put = Her
     back context.Enum o h = absurd o
     back context.Service o h = absurd o
     back context.Method o h = absurd o
+    back context.Extend o h = absurd o
 drop_within g x c _ o (AfterLeaf s rest h) =
     let v = drop_within g x (after c (statement_kind s)) rest (outer (after c (statement_kind s)) (settled c (statement_kind s) o)) h in
     record { tree = Leaf (move_statement g s) v.tree; put = Later c s rest v.tree v.put; at = ap (λ (n : ℕ). length (flat_statement s) + n) v.at }

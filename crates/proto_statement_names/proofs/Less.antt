@@ -3,7 +3,7 @@ use Rattle.std.proofs.Common.{◌≡◌, ◌≢◌, ℕ, ◌<◌, Bool, true, fa
 use Rattle.proto_faults.proofs.Common.{list_any, both_ways, and_from, cases_Bool, cond-true, cond-false, false_from_ne_true, none-some, any_from}
 use Rattle.proto_meaning.proofs.Common.{AreApart, is_leaf, IsLinked, Import, Symbol, Reference, Workspace, same_name, is_type, is_outer, fits, greatest, reaches, sees, shows, hit, hits_at, meaning, meaning_at, typed, same_from_name, first_and_rest, hit_from, hit_relative, typed_from, typed_is, has_meaning, meant, front_of, one_symbol, shown, type_not_leaf}
 use Rattle.proto_meaning.specs.declared.kind.Kind.{Kind}
-use Rattle.proto_meaning.specs.declared.kind.Kind.TheVariants.{Package, Message, Entry, Enum, Service, Field, EntryField, Oneof, Value, Method}
+use Rattle.proto_meaning.specs.declared.kind.Kind.TheVariants.{Package, Message, Entry, Enum, Service, Field, EntryField, Oneof, Value, Method, Extension}
 use Rattle.proto_statement_names.specs.Common.{HasLess, LessIsLinked, LessMeans, MayGo, goes_with_field, IsAny}
 use Rattle.proto_statement_names.proofs.Lists.{more_has, more_or, more_pairs}
 
@@ -19,6 +19,7 @@ outer_stays EntryField h ne = absurd (true≢false (sym h))
 outer_stays Oneof h ne = refl
 outer_stays Value h ne = refl
 outer_stays Method h ne = refl
+outer_stays Extension h ne = refl
 
 type_is_outer : (k : Kind) → is_type k ≡ true → is_outer k ≡ true
 type_is_outer Message h = refl
@@ -31,6 +32,7 @@ type_is_outer EntryField h = absurd (true≢false (sym h))
 type_is_outer Oneof h = absurd (true≢false (sym h))
 type_is_outer Value h = absurd (true≢false (sym h))
 type_is_outer Method h = absurd (true≢false (sym h))
+type_is_outer Extension h = absurd (true≢false (sym h))
 
 pub type_stays : (k : Kind) → is_type k ≡ true → k ≢ Entry → goes_with_field k ≡ false
 type_stays k h ne = outer_stays k (type_is_outer k h) ne

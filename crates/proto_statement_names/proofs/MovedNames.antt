@@ -1,5 +1,6 @@
 -- What a tree declares, uses and imports where its tokens are moved (for the crates above).
 use Rattle.std.proofs.Common.{◌≡◌, ℕ, Bool, true, false, List, [], ◌∷◌, ◌++◌, map, Option, Some, None, is_some, refl, sym, ◌∙◌, ap, ap₂}
+use Rattle.proto_tree.specs.declared.piece.Extending.{Extending}
 use Rattle.proto_tree.specs.declared.piece.Header.{Header}
 use Rattle.proto_tree.specs.declared.piece.Header.TheVariants as header
 use Rattle.proto_tree.specs.declared.piece.Statement.{Statement}
@@ -9,13 +10,18 @@ use Rattle.proto_tree.specs.declared.tree.FieldType.TheVariants as field_type
 use Rattle.proto_tree.specs.declared.tree.Reference.{Reference}
 use Rattle.proto_tree.specs.declared.tree.Separated.{Separated}
 use Rattle.proto_tree.specs.declared.tree.Signature.{Signature}
+use Rattle.proto_tree.specs.Moved.{move_extending}
 use Rattle.proto_tree.proofs.Common.{Move, move_header, move_option, move_reference, move_separated, move_signature, move_statement, move_tree, move_type, dotted, first_of, Tree, End, Leaf, Block}
 use Rattle.proto_meaning.specs.declared.kind.Kind.{Kind}
 use Rattle.proto_meaning.specs.declared.kind.Kind.TheVariants as kind
-use Rattle.proto_meaning.proofs.Common.{Source, Token, EntryOf, Given, Used, shifted_source, shifted_used, Items, Members, Placed, all_placed, beside, items_placed, key_word, map_field, package_of, packaged, place, placed, prefixes, value_word, map_append, map_map}
+use Rattle.proto_meaning.proofs.Common.{Source, Token, EntryOf, Given, Used, shifted_source, shifted_used, Items, Members, Placed, all_placed, beside, extend, items_placed, key_word, map_field, package_of, packaged, place, placed, prefixes, value_word, map_append, map_map}
 use Rattle.proto_listing.proofs.Common.{add_statement, block_names, block_uses, field_names, file_block, flat_uses, header_uses, item_uses, items_in, member_uses, members_in, method_names, no_names, picked, scope_in, signature_uses, statement_uses, type_uses, used_as, value_names, dotted_moved, imports_moved, package_moved}
 use Rattle.proto_rename_laws.specs.Imports.{without_imports}
 use Rattle.proto_statement_names.specs.Trees.{ImportsMoveNames, MovesNames, TreesMoveImports, TreesMoveNames, move_placed}
+
+-- what an `extend` extends, and the types of its extensions
+abbrev pub extend_uses : List (Source ℕ) → Extending → Tree → List (Used ℕ)
+extend_uses scope e within = header_uses scope (header.Extend e) ++ flat_uses scope within
 
 module _ (g : Move) where
   abbrev pub path_of : List (Source ℕ) → List (Source ℕ)
@@ -68,6 +74,9 @@ module _ (g : Move) where
   pub beside_moved : (path : List (Source ℕ)) (t : ℕ) (outer inner : Kind) (ts us : List ℕ) → us ≡ map g ts → beside (path_of path) (g t) outer inner us ≡ map (move_placed g) (beside path t outer inner ts)
   beside_moved path t outer inner ts us e = ap (λ (z : List Placed). place (path_of path) (Token (g t)) outer ∷ z) (ap (map (λ i. place (path_of path) (Token i) inner)) e ∙ placed_each path inner ts)
 
+  pub extensions_moved : (path : List (Source ℕ)) (x : Tree) → placed (path_of path) (extend (picked field_names no_names (move_tree g x))) ≡ map (move_placed g) (placed path (extend (picked field_names no_names x)))
+  extensions_moved path x = ap (map (λ i. place (path_of path) (Token i) kind.Extension)) (fields_picked x) ∙ placed_each path kind.Extension (picked field_names no_names x)
+
   entry_moved : (path : List (Source ℕ)) (t : ℕ) → placed (path_of path) (map_field (g t)) ≡ map (move_placed g) (placed path (map_field t))
   entry_moved path t = ap (λ (p : List (Source ℕ)). place (path_of path) (Token (g t)) kind.Field ∷ place (path_of path) (EntryOf (g t)) kind.Entry ∷ place p (Given key_word) kind.EntryField ∷ place p (Given value_word) kind.EntryField ∷ []) (sym (path_more path (EntryOf t)))
 
@@ -89,6 +98,9 @@ module _ (g : Move) where
   members_moved path (Block (header.Enum h) i within j rest) =
       ap₂ (λ (y z : List Placed). y ++ z) (beside_moved path h.name kind.Enum kind.Value (picked value_names no_names within) _ (values_picked within)) (members_moved path rest)
       ∙ sym (map_append (move_placed g) (beside path h.name kind.Enum kind.Value (picked value_names no_names within)) (all_placed path (members_in rest)))
+  members_moved path (Block (header.Extend e) i within j rest) =
+      ap₂ (λ (y z : List Placed). y ++ z) (extensions_moved path within) (members_moved path rest)
+      ∙ sym (map_append (move_placed g) (placed path (extend (picked field_names no_names within))) (all_placed path (members_in rest)))
   members_moved path (Block whole i within j rest) = members_moved path rest
 
   -- ---- uses
@@ -101,12 +113,12 @@ module _ (g : Move) where
   first_moved None w = refl
   first_moved (Some i) w = refl
 
-  used_moved : (scope : List (Source ℕ)) (is_method : Bool) (r : Reference) → used_as (path_of scope) is_method (move_reference g r) ≡ shifted_used g (used_as scope is_method r)
-  used_moved scope is_method r = λ i. record {
+  used_moved : (scope : List (Source ℕ)) (wants_message : Bool) (r : Reference) → used_as (path_of scope) wants_message (move_reference g r) ≡ shifted_used g (used_as scope wants_message r)
+  used_moved scope wants_message r = λ i. record {
     file = 0;
     scope = path_of scope;
     is_absolute = some_moved r.dot i;
-    is_method = is_method;
+    wants_message = wants_message;
     first = first_moved r.dot r.words i;
     tokens = dotted_moved g r.words i;
   }
@@ -124,14 +136,21 @@ module _ (g : Move) where
   statement_moved scope (statement.Method s i) = signature_moved scope s
   statement_moved scope _ = refl
 
+  pub both_moved : (a b c d : List (Used ℕ)) → c ≡ map (shifted_used g) a → d ≡ map (shifted_used g) b → c ++ d ≡ map (shifted_used g) (a ++ b)
+  both_moved a b c d e f = ap₂ (λ (y z : List (Used ℕ)). y ++ z) e f ∙ sym (map_append (shifted_used g) a b)
+
   pub header_moved : (scope : List (Source ℕ)) (h : Header) → header_uses (path_of scope) (move_header g h) ≡ map (shifted_used g) (header_uses scope h)
   header_moved scope (header.Method s) = signature_moved scope s
+  header_moved scope (header.Extend e) = ap (λ (z : Used ℕ). z ∷ []) (used_moved scope true e.extendee)
   header_moved scope _ = refl
 
   pub flat_uses_moved : (scope : List (Source ℕ)) (x : Tree) → flat_uses (path_of scope) (move_tree g x) ≡ map (shifted_used g) (flat_uses scope x)
   flat_uses_moved scope End = refl
-  flat_uses_moved scope (Leaf s rest) = ap₂ (λ (y z : List (Used ℕ)). y ++ z) (statement_moved scope s) (flat_uses_moved scope rest) ∙ sym (map_append (shifted_used g) (statement_uses scope s) (flat_uses scope rest))
-  flat_uses_moved scope (Block h i within j rest) = ap₂ (λ (y z : List (Used ℕ)). y ++ z) (header_moved scope h) (flat_uses_moved scope rest) ∙ sym (map_append (shifted_used g) (header_uses scope h) (flat_uses scope rest))
+  flat_uses_moved scope (Leaf s rest) = both_moved (statement_uses scope s) (flat_uses scope rest) _ _ (statement_moved scope s) (flat_uses_moved scope rest)
+  flat_uses_moved scope (Block h i within j rest) = both_moved (header_uses scope h) (flat_uses scope rest) _ _ (header_moved scope h) (flat_uses_moved scope rest)
+
+  pub extend_moved : (scope : List (Source ℕ)) (e : Extending) (x : Tree) → extend_uses (path_of scope) (move_extending g e) (move_tree g x) ≡ map (shifted_used g) (extend_uses scope e x)
+  extend_moved scope e x = both_moved (header_uses scope (header.Extend e)) (flat_uses scope x) _ _ (header_moved scope (header.Extend e)) (flat_uses_moved scope x)
 
   pub scope_moved : (scope : List (Source ℕ)) (h : Header) → scope_in (path_of scope) (move_header g h) ≡ path_of (scope_in scope h)
   scope_moved scope (header.Message h) = sym (path_more scope (Token h.name))
@@ -141,10 +160,8 @@ module _ (g : Move) where
   block_moved scope (header.Message h) inner inner' x e = e
   block_moved scope (header.Oneof h) inner inner' x e = flat_uses_moved scope x
   block_moved scope (header.Service h) inner inner' x e = ap (λ p. flat_uses p (move_tree g x)) (sym (path_more scope (Token h.name))) ∙ flat_uses_moved (scope ++ Token h.name ∷ []) x
+  block_moved scope (header.Extend h) inner inner' x e = extend_moved scope h x
   block_moved scope whole inner inner' x e = refl
-
-  pub both_moved : (a b c d : List (Used ℕ)) → c ≡ map (shifted_used g) a → d ≡ map (shifted_used g) b → c ++ d ≡ map (shifted_used g) (a ++ b)
-  both_moved a b c d e f = ap₂ (λ (y z : List (Used ℕ)). y ++ z) e f ∙ sym (map_append (shifted_used g) a b)
 
   pub member_uses_moved : (scope : List (Source ℕ)) (x : Tree) → member_uses (path_of scope) (move_tree g x) ≡ map (shifted_used g) (member_uses scope x)
   member_uses_moved scope End = refl
@@ -153,6 +170,7 @@ module _ (g : Move) where
   member_uses_moved scope (Block (header.Message h) i within j rest) =
       both_moved (member_uses (scope ++ Token h.name ∷ []) within) (member_uses scope rest) _ _ (ap (λ p. member_uses p (move_tree g within)) (sym (path_more scope (Token h.name))) ∙ member_uses_moved (scope ++ Token h.name ∷ []) within) (member_uses_moved scope rest)
   member_uses_moved scope (Block (header.Oneof h) i within j rest) = both_moved (flat_uses scope within) (member_uses scope rest) _ _ (flat_uses_moved scope within) (member_uses_moved scope rest)
+  member_uses_moved scope (Block (header.Extend e) i within j rest) = both_moved (extend_uses scope e within) (member_uses scope rest) _ _ (extend_moved scope e within) (member_uses_moved scope rest)
   member_uses_moved scope (Block whole i within j rest) = member_uses_moved scope rest
 
   pub item_uses_moved : (scope : List (Source ℕ)) (x : Tree) → item_uses (path_of scope) (move_tree g x) ≡ map (shifted_used g) (item_uses scope x)
@@ -163,6 +181,7 @@ module _ (g : Move) where
       both_moved (member_uses (scope ++ Token h.name ∷ []) within) (item_uses scope rest) _ _ (ap (λ p. member_uses p (move_tree g within)) (sym (path_more scope (Token h.name))) ∙ member_uses_moved (scope ++ Token h.name ∷ []) within) (item_uses_moved scope rest)
   item_uses_moved scope (Block (header.Service h) i within j rest) =
       both_moved (flat_uses (scope ++ Token h.name ∷ []) within) (item_uses scope rest) _ _ (ap (λ p. flat_uses p (move_tree g within)) (sym (path_more scope (Token h.name))) ∙ flat_uses_moved (scope ++ Token h.name ∷ []) within) (item_uses_moved scope rest)
+  item_uses_moved scope (Block (header.Extend e) i within j rest) = both_moved (extend_uses scope e within) (item_uses scope rest) _ _ (extend_moved scope e within) (item_uses_moved scope rest)
   item_uses_moved scope (Block whole i within j rest) = item_uses_moved scope rest
 
   -- ---- the items of a file
@@ -195,6 +214,7 @@ module _ (g : Move) where
   items_moved path (Block (header.Service h) i within j rest) =
       both_placed (place path (Token h.name) kind.Service ∷ map (λ i. place (path ++ Token h.name ∷ []) (Token i) kind.Method) (picked method_names block_names within)) (items_placed path (items_in rest)) _ _
       (ap (λ (z : List Placed). place (path_of path) (Token (g h.name)) kind.Service ∷ z) (methods_placed path h.name (picked method_names block_names within) _ (methods_picked within))) (items_moved path rest)
+  items_moved path (Block (header.Extend e) i within j rest) = both_placed (placed path (extend (picked field_names no_names within))) (items_placed path (items_in rest)) _ _ (extensions_moved path within) (items_moved path rest)
   items_moved path (Block whole i within j rest) = items_moved path rest
 
 -- ---- imports
@@ -216,6 +236,7 @@ uses_without scope (Leaf (statement.Package p) rest) = uses_without scope rest
 uses_without scope (Leaf _ rest) = uses_without scope rest
 uses_without scope (Block (header.Message h) i within j rest) = ap (λ (z : List (Used ℕ)). member_uses (scope ++ Token h.name ∷ []) within ++ z) (uses_without scope rest)
 uses_without scope (Block (header.Service h) i within j rest) = ap (λ (z : List (Used ℕ)). flat_uses (scope ++ Token h.name ∷ []) within ++ z) (uses_without scope rest)
+uses_without scope (Block (header.Extend e) i within j rest) = ap (λ (z : List (Used ℕ)). extend_uses scope e within ++ z) (uses_without scope rest)
 uses_without scope (Block _ i within j rest) = uses_without scope rest
 
 tokens_moved : (g : Move) (ts : List ℕ) → map (λ i. Token i) (map g ts) ≡ path_of g (map (λ i. Token i) ts)

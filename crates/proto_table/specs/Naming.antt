@@ -26,9 +26,9 @@ AreSpans fs = All (λ f. (low high : ℕ) × ItemsSpan low high f.items) fs
 pub data ReferenceFlaw (w : Workspace) (r : Reference) : ℕ → Type 0 where
   -- it means nothing
   unresolved : meaning w r ≡ None → ReferenceFlaw w r 14
-  -- it is a method's and means an enum
+  -- it wants a message and means an enum
   wrong_kind : (s : Symbol) → Contains w.symbols s → meaning w r ≡ Some s.name
-      → r.is_method ≡ true → s.kind ≡ Enum → ReferenceFlaw w r 15
+      → r.wants_message ≡ true → s.kind ≡ Enum → ReferenceFlaw w r 15
   -- it means a generated entry
   of_entry : (s : Symbol) → Contains w.symbols s → meaning w r ≡ Some s.name → s.kind ≡ Entry
       → ReferenceFlaw w r 16

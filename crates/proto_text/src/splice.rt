@@ -15,7 +15,7 @@ use std::{fmt, mem};
 use thiserror::Error;
 
 /// What stands at an offset of a text, in bytes from 0, and what comes in its place.
-#[derive(Drop)]
+#[derive(Debug, PartialEq, Eq, Drop)]
 pub struct Splice {
     /// The offset of the old text, in bytes from 0.
     pub at: u32,
@@ -169,7 +169,7 @@ fn turned(mut splices: Vec<Splice>) -> Vec<Splice>
 }
 
 /// Edits in order, none of which ends past the limit.
-#[derive(Drop)]
+#[derive(Debug, Drop)]
 pub struct Splices {
     items: Vec<Splice>,
 }

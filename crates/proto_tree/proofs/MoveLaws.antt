@@ -1,6 +1,6 @@
 -- A moved tree has the moved marks (for the crates above).
 use Rattle.std.proofs.Common.{◌≡◌, ℕ, List, [], ◌∷◌, ◌++◌, map, Option, Some, None, refl, sym, ap, subst, ◌∙◌}
-use Rattle.proto_tree.specs.Common.{Class, Want, Separated, FieldType, Constant, Settings, RangeEnd, ReservedList, Statement, Header, Context, Mark, only, one, flat_option, flat_all, flat_behind, flat_from, flat_separated, flat_dotted, flat_words, flat_reference, flat_type, flat_signed, flat_joined, flat_constant, flat_setting, flat_settings, flat_option_statement, flat_syntax, flat_import, flat_package, flat_field, flat_map_field, flat_range_end, flat_up_to, flat_range, flat_ranges, flat_reserved_list, flat_reserved, flat_extensions, flat_value, flat_method_type, flat_signature, flat_statement, flat_header, Tree, End, Leaf, Block, flat, field_kind, statement_kind, header_kind, allows, after, inside, IsWellFormed, Move, move_option, move_behind, move_separated, move_reference, move_type, move_signed, move_joined, move_constant, move_setting, move_settings, move_option_statement, move_syntax, move_import, move_package, move_field, move_map_field, move_range_end, move_up_to, move_range, move_reserved_list, move_reserved, move_extensions, move_value, move_method_type, move_signature, move_statement, move_header, move_tree, shift}
+use Rattle.proto_tree.specs.Common.{Class, Want, Separated, FieldType, Constant, Settings, RangeEnd, ReservedList, Statement, Header, Context, Mark, only, one, flat_option, flat_all, flat_behind, flat_from, flat_separated, flat_dotted, flat_words, flat_reference, flat_type, flat_signed, flat_joined, flat_constant, flat_setting, flat_settings, flat_option_statement, flat_syntax, flat_import, flat_package, flat_field, flat_map_field, flat_range_end, flat_up_to, flat_range, flat_ranges, flat_reserved_list, flat_reserved, flat_extensions, flat_value, flat_method_type, flat_signature, flat_statement, flat_extending, flat_header, Tree, End, Leaf, Block, flat, field_kind, statement_kind, header_kind, allows, after, inside, IsWellFormed, Move, move_extending, move_option, move_behind, move_separated, move_reference, move_type, move_signed, move_joined, move_constant, move_setting, move_settings, move_option_statement, move_syntax, move_import, move_package, move_field, move_map_field, move_range_end, move_up_to, move_range, move_reserved_list, move_reserved, move_extensions, move_value, move_method_type, move_signature, move_statement, move_header, move_tree, shift}
 use Rattle.proto_tree.specs.declared.class.Class.TheVariants as class
 use Rattle.proto_tree.specs.declared.class.Want.TheVariants as want
 use Rattle.proto_tree.specs.declared.tree.FieldType.TheVariants as field_type
@@ -161,6 +161,9 @@ module _ (g : Move) where
   signature = seen_moved flat_signature (move_signature g) (λ s. (s.keyword, (s.name, (s.input, (s.returns, s.output))))) (λ s. refl) (λ s. refl)
       (then_moved (the class.Rpc) (then_moved (tok want.Name) (then_moved method_type (then_moved (the class.Returns) method_type))))
 
+  extending : IsMoved flat_extending (move_extending g)
+  extending = seen_moved flat_extending (move_extending g) (λ e. (e.keyword, e.extendee)) (λ e. refl) (λ e. refl) (then_moved (the class.Extend) reference)
+
   statement_law : (s : Statement) → flat_statement (move_statement g s) ≡ map (shift g) (flat_statement s)
   statement_law (statement.Syntax s) = syntax_statement.law s
   statement_law (statement.Import i) = import_statement.law i
@@ -181,6 +184,7 @@ module _ (g : Move) where
   header_law (header.Enum h) = refl
   header_law (header.Service h) = refl
   header_law (header.Method s) = signature.law s
+  header_law (header.Extend e) = extending.law e
 
   pub flat_moved : (t : Tree) → flat (move_tree g t) ≡ map (shift g) (flat t)
   flat_moved End = refl

@@ -1,13 +1,14 @@
 -- Reading nodes one after another (for the crates above).
 use Rattle.std.proofs.Common.{◌≡◌, ℕ, ◌+◌, ◌≤◌, true, false, List, [], ◌∷◌, ◌++◌, length, Some, None, refl, sym, ap, subst, ◌∙◌, append_assoc, arith, length-append, map, append-nil}
 use Rattle.proto_tree.specs.declared.class.Class.TheVariants as class
-use Rattle.proto_tree.specs.Common.{Lexeme, Statement, Signature, Heading, Header, Piece, Context, Kind, Mark, one, Fit, flat_statement, flat_header, flat_piece, Tree, End, Leaf, Block, flat, IsWellFormed, kind_of, statement_kind, header_kind, allows, after, inside, last_of, joined, all_joined, moved, Walk, any_piece_in, piece_in, IsStuck, Field, trees, item_tree, member_tree, member_layer, message_tree, oneof_tree, enum_tree, IsRead, IsItem, IsClose, FaultOf, IsBody, IsMet, IsOuter, IsItemOf, IsItemBefore}
+use Rattle.proto_tree.specs.Common.{Lexeme, Statement, Signature, Heading, Extending, Header, Piece, Context, Kind, Mark, one, Fit, flat_statement, flat_header, flat_piece, Tree, End, Leaf, Block, flat, IsWellFormed, kind_of, statement_kind, header_kind, allows, after, inside, last_of, joined, all_joined, moved, Walk, any_piece_in, piece_in, IsStuck, Field, trees, item_tree, member_tree, member_layer, message_tree, oneof_tree, enum_tree, extend_tree, IsRead, IsItem, IsClose, FaultOf, IsBody, IsMet, IsOuter, IsItemOf, IsItemBefore}
 use Rattle.proto_tree.specs.declared.piece.Header.TheVariants as header
 use Rattle.proto_tree.specs.declared.piece.Piece.TheVariants as piece
 use Rattle.proto_tree.specs.declared.context.Context.TheVariants as context
 use Rattle.proto_tree.specs.declared.context.Kind.TheVariants as kind
 use Rattle.proto_tree.specs.declared.tree.Block.{Block as Braced}
 use Rattle.proto_tree.specs.declared.tree.EnumItem.{EnumItem}
+use Rattle.proto_tree.specs.declared.tree.Extend.{Extend}
 use Rattle.proto_tree.specs.declared.tree.Item.{Item}
 use Rattle.proto_tree.specs.declared.tree.Member.{Member}
 use Rattle.proto_tree.specs.declared.tree.Member.TheOpen.{Member-F}
@@ -189,12 +190,14 @@ no_other_in_service (header.Oneof h) e = refl
 no_other_in_service (header.Enum h) e = refl
 no_other_in_service (header.Service h) e = refl
 no_other_in_service (header.Method s) e = absurd (e s refl)
+no_other_in_service (header.Extend x) e = refl
 
-pub no_other_in_message : (h : Header) → ((x : Heading) → h ≡ header.Message x → ⊥) → ((x : Heading) → h ≡ header.Oneof x → ⊥) → ((x : Heading) → h ≡ header.Enum x → ⊥) → allows context.Message (header_kind h) ≡ false
-no_other_in_message (header.Message h) a b c = absurd (a h refl)
-no_other_in_message (header.Oneof h) a b c = absurd (b h refl)
-no_other_in_message (header.Enum h) a b c = absurd (c h refl)
-no_other_in_message whole a b c = refl
+pub no_other_in_message : (h : Header) → ((x : Heading) → h ≡ header.Message x → ⊥) → ((x : Heading) → h ≡ header.Oneof x → ⊥) → ((x : Heading) → h ≡ header.Enum x → ⊥) → ((x : Extending) → h ≡ header.Extend x → ⊥) → allows context.Message (header_kind h) ≡ false
+no_other_in_message (header.Message h) a b c d = absurd (a h refl)
+no_other_in_message (header.Oneof h) a b c d = absurd (b h refl)
+no_other_in_message (header.Enum h) a b c d = absurd (c h refl)
+no_other_in_message (header.Extend x) a b c d = absurd (d x refl)
+no_other_in_message whole a b c d = refl
 
 -- ---- a file
 
@@ -222,6 +225,9 @@ member_tree-Oneof o = ap member_tree (sym (member.rolls-Oneof o)) ∙ fold-roll-
 
 pub member_tree-Enum : (e : Braced EnumItem) → member_tree (member.Enum e) ≡ enum_tree e
 member_tree-Enum e = ap member_tree (sym (member.rolls-Enum e)) ∙ fold-roll-Member Tree member_layer (Member-F.Enum e)
+
+pub member_tree-Extend : (e : Extend) → member_tree (member.Extend e) ≡ extend_tree e
+member_tree-Extend e = ap member_tree (sym (member.rolls-Extend e)) ∙ fold-roll-Member Tree member_layer (Member-F.Extend e)
 
 -- a block that was read, as a value
 pub block_seen : (c : Context) (h : Header) (i : ℕ) (t u : Tree) (j : ℕ) (tokens middle rest : List Lexeme) → IsMet c tokens (piece.Open h i) middle → allows c (header_kind h) ≡ true → IsBody (inside h) middle t j rest → u ≡ Block h i t j End → IsItem c tokens u rest

@@ -1,6 +1,6 @@
 -- Pieces, and the readers that read exactly these.
 use Rattle.std.proofs.Common.{◌≡◌, ℕ, Bool, true, false, List, [], ◌∷◌, ◌++◌, Option, Some, None, refl, sym, ap, subst, ◌∙◌, ◌⊎◌, inl, inr, ◌||◌, is_some}
-use Rattle.proto_tree.specs.Common.{Class, Want, Lexeme, Field, Signed, Signature, Heading, Header, Piece, fits, is_brace, Mark, mark, one, Fit, flat_signature, flat_heading, flat_header, flat_piece, Reader, ◌then◌, made, token, starts, either, heading_at, opened, stated, syntax_at, import_at, package_at, option_at, field_at, map_field_at, reserved_at, signed_at, extensions_at, value_at, signature_at, ending_at, method_piece, method_at, piece_at, enum_piece_at}
+use Rattle.proto_tree.specs.Common.{Class, Want, Lexeme, Field, Signed, Signature, Heading, Extending, Header, Piece, fits, is_brace, Mark, mark, one, Fit, flat_signature, flat_extending, flat_heading, flat_header, flat_piece, Reader, ◌then◌, made, token, starts, either, extend_at, heading_at, opened, stated, syntax_at, import_at, package_at, option_at, field_at, map_field_at, reserved_at, signed_at, extensions_at, value_at, signature_at, ending_at, method_piece, method_at, reference_at, extending_at, piece_at, enum_piece_at}
 use Rattle.proto_tree.specs.declared.class.Class.TheVariants as class
 use Rattle.proto_tree.specs.declared.class.Want.TheVariants as want
 use Rattle.proto_tree.specs.declared.tree.Syntax.{Syntax}
@@ -17,7 +17,7 @@ use Rattle.proto_tree.specs.declared.piece.Ending.{Ending}
 use Rattle.proto_tree.specs.declared.piece.Ending.TheVariants as ending
 use Rattle.proto_tree.specs.declared.piece.Piece.TheVariants as piece
 use Rattle.proto_tree.proofs.Exact.{IsExact, Begins, Stops, Calm, never, any_of, bind_ok, some_is, either_cases, begins_left, begins_right, starts_yes, starts_no, within, within_is, apart, apart_is, Fit-split, next, token_then, one_of, IsMade, Left, Right, tok, renamed, hushed, token-exact}
-use Rattle.proto_tree.proofs.Rules.{syntax-exact, import-exact, package-exact, option-exact, field-exact, map_field-exact, reserved-exact, extensions-exact, enum_reserved-exact, value-exact, signature-exact, starts_field}
+use Rattle.proto_tree.proofs.Rules.{syntax-exact, import-exact, package-exact, option-exact, field-exact, map_field-exact, reserved-exact, extensions-exact, enum_reserved-exact, value-exact, signature-exact, reference-exact, dots, starts_field}
 
 -- a header and its brace
 pub record IsOpening (text : List Lexeme) : Type 0 where
@@ -185,6 +185,13 @@ find_method (piece.Statement (statement.Method s i)) = Some ((s, ending.Semicolo
 find_method (piece.Open (header.Method s) i) = Some ((s, ending.Open i), refl)
 find_method _ = None
 
+abbrev pub extend_of : Extending × ℕ → Piece
+extend_of x = piece.Open (header.Extend x.0) x.1
+
+abbrev pub find_extend : Finds extend_of
+find_extend (piece.Open (header.Extend x) i) = Some ((x, i), refl)
+find_extend _ = None
+
 -- ---- their ends
 
 one_closing : (i : ℕ) (text : List Lexeme) → Fit (one class.Close i) text → IsClosing text
@@ -314,6 +321,17 @@ method_on = made_on method_of find_method method-exact is_yes method_ends
     is_yes (s, ending.Semicolon i) = refl
     is_yes (s, ending.Open i) = refl
 
+extending-exact : IsExact is_brace true (fits (want.One class.Extend)) (any_of dots dots) flat_extending (made (λ x. record { keyword = x.0; extendee = x.1 }) (token (want.One class.Extend) then reference_at))
+extending-exact = renamed flat_extending (λ x. record { keyword = x.0; extendee = x.1 }) (λ e. (e.keyword, e.extendee)) (λ e. refl) (token_then (tok (want.One class.Extend) refl) reference-exact)
+
+extend-exact : IsExact never true (fits (want.One class.Extend)) never (λ x. flat_piece (extend_of x)) extend_at
+extend-exact = renamed (λ x. flat_piece (extend_of x)) (λ x. (record { keyword = x.0; extendee = x.1.0 }, x.1.1)) (λ x. (x.0.keyword, (x.0.extendee, x.1))) (λ x. refl)
+    (token_then (quiet (want.One class.Extend)) (next (hushed reference-exact) (quiet (want.One class.Open)) refl))
+
+extend_on : IsOn (is find_extend) (fits (want.One class.Extend)) extending_at
+unfolding extending_at
+extend_on = made_on extend_of find_extend extend-exact (λ x. refl) (λ x text fit. opening (flat_extending x.0) x.1 text (λ t h. extending-exact.calm x.0 t h) fit)
+
 abbrev pub enum_pieces : Piece → Bool
 enum_pieces = either_of (is find_close) (either_of (is find_empty) (either_of (is find_option) (either_of (is find_enum_reserved) (is find_value))))
 
@@ -321,10 +339,10 @@ abbrev pub begins_enum_piece : Class → Bool
 begins_enum_piece = any_of (fits (want.One class.Close)) (any_of (fits (want.One class.Semicolon)) (any_of (fits (want.One class.Option)) (any_of (fits (want.One class.Reserved)) (fits want.ValueName))))
 
 abbrev pub elsewhere : Piece → Bool
-elsewhere = either_of (is find_close) (either_of (is find_empty) (either_of (is find_message) (either_of (is find_oneof) (either_of (is find_enum) (either_of (is find_service) (either_of (is find_syntax) (either_of (is find_import) (either_of (is find_package) (either_of (is find_option) (either_of (is find_map_field) (either_of (is find_reserved) (either_of (is find_extensions) (either_of (is find_method) (is find_field))))))))))))))
+elsewhere = either_of (is find_close) (either_of (is find_empty) (either_of (is find_message) (either_of (is find_oneof) (either_of (is find_enum) (either_of (is find_service) (either_of (is find_syntax) (either_of (is find_import) (either_of (is find_package) (either_of (is find_option) (either_of (is find_map_field) (either_of (is find_reserved) (either_of (is find_extensions) (either_of (is find_method) (either_of (is find_extend) (is find_field)))))))))))))))
 
 abbrev pub begins_elsewhere : Class → Bool
-begins_elsewhere = any_of (fits (want.One class.Close)) (any_of (fits (want.One class.Semicolon)) (any_of (fits (want.One class.Message)) (any_of (fits (want.One class.Oneof)) (any_of (fits (want.One class.Enum)) (any_of (fits (want.One class.Service)) (any_of (fits (want.One class.Syntax)) (any_of (fits (want.One class.Import)) (any_of (fits (want.One class.Package)) (any_of (fits (want.One class.Option)) (any_of (fits (want.One class.Map)) (any_of (fits (want.One class.Reserved)) (any_of (fits (want.One class.Extensions)) (any_of (fits (want.One class.Rpc)) (starts_field))))))))))))))
+begins_elsewhere = any_of (fits (want.One class.Close)) (any_of (fits (want.One class.Semicolon)) (any_of (fits (want.One class.Message)) (any_of (fits (want.One class.Oneof)) (any_of (fits (want.One class.Enum)) (any_of (fits (want.One class.Service)) (any_of (fits (want.One class.Syntax)) (any_of (fits (want.One class.Import)) (any_of (fits (want.One class.Package)) (any_of (fits (want.One class.Option)) (any_of (fits (want.One class.Map)) (any_of (fits (want.One class.Reserved)) (any_of (fits (want.One class.Extensions)) (any_of (fits (want.One class.Rpc)) (any_of (fits (want.One class.Extend)) (starts_field)))))))))))))))
 
 pub enum_piece_on : IsOn enum_pieces begins_enum_piece enum_piece_at
 unfolding enum_piece_at
@@ -332,4 +350,4 @@ enum_piece_on = or_on (want.One class.Close) close_on (or_on (want.One class.Sem
 
 pub piece_on : IsOn elsewhere begins_elsewhere piece_at
 unfolding piece_at
-piece_on = or_on (want.One class.Close) close_on (or_on (want.One class.Semicolon) empty_on (or_on (want.One class.Message) message_on (or_on (want.One class.Oneof) oneof_on (or_on (want.One class.Enum) enum_on (or_on (want.One class.Service) service_on (or_on (want.One class.Syntax) syntax_on (or_on (want.One class.Import) import_on (or_on (want.One class.Package) package_on (or_on (want.One class.Option) option_on (or_on (want.One class.Map) map_field_on (or_on (want.One class.Reserved) reserved_on (or_on (want.One class.Extensions) extensions_on (or_on (want.One class.Rpc) method_on (field_on) refl refl) refl refl) refl refl) refl refl) refl refl) refl refl) refl refl) refl refl) refl refl) refl refl) refl refl) refl refl) refl refl) refl refl
+piece_on = or_on (want.One class.Close) close_on (or_on (want.One class.Semicolon) empty_on (or_on (want.One class.Message) message_on (or_on (want.One class.Oneof) oneof_on (or_on (want.One class.Enum) enum_on (or_on (want.One class.Service) service_on (or_on (want.One class.Syntax) syntax_on (or_on (want.One class.Import) import_on (or_on (want.One class.Package) package_on (or_on (want.One class.Option) option_on (or_on (want.One class.Map) map_field_on (or_on (want.One class.Reserved) reserved_on (or_on (want.One class.Extensions) extensions_on (or_on (want.One class.Rpc) method_on (or_on (want.One class.Extend) extend_on (field_on) refl refl) refl refl) refl refl) refl refl) refl refl) refl refl) refl refl) refl refl) refl refl) refl refl) refl refl) refl refl) refl refl) refl refl) refl refl

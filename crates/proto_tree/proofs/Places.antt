@@ -36,6 +36,7 @@ enum_allows (piece.Open (header.Oneof h) i) e = absurd cc
 enum_allows (piece.Open (header.Enum h) i) e = absurd cc
 enum_allows (piece.Open (header.Service h) i) e = absurd cc
 enum_allows (piece.Open (header.Method h) i) e = absurd cc
+enum_allows (piece.Open (header.Extend x) i) e = absurd cc
 enum_allows (piece.Close i) e = refl
 
 -- what stands in an enum alone
@@ -66,6 +67,7 @@ else_allows (piece.Open (header.Oneof h) i) e = refl
 else_allows (piece.Open (header.Enum h) i) e = refl
 else_allows (piece.Open (header.Service h) i) e = refl
 else_allows (piece.Open (header.Method h) i) e = refl
+else_allows (piece.Open (header.Extend x) i) e = refl
 else_allows (piece.Close i) e = refl
 
 -- what a context allows is read there

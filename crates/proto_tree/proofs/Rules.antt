@@ -62,7 +62,7 @@ reference_made None words = Right words
 abbrev pub starts_reference : Class → Bool
 starts_reference = any_of (is class.Dot) (is class.Name)
 
-reference-exact : IsExact is_brace true starts_reference (any_of dots dots) flat_reference reference_at
+pub reference-exact : IsExact is_brace true starts_reference (any_of dots dots) flat_reference reference_at
 unfolding reference_at
 reference-exact = one_of (want.One class.Dot) flat_reference with_dot with_none (λ r. reference_made r.dot r.words) (token_then (the class.Dot refl) dotted-exact) named-exact refl refl
 

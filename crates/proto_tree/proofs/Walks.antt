@@ -39,6 +39,7 @@ after_inner context.Oneof k e = refl
 after_inner context.Enum k e = refl
 after_inner context.Service k e = refl
 after_inner context.Method k e = refl
+after_inner context.Extend k e = refl
 
 pub last_inner : (t : Tree) (c : Context) → allows c kind.Close ≡ true → last_of c t ≡ c
 last_inner End c e = refl
@@ -60,6 +61,7 @@ after_outer context.Oneof k e = absurd cc
 after_outer context.Enum k e = absurd cc
 after_outer context.Service k e = absurd cc
 after_outer context.Method k e = absurd cc
+after_outer context.Extend k e = absurd cc
 
 pub last_outer : (t : Tree) (c : Context) → allows c kind.Close ≡ false → allows (last_of c t) kind.Close ≡ false
 last_outer End c e = e

@@ -6,6 +6,9 @@ use Rattle.proto_tree.specs.declared.class.Lexeme.{Lexeme}
 use Rattle.proto_tree.specs.declared.tree.Block.{Block as Braced}
 use Rattle.proto_tree.specs.declared.piece.Statement.{Statement}
 use Rattle.proto_tree.specs.declared.piece.Heading.{Heading}
+use Rattle.proto_tree.specs.declared.piece.Extending.{Extending}
+use Rattle.proto_tree.specs.declared.tree.Extend.{Extend}
+use Rattle.proto_tree.specs.declared.tree.Extension.{Extension}
 use Rattle.proto_tree.specs.declared.piece.Header.{Header}
 use Rattle.proto_tree.specs.declared.piece.Piece.{Piece}
 use Rattle.proto_tree.specs.declared.context.Context.{Context}
@@ -94,6 +97,16 @@ braced h i members j = record {
   name = h.name;
   «open» = i;
   members = members;
+  close = j;
+}
+
+-- an `extend` block, put together of its beginning, its fields and its braces
+abbrev pub extended : Extending → ℕ → Vec Extension → ℕ → Extend
+extended e i fields j = record {
+  keyword = e.keyword;
+  extendee = e.extendee;
+  «open» = i;
+  fields = fields;
   close = j;
 }
 

@@ -13,6 +13,8 @@ use Rattle.proto_tree.specs.declared.tree.ServiceItem.TheVariants as service_ite
 use Rattle.proto_tree.specs.declared.tree.EnumItem.{EnumItem}
 use Rattle.proto_tree.specs.declared.tree.EnumItem.TheVariants as enum_item
 use Rattle.proto_tree.specs.declared.tree.Block.{Block as Braced}
+use Rattle.proto_tree.specs.declared.tree.Extend.{Extend}
+use Rattle.proto_tree.specs.declared.tree.Extension.{Extension}
 use Rattle.proto_tree.specs.declared.tree.Member.{Member}
 use Rattle.proto_tree.specs.declared.tree.Member.TheOpen.{Member-F}
 use Rattle.proto_tree.specs.declared.tree.Member.TheFolds.{fold-Member}
@@ -78,6 +80,16 @@ field_tree f = Leaf (statement.Field f) End
 abbrev pub oneof_tree : Braced Field → Tree
 oneof_tree o = block_tree header.Oneof (trees field_tree o.members.items) o
 
+-- an extension: the statement of its field
+abbrev pub extension_tree : Extension → Tree
+extension_tree x = field_tree x.field
+
+-- an `extend` block, with its fields in it
+abbrev pub extend_tree : Extend → Tree
+extend_tree e =
+    Block (header.Extend (record { keyword = e.keyword; extendee = e.extendee })) e.«open»
+    (trees extension_tree e.fields.items) e.close End
+
 -- a member whose nested members are seen already
 abbrev pub member_layer : Member-F Tree → Tree
 member_layer (Member-F.Field f) = field_tree f
@@ -85,6 +97,7 @@ member_layer (Member-F.MapField f) = Leaf (statement.MapField f) End
 member_layer (Member-F.Oneof o) = oneof_tree o
 member_layer (Member-F.Message m) = block_tree header.Message (all_joined m.members.items) m
 member_layer (Member-F.Enum e) = enum_tree e
+member_layer (Member-F.Extend e) = extend_tree e
 member_layer (Member-F.Option o) = Leaf (statement.Option o) End
 member_layer (Member-F.Reserved r) = Leaf (statement.Reserved r) End
 member_layer (Member-F.Extensions e) = Leaf (statement.Extensions e) End
@@ -107,6 +120,7 @@ item_tree (item.Option o) = Leaf (statement.Option o) End
 item_tree (item.Message m) = message_tree m
 item_tree (item.Enum e) = enum_tree e
 item_tree (item.Service s) = service_tree s
+item_tree (item.Extend e) = extend_tree e
 item_tree (item.Empty i) = Leaf (statement.Empty i) End
 
 -- a whole file: its items, one behind another

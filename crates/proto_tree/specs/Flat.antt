@@ -37,6 +37,7 @@ use Rattle.proto_tree.specs.declared.tree.Signature.{Signature}
 use Rattle.proto_tree.specs.declared.piece.Statement.{Statement}
 use Rattle.proto_tree.specs.declared.piece.Statement.TheVariants as statement
 use Rattle.proto_tree.specs.declared.piece.Heading.{Heading}
+use Rattle.proto_tree.specs.declared.piece.Extending.{Extending}
 use Rattle.proto_tree.specs.declared.piece.Header.{Header}
 use Rattle.proto_tree.specs.declared.piece.Header.TheVariants as header
 use Rattle.proto_tree.specs.declared.piece.Piece.{Piece}
@@ -287,13 +288,19 @@ flat_statement (statement.Empty i) = one class.Semicolon i
 abbrev pub flat_heading : Class → Heading → List Mark
 flat_heading c h = one c h.keyword ++ name h.name
 
--- what stands before the `{` of a block: a keyword and a name, or a method's signature
+-- the beginning of an `extend` block: the keyword, and a reference to the message that it extends
+abbrev pub flat_extending : Extending → List Mark
+flat_extending e = one class.Extend e.keyword ++ flat_reference e.extendee
+
+-- what stands before the `{` of a block: a keyword and a name, a method's signature, or `extend` with
+-- a reference
 abbrev pub flat_header : Header → List Mark
 flat_header (header.Message h) = flat_heading class.Message h
 flat_header (header.Oneof h) = flat_heading class.Oneof h
 flat_header (header.Enum h) = flat_heading class.Enum h
 flat_header (header.Service h) = flat_heading class.Service h
 flat_header (header.Method s) = flat_signature s
+flat_header (header.Extend e) = flat_extending e
 
 -- a statement, or what begins or ends a block
 abbrev pub flat_piece : Piece → List Mark

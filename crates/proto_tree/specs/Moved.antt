@@ -31,6 +31,7 @@ use Rattle.proto_tree.specs.declared.tree.Signature.{Signature}
 use Rattle.proto_tree.specs.declared.piece.Statement.{Statement}
 use Rattle.proto_tree.specs.declared.piece.Statement.TheVariants as statement
 use Rattle.proto_tree.specs.declared.piece.Heading.{Heading}
+use Rattle.proto_tree.specs.declared.piece.Extending.{Extending}
 use Rattle.proto_tree.specs.declared.piece.Header.{Header}
 use Rattle.proto_tree.specs.declared.piece.Header.TheVariants as header
 use Rattle.proto_tree.specs.Flat.{Mark}
@@ -240,6 +241,10 @@ move_statement g (statement.Empty i) = statement.Empty (g i)
 abbrev pub move_heading : Move → Heading → Heading
 move_heading g h = record { keyword = g h.keyword; name = g h.name }
 
+-- the beginning of an `extend` block, moved
+abbrev pub move_extending : Move → Extending → Extending
+move_extending g e = record { keyword = g e.keyword; extendee = move_reference g e.extendee }
+
 -- what stands before the `{` of a block, moved
 abbrev pub move_header : Move → Header → Header
 move_header g (header.Message h) = header.Message (move_heading g h)
@@ -247,6 +252,7 @@ move_header g (header.Oneof h) = header.Oneof (move_heading g h)
 move_header g (header.Enum h) = header.Enum (move_heading g h)
 move_header g (header.Service h) = header.Service (move_heading g h)
 move_header g (header.Method s) = header.Method (move_signature g s)
+move_header g (header.Extend e) = header.Extend (move_extending g e)
 
 -- a whole tree, moved: each of its tokens has the index that the move gives
 abbrev pub move_tree : Move → Tree → Tree

@@ -38,6 +38,7 @@ use Rattle.proto_tree.specs.declared.tree.Signature.{Signature}
 use Rattle.proto_tree.specs.declared.piece.Statement.{Statement}
 use Rattle.proto_tree.specs.declared.piece.Statement.TheVariants as statement
 use Rattle.proto_tree.specs.declared.piece.Heading.{Heading}
+use Rattle.proto_tree.specs.declared.piece.Extending.{Extending}
 use Rattle.proto_tree.specs.declared.piece.Header.{Header}
 use Rattle.proto_tree.specs.declared.piece.Header.TheVariants as header
 use Rattle.proto_tree.specs.declared.piece.Ending.{Ending}
@@ -386,6 +387,15 @@ heading_at c = made (λ x. (record { keyword = x.0; name = x.1.0 }, x.1.1))
 abbrev pub opened : (Heading → Header) → Class → Reader Piece
 opened make c = made (λ x. piece.Open (make x.0) x.1) (heading_at c)
 
+-- `extend`, what it extends and a brace
+abbrev pub extend_at : Reader (Extending × ℕ)
+extend_at = made (λ x. (record { keyword = x.0; extendee = x.1.0 }, x.1.1))
+    (one_token class.Extend then reference_at then one_token class.Open)
+
+-- reads the beginning of an `extend` block
+unfoldable pub extending_at : Reader Piece
+extending_at = made (λ x. piece.Open (header.Extend x.0) x.1) extend_at
+
 -- what the keyword of a block makes of its heading
 abbrev pub header_of : Class → Heading → Header
 header_of class.Message h = header.Message h
@@ -433,4 +443,5 @@ piece_at =
     (on class.Reserved (stated statement.Reserved (reserved_at (one_token class.Number)))
     (on class.Extensions (stated statement.Extensions extensions_at)
     (on class.Rpc method_at
-    (stated statement.Field field_at))))))))))))))
+    (on class.Extend extending_at
+    (stated statement.Field field_at)))))))))))))))

@@ -41,6 +41,7 @@ header_kind (header.Oneof h) = kind.OpenOneof
 header_kind (header.Enum h) = kind.OpenEnum
 header_kind (header.Service h) = kind.OpenService
 header_kind (header.Method s) = kind.OpenMethod
+header_kind (header.Extend e) = kind.OpenExtend
 
 -- what kind of piece it is: a statement, the beginning of a block, or the brace that ends one
 abbrev pub kind_of : Piece → Kind
@@ -56,6 +57,7 @@ in_file kind.Empty = true
 in_file kind.OpenMessage = true
 in_file kind.OpenEnum = true
 in_file kind.OpenService = true
+in_file kind.OpenExtend = true
 in_file _ = false
 
 -- what may stand in a file that has no package yet
@@ -75,6 +77,7 @@ in_message kind.Empty = true
 in_message kind.OpenMessage = true
 in_message kind.OpenOneof = true
 in_message kind.OpenEnum = true
+in_message kind.OpenExtend = true
 in_message kind.Close = true
 in_message _ = false
 
@@ -112,6 +115,10 @@ allows context.Method kind.Option = true
 allows context.Method kind.Empty = true
 allows context.Method kind.Close = true
 allows context.Method _ = false
+allows context.Extend kind.Field = true
+allows context.Extend kind.LabeledField = true
+allows context.Extend kind.Close = true
+allows context.Extend _ = false
 
 -- where the next piece of the same block stands: `syntax` is first alone, and a file has one
 -- package
@@ -129,6 +136,7 @@ inside (header.Oneof h) = context.Oneof
 inside (header.Enum h) = context.Enum
 inside (header.Service h) = context.Service
 inside (header.Method s) = context.Method
+inside (header.Extend e) = context.Extend
 
 -- statements and blocks, in order: a block has its header, what is in it, and its two braces
 pub data Tree : Type 0 where

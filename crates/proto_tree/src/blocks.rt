@@ -1,17 +1,17 @@
 //! Reading blocks: what stands between two braces, and the second brace.
 
 ghost use Rattle.std.specs.Prelude.{◌≡◌, [], ◌∷◌, ◌++◌, MatchResult, true};
-ghost use Rattle.proto_tree.specs.Answer.{FaultOf, FoundIn, IsBody, IsMet, braced};
+ghost use Rattle.proto_tree.specs.Answer.{FaultOf, FoundIn, IsBody, IsMet, braced, extended};
 ghost use Rattle.proto_tree.specs.File.{service_item_tree, member_tree, trees};
 ghost use Rattle.proto_tree.specs.Tree.{allows};
 
 use crate::class::Lexeme;
 use crate::context::{Context, Kind};
 use crate::items::{Single, member_of, service_item_of};
-use crate::piece::{Header, Heading, Piece};
+use crate::piece::{Extending, Header, Heading, Piece};
 use crate::pieces::any_piece;
 use crate::reading::Stop;
-use crate::tree::{Block, Member, Method, MethodEnd, ServiceItem};
+use crate::tree::{Block, Extend, Extension, Member, Method, MethodEnd, ServiceItem};
 use std::alloc::Global;
 
 /// Why a file was not read: for want of memory, or how many tokens are left where it goes wrong.
@@ -131,7 +131,10 @@ fn service_item(alloc: Global, tokens: &[Lexeme]) -> Result<(Found<ServiceItem>,
                 let method = Method { signature, end };
                 Ok((Found::Item(ServiceItem::Method(method)), rest))
             }
-            _ => Err(Fault::Syntax(tokens.len())),
+            other => {
+                drop(other);
+                Err(Fault::Syntax(tokens.len()))
+            }
         },
         Piece::Close(close) => Ok((Found::Close(close), rest)),
     }
@@ -157,6 +160,19 @@ pub fn service_items(
             Found::Item(item) => push(&mut items, item)?,
         }
         rest = after;
+    }
+}
+
+/// An `extend` block, put together of its beginning, its fields and its braces.
+pub fn extend(extending: Extending, open: u32, fields: Vec<Extension>, close: u32) -> Extend
+    ensures { result ≡ extended extending «open» fields close }
+{
+    Extend {
+        keyword: extending.keyword,
+        extendee: extending.extendee,
+        open,
+        fields,
+        close,
     }
 }
 
@@ -187,6 +203,11 @@ fn member(alloc: Global, tokens: &[Lexeme]) -> Result<(Found<Member>, &[Lexeme])
                 let (items, close, rest) = singles(alloc, rest)?;
                 let nested = block(heading, open, items, close);
                 Ok((Found::Item(Member::Enum(nested)), rest))
+            }
+            Header::Extend(extending) => {
+                let (fields, close, rest) = singles(alloc, rest)?;
+                let extended = extend(extending, open, fields, close);
+                Ok((Found::Item(Member::Extend(extended)), rest))
             }
             other => {
                 drop(other);

@@ -19,6 +19,7 @@ pub enum Context {
     Enum,
     Service,
     Method,
+    Extend,
 }
 
 /// What a piece is.
@@ -44,6 +45,7 @@ pub enum Kind {
     OpenEnum,
     OpenService,
     OpenMethod,
+    OpenExtend,
     Close,
 }
 
@@ -80,6 +82,7 @@ pub fn header_kind(header: &Header) -> Kind
         Header::Enum(_) => Kind::OpenEnum,
         Header::Service(_) => Kind::OpenService,
         Header::Method(_) => Kind::OpenMethod,
+        Header::Extend(_) => Kind::OpenExtend,
     }
 }
 
@@ -100,7 +103,7 @@ fn in_file(kind: Kind) -> bool
 {
     match kind {
         Kind::Import | Kind::Option | Kind::Empty => true,
-        Kind::OpenMessage | Kind::OpenEnum | Kind::OpenService => true,
+        Kind::OpenMessage | Kind::OpenEnum | Kind::OpenService | Kind::OpenExtend => true,
         _ => false,
     }
 }
@@ -122,7 +125,8 @@ fn in_message(kind: Kind) -> bool
     match kind {
         Kind::Field | Kind::LabeledField | Kind::MapField | Kind::Option => true,
         Kind::Reserved | Kind::Extensions | Kind::Empty => true,
-        Kind::OpenMessage | Kind::OpenOneof | Kind::OpenEnum | Kind::Close => true,
+        Kind::OpenMessage | Kind::OpenOneof | Kind::OpenEnum | Kind::OpenExtend => true,
+        Kind::Close => true,
         _ => false,
     }
 }
@@ -170,6 +174,10 @@ impl Context {
             Context::Service => in_service(kind),
             Context::Method => match kind {
                 Kind::Option | Kind::Empty | Kind::Close => true,
+                _ => false,
+            },
+            Context::Extend => match kind {
+                Kind::Field | Kind::LabeledField | Kind::Close => true,
                 _ => false,
             },
         }

@@ -6,7 +6,7 @@ ghost use Rattle.proto_tree.specs.File.{item_tree, trees, tree_of_file};
 ghost use Rattle.proto_tree.specs.Place.{IsShallow, IsTooDeep};
 ghost use Rattle.proto_tree.specs.Tree.{Tree, Spells, allows, header_kind, inside};
 
-use crate::blocks::{Fault, block, members, next_piece, push, service_items, singles};
+use crate::blocks::{Fault, block, extend, members, next_piece, push, service_items, singles};
 use crate::class::{Class, Lexeme};
 use crate::context::{Context, kind_of};
 use crate::items::item_of;
@@ -37,6 +37,10 @@ fn block_item(
         Header::Service(heading) => {
             let (items, close, rest) = service_items(alloc, tokens)?;
             Ok((Item::Service(block(heading, open, items, close)), rest))
+        }
+        Header::Extend(extending) => {
+            let (fields, close, rest) = singles(alloc, tokens)?;
+            Ok((Item::Extend(extend(extending, open, fields, close)), rest))
         }
         other => {
             drop(other);

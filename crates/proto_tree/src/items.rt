@@ -5,7 +5,9 @@ ghost use Rattle.proto_tree.specs.File.{service_item_tree, member_tree, item_tre
 
 use crate::context::Context;
 use crate::piece::Statement;
-use crate::tree::{EnumItem, Field, Item, Member, Method, MethodEnd, MethodItem, ServiceItem};
+use crate::tree::{
+    EnumItem, Extension, Field, Item, Member, Method, MethodEnd, MethodItem, ServiceItem,
+};
 
 /// What stands in a block that holds no other block: of an enum, a oneof or a method.
 pub trait Single: Drop {
@@ -57,6 +59,33 @@ impl Single for Field {
                 }
                 None => Some(field),
             },
+            other => {
+                drop(other);
+                None
+            }
+        }
+    }
+
+    ghost ends = { refl };
+
+    ghost holds_no_block = { elim [ header.Message _ ↦ refl | _ ↦ refl ] };
+}
+
+impl Single for Extension {
+    ghost use Rattle.std.specs.Prelude.{refl};
+    ghost use Rattle.proto_tree.specs.declared.context.Context.TheVariants as context;
+    ghost use Rattle.proto_tree.specs.declared.piece.Header.TheVariants as header;
+    ghost use Rattle.proto_tree.specs.File.{extension_tree};
+
+    ghost CONTEXT = { context.Extend };
+
+    const CONTEXT: Context = Context::Extend;
+
+    ghost tree = { extension_tree };
+
+    fn of(statement: Statement) -> Option<Self> {
+        match statement {
+            Statement::Field(field) => Some(Extension { field }),
             other => {
                 drop(other);
                 None

@@ -24,9 +24,10 @@ mod words;
 pub use list::Sequence;
 pub use parsing::{ParseFault, parse};
 pub use tree::{
-    Behind, Block, Constant, Dotted, Enum, EnumItem, Extensions, Field, FieldType, File, Import,
-    Item, Joined, MapField, Member, Message, Method, MethodEnd, MethodItem, MethodType, Oneof,
-    Option_, Package, Range, RangeEnd, Reference, Reserved, ReservedList, Separated, Service,
-    ServiceItem, Setting, Settings, Signature, Signed, Syntax, UpTo, Value,
+    Behind, Block, Constant, Dotted, Enum, EnumItem, Extend, Extension, Extensions, Field,
+    FieldType, File, Import, Item, Joined, MapField, Member, Message, Method, MethodEnd,
+    MethodItem, MethodType, Oneof, Option_, Package, Range, RangeEnd, Reference, Reserved,
+    ReservedList, Separated, Service, ServiceItem, Setting, Settings, Signature, Signed, Syntax,
+    UpTo, Value,
 };
 pub use words::{is_listed, may_name_value};

@@ -1,8 +1,8 @@
 //! The pieces of a file: statements, and what begins and ends a block.
 
 use crate::tree::{
-    Extensions, Field, Import, MapField, Option_, Package, Reserved, Signature, Signed, Syntax,
-    Value,
+    Extensions, Field, Import, MapField, Option_, Package, Reference, Reserved, Signature, Signed,
+    Syntax, Value,
 };
 
 /// What ends in a `;`.
@@ -29,6 +29,13 @@ pub struct Heading {
     pub name: u32,
 }
 
+/// What an `extend` block begins with: the keyword, and a reference to a message.
+#[derive(Drop)]
+pub struct Extending {
+    pub keyword: u32,
+    pub extendee: Reference,
+}
+
 /// What stands before a `{`.
 #[derive(Drop)]
 pub enum Header {
@@ -37,6 +44,7 @@ pub enum Header {
     Enum(Heading),
     Service(Heading),
     Method(Signature),
+    Extend(Extending),
 }
 
 /// What ends the signature of a method.

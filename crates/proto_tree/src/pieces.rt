@@ -1,16 +1,17 @@
 //! Reading a piece: a statement, or what begins or ends a block.
 
 ghost use Rattle.std.specs.Prelude.{◌≡◌, true};
-ghost use Rattle.proto_tree.specs.Reading.{Gives, starts, stated, one_token, reserved_at, header_of, opened, close_at, empty_at, enum_piece_at, piece_at};
+ghost use Rattle.proto_tree.specs.Reading.{Gives, starts, stated, one_token, reserved_at, header_of, opened, extending_at, close_at, empty_at, enum_piece_at, piece_at};
 ghost use Rattle.proto_tree.specs.Walk.{any_piece_in};
 
 use crate::class::{Class, Lexeme, Want};
 use crate::context::Context;
 use crate::methods::method;
+use crate::names::reference;
 use crate::options::option_statement;
-use crate::piece::{Header, Heading, Piece, Statement};
+use crate::piece::{Extending, Header, Heading, Piece, Statement};
 use crate::ranges::{extensions, reserved};
-use crate::reading::{Stop, first, starts, three};
+use crate::reading::{Stop, first, one, starts, three};
 use crate::statements::{field, import, map_field, package, syntax, value};
 use std::alloc::Global;
 
@@ -81,6 +82,19 @@ fn reserved_piece(alloc: Global, rest: &[Lexeme]) -> Result<(Piece, &[Lexeme]), 
     Ok((Piece::Statement(Statement::Reserved(reserved)), rest))
 }
 
+// What stands in front of the fields of an `extend` block.
+#[tactic(auto, unfolding(crate::specs::Reading::extending_at))]
+fn extending(alloc: Global, rest: &[Lexeme]) -> Result<(Piece, &[Lexeme]), Stop>
+    requires { starts (Want.One Class.Extend) rest.now ≡ true }
+    ensures { Gives (λ x. (x.0, x.1.now)) result (extending_at rest.now) }
+{
+    let (keyword, rest) = first(rest, Want::One(Class::Extend));
+    let (extendee, rest) = reference(alloc, rest)?;
+    let (open, rest) = one(rest, Class::Open)?;
+    let extending = Extending { keyword, extendee };
+    Ok((Piece::Open(Header::Extend(extending), open), rest))
+}
+
 #[tactic(auto, unfolding(crate::specs::Reading::piece_at))]
 fn piece(alloc: Global, rest: &[Lexeme]) -> Result<(Piece, &[Lexeme]), Stop>
     ensures { Gives (λ x. (x.0, x.1.now)) result (piece_at rest.now) }
@@ -101,6 +115,7 @@ fn piece(alloc: Global, rest: &[Lexeme]) -> Result<(Piece, &[Lexeme]), Stop>
             Class::Reserved => reserved_piece(alloc, rest),
             Class::Extensions => extensions(alloc, rest),
             Class::Rpc => method(alloc, rest),
+            Class::Extend => extending(alloc, rest),
             _ => field(alloc, rest),
         },
         [] => field(alloc, rest),

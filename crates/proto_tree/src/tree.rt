@@ -258,6 +258,22 @@ pub type Enum = Block<EnumItem>;
 /// `service Name { .. }`
 pub type Service = Block<ServiceItem>;
 
+/// An extension: a field that an `extend` block gives to the message that it names.
+#[derive(Drop)]
+pub struct Extension {
+    pub field: Field,
+}
+
+/// `extend Message { optional Type name = 100; .. }`
+#[derive(Drop)]
+pub struct Extend {
+    pub keyword: u32,
+    pub extendee: Reference,
+    pub open: u32,
+    pub fields: Vec<Extension>,
+    pub close: u32,
+}
+
 /// What stands in a message.
 #[derive(Drop)]
 pub enum Member {
@@ -266,6 +282,7 @@ pub enum Member {
     Oneof(Oneof),
     Message(Message),
     Enum(Enum),
+    Extend(Extend),
     Option(Option_),
     Reserved(Reserved<u32>),
     Extensions(Extensions),
@@ -299,6 +316,7 @@ pub enum Item {
     Message(Message),
     Enum(Enum),
     Service(Service),
+    Extend(Extend),
     Empty(u32),
 }
 

@@ -242,15 +242,31 @@ const HELPS: &[Row] = &[
     ("protoref -h", "help|There is no --version"),
     (
         "protoref compile -h",
-        "help|   1 TooLarge        a file of more than",
+        "help|   1 TooLarge           a file of more than",
     ),
     (
         "protoref compile -h",
-        "help|  14 Unresolved      a reference that means nothing",
+        "help|  14 Unresolved         a reference that means nothing",
     ),
     (
         "protoref compile -h",
-        "help|  35 TooManyFiles    more files than a workspace holds",
+        "help|  35 TooManyFiles       more files than a workspace holds",
+    ),
+    (
+        "protoref compile -h",
+        "help|  15 WrongKind          a reference of a method or of an `extend` that means an enum",
+    ),
+    (
+        "protoref compile -h",
+        "help|  36 NotExtendable      an extension's number inside no extension range of",
+    ),
+    (
+        "protoref compile -h",
+        "help|  37 DuplicateExtension an extension's number that an earlier one of the same",
+    ),
+    (
+        "protoref compile -h",
+        "help|  38 RequiredExtension  a required extension",
     ),
     (
         "protoref lint -h",

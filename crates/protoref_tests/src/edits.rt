@@ -4,6 +4,7 @@ mod allocations;
 mod calls;
 mod deletions;
 mod entries;
+mod extensions;
 mod imports;
 mod journal;
 mod lists;

@@ -306,3 +306,27 @@ pub(crate) const TYPES: &[Row] = &[
         "",
     ),
 ];
+
+/// Extensions are no fields, and what they extend uses an import.
+pub(crate) const EXTENSIONS: &[Row] = &[
+    (
+        "FIELD_LOWER_SNAKE_CASE",
+        "a.proto message M { extensions 1 to 2; optional int32 bAd = 3; extend M { optional int32 Bad = 1; } } extend M { optional int32 _x = 2; }",
+        "a.proto:1:47: FIELD_LOWER_SNAKE_CASE M.bAd\n",
+    ),
+    (
+        "IMPORT_USED",
+        "a.proto import \"b.proto\"; extend M { optional int32 x = 1; } | b.proto import public \"c.proto\"; | c.proto message M { extensions 1; }",
+        "",
+    ),
+    (
+        "IMPORT_USED",
+        "a.proto import \"b.proto\"; message A { extend M { } } | b.proto message M {}",
+        "",
+    ),
+    (
+        "IMPORT_USED",
+        "a.proto import \"b.proto\"; import \"c.proto\"; message M { extensions 1; extend M { optional C x = 1; } } | b.proto message B { extensions 1; extend B { optional B y = 1; } } | c.proto message C {}",
+        "a.proto:1:1: IMPORT_USED b.proto\n",
+    ),
+];

@@ -50,6 +50,11 @@ fn prints_what_single_rules_find_in_messages_and_enums(rt: HostRuntime) {
 }
 
 #[test]
+fn prints_what_single_rules_find_in_extend_blocks(rt: HostRuntime) {
+    expect_rows(&rt, lint_rows::EXTENSIONS);
+}
+
+#[test]
 fn prints_what_single_rules_find_in_services(rt: HostRuntime) {
     expect_rows(&rt, lint_rows::SERVICES);
     expect_rows(&rt, lint_rows::METHODS);

@@ -13,41 +13,44 @@ pub(crate) const COMPILE: &str = "Status: 0; 1 with the least fault of the schem
 as path:line:column: NUMBER NAME; 2 with a line on standard error.
 
 Faults:
-   1 TooLarge        a file of more than 1,048,576 bytes
-   2 NotUtf8         a file that is not UTF-8
-   3 BadChar         a character that begins no token, white space or comment
-   4 OpenComment     a block comment that is not closed
-   5 OpenString      a string that is not closed
-   6 BadEscape       a string with a refused escape, or whose value is not UTF-8
-   7 BadNumber       a word that begins with a digit and is no number
-   8 Syntax          a statement that the grammar does not have
-   9 TooDeep         more than 32 braces open at once
-  10 UnknownImport   an import of a path that is not in the workspace
-  11 DoubleImport    an import of a path that the file imports before
-  12 ImportCycle     an import that leads back to its file
-  13 DuplicateName   a full name that an earlier declaration or a package has
-  14 Unresolved      a reference that means nothing
-  15 WrongKind       a method's reference that means an enum
-  16 MapEntryRef     a reference that means a generated map entry
-  17 NumberRange     a number or a range outside its limits
-  18 DuplicateNumber a field number that an earlier field has
-  19 ReservedNumber  a number inside a reserved or extension range
-  20 ReservedName    a name that is reserved, or reserved twice
-  21 RangeOverlap    a range that shares a number with an earlier one
-  22 EmptyEnum       an enum without values
-  23 FirstNotZero    an enum whose first value has to be 0 and is not
-  24 ClosedEnum      an enum of a proto2 file in a field of a proto3 file
-  25 Label           a proto2 field without a label
-  26 BadMap          a map key of a type that no key has
-  27 BadOption       an option that the element does not have, or with a value of another kind
-  28 BadDefault      a default that the field does not have
-  29 EmptyOneof      a oneof without fields
-  30 JsonClash       a JSON name that an earlier field has
-  31 NotInProto3     a word of proto2 in a proto3 file
-  32 AliasNotAllowed a value number that an earlier value has, without leave
-  33 BadPath         a path that is no workspace path
-  34 DoublePath      a path that is given twice
-  35 TooManyFiles    more files than a workspace holds
+   1 TooLarge           a file of more than 1,048,576 bytes
+   2 NotUtf8            a file that is not UTF-8
+   3 BadChar            a character that begins no token, white space or comment
+   4 OpenComment        a block comment that is not closed
+   5 OpenString         a string that is not closed
+   6 BadEscape          a string with a refused escape, or whose value is not UTF-8
+   7 BadNumber          a word that begins with a digit and is no number
+   8 Syntax             a statement that the grammar does not have
+   9 TooDeep            more than 32 braces open at once
+  10 UnknownImport      an import of a path that is not in the workspace
+  11 DoubleImport       an import of a path that the file imports before
+  12 ImportCycle        an import that leads back to its file
+  13 DuplicateName      a full name that an earlier declaration or a package has
+  14 Unresolved         a reference that means nothing
+  15 WrongKind          a reference of a method or of an `extend` that means an enum
+  16 MapEntryRef        a reference that means a generated map entry
+  17 NumberRange        a number or a range outside its limits
+  18 DuplicateNumber    a field number that an earlier field has
+  19 ReservedNumber     a number inside a reserved or extension range
+  20 ReservedName       a name that is reserved, or reserved twice
+  21 RangeOverlap       a range that shares a number with an earlier one
+  22 EmptyEnum          an enum without values
+  23 FirstNotZero       an enum whose first value has to be 0 and is not
+  24 ClosedEnum         an enum of a proto2 file in a field of a proto3 file
+  25 Label              a proto2 field without a label
+  26 BadMap             a map key of a type that no key has
+  27 BadOption          an option that the element does not have, or with a value of another kind
+  28 BadDefault         a default that the field does not have
+  29 EmptyOneof         a oneof without fields
+  30 JsonClash          a JSON name that an earlier field has
+  31 NotInProto3        a word of proto2 in a proto3 file
+  32 AliasNotAllowed    a value number that an earlier value has, without leave
+  33 BadPath            a path that is no workspace path
+  34 DoublePath         a path that is given twice
+  35 TooManyFiles       more files than a workspace holds
+  36 NotExtendable      an extension's number inside no extension range of what it extends
+  37 DuplicateExtension an extension's number that an earlier one of the same message has
+  38 RequiredExtension  a required extension
 
 Example: protoref compile schemas";
 

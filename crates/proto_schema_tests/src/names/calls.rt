@@ -90,6 +90,7 @@ fn kind_name(kind: Kind) -> &'static str {
         Kind::Oneof => "oneof",
         Kind::Value => "value",
         Kind::Method => "method",
+        Kind::Extension => "extension",
     }
 }
 

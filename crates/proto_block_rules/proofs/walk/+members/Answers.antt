@@ -1,10 +1,11 @@
-use Rattle.std.proofs.Common.{ℕ, ◌++◌, List, map, ◌∙◌, refl, ap, sym, arith}
+use Rattle.std.proofs.Common.{ℕ, ◌++◌, List, map, ◌∙◌, refl, ap, sym, append-nil, arith}
 use Rattle.proto_faults.proofs.Common.{on_ok_weaker, all_listed, listed_turn}
 use Rattle.proto_tree.specs.declared.tree.Member.{Member}
 use Rattle.proto_tree.proofs.Common.{member_tree, trees, member_tree-Enum, member_tree-Oneof}
+use Rattle.proto_tree.proofs.Nodes.{member_tree-Extend}
 use Rattle.proto_findings.proofs.Common.{Found, found_of}
 use Rattle.proto_block_rules.specs.Common.{Walk, walk_finds}
-use Rattle.proto_block_rules.proofs.BlockTrees.{finds_of_enum, finds_of_items, finds_of_oneof}
+use Rattle.proto_block_rules.proofs.BlockTrees.{finds_of_enum, finds_of_extend, finds_of_items, finds_of_oneof}
 use Rattle.proto_block_rules.proofs.walk.+members.Goals as goal
 
 abbrev told : Walk → List ℕ → List Member → List Found
@@ -41,3 +42,10 @@ add_member-returns-in-Enum t c =
     let is = ap (λ (m : Member). walk_finds c.args.walk.now c.args.scope.now (member_tree m)) c.in-Enum.is
     ∙ ap (walk_finds c.args.walk.now c.args.scope.now) (member_tree-Enum c.in-Enum.names) ∙ finds_of_enum c.args.walk.now c.args.scope.now c.in-Enum.names in
     on_ok_weaker c.add_enum.result (λ e. e ∙ ap (λ (fs : List Found). found ++ fs) (sym is)) c.add_enum.ensures
+
+pub add_member-returns-in-Extend : goal.add_member-returns-in-Extend
+add_member-returns-in-Extend t c =
+    let found = map found_of c.args.found.now.items in
+    let is = ap (λ (m : Member). walk_finds c.args.walk.now c.args.scope.now (member_tree m)) c.in-Extend.is
+    ∙ ap (walk_finds c.args.walk.now c.args.scope.now) (member_tree-Extend c.in-Extend.field-0) ∙ finds_of_extend c.args.walk.now c.args.scope.now c.in-Extend.field-0 in
+    sym (ap (λ (fs : List Found). found ++ fs) is ∙ append-nil found)

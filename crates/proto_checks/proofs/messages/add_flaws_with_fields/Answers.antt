@@ -19,10 +19,10 @@ returns c =
     let rest = extension_flaws scene within ++ options in
     on_ok_weaker c.add_message_options.result
     (λ e.
-    then_added (flat_map (field_flaws scene) fields) (numbers fields ++ (names fields ++ (json_clashes scene fields ++ rest))) found c.add_each_field.new.found.items _ c.in_ok-add_each_field.ensures
+    then_added (flat_map (field_flaws scene element.Field) fields) (numbers fields ++ (names fields ++ (json_clashes scene fields ++ rest))) found c.add_each_field.new.found.items _ c.in_ok-add_each_field.ensures
     (then_added (numbers fields) (names fields ++ (json_clashes scene fields ++ rest)) c.add_each_field.new.found.items c.add_numbers.new.found.items _ c.in_ok-add_numbers.ensures
     (then_added (names fields) (json_clashes scene fields ++ rest) c.add_numbers.new.found.items c.add_names.new.found.items _ c.in_ok-add_names.ensures
     (then_added (json_clashes scene fields) rest c.add_names.new.found.items c.add_json_clashes.new.found.items _ c.in_ok-add_json_clashes.ensures
     (then_added (extension_flaws scene within) options c.add_json_clashes.new.found.items c.add_extension_flaws.new.found.items _ c.in_ok-add_extension_flaws.ensures e))))
-    ∙ ap (λ (fs : List FieldOf). found ++ (flat_map (field_flaws scene) fs ++ (numbers fs ++ (names fs ++ (json_clashes scene fs ++ rest))))) c.requires)
+    ∙ ap (λ (fs : List FieldOf). found ++ (flat_map (field_flaws scene element.Field) fs ++ (numbers fs ++ (names fs ++ (json_clashes scene fs ++ rest))))) c.requires)
     c.add_message_options.ensures

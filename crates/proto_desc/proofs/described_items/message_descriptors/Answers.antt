@@ -24,4 +24,5 @@ loop-item-preserved c =
 
 pub returns : goal.returns
 returns c =
-    described_all item_tree c.args.scene.now c.args.around.now c.args.items.now c.loop-item.item-index c.loop-item.descriptors.items _ (omega arith) c.loop-item.invariant
+    ap messages_desc c.shrink_to_fit.ensures.items
+    ∙ described_all item_tree c.args.scene.now c.args.around.now c.args.items.now c.loop-item.item-index c.loop-item.descriptors.items _ (omega arith) c.loop-item.invariant

@@ -12,6 +12,7 @@ returns c =
     (same_parts _ (message_described c.args.scene.now c.args.full.now c.args.name (trees member_tree c.args.members.now))
     (c.in_ok-from_str.ensures.ok ∙ c.text.ensures)
     c.in_ok-field.ensures.fields
+    c.in_ok-field.ensures.extensions
     c.in_ok-field.ensures.enums
     c.in_ok-extension_range.ensures.extensions
     c.in_ok-field.ensures.oneofs

@@ -9,8 +9,9 @@ returns g c =
     let field = c.args.field.now in
     on_ok_weaker c.put-3.result (λ sent.
     (more (valued (option_map-option_map quoted string_bytes field.default_value) c.in_ok-put_optional.ensures)
-    (more (valued (option_map-option_map quoted string_bytes field.json_name) c.in_ok-put_optional-2.ensures)
+    (more (valued (option_map-option_map quoted string_bytes field.extendee) c.in_ok-put_optional-2.ensures)
+    (more (valued (option_map-option_map quoted string_bytes field.json_name) c.in_ok-put_optional-3.ensures)
     (more c.in_ok-put.ensures
     (more c.in_ok-put-2.ensures
-    (last sent))))))
+    (last sent)))))))
     c.put-3.ensures

@@ -10,7 +10,8 @@ returns g c =
     let message = out-MessageDescriptor c.args.message.now in
     on_ok_weaker c.put.result (λ sent.
     (more (listed (map_both enum_text enum_desc message.enum_type.items) (sliced _ c.deref.ensures.value c.in_ok-put_list.ensures))
-    (more (sliced _ c.deref-2.ensures.value c.in_ok-put_list-2.ensures)
-    (more (listed (map_both field_text field_desc message.field.items) (sliced _ c.deref-3.ensures.value c.in_ok-put_list-3.ensures))
-    (last sent)))))
+    (more (listed (map_both field_text field_desc message.extension.items) (sliced _ c.deref-2.ensures.value c.in_ok-put_list-2.ensures))
+    (more (sliced _ c.deref-3.ensures.value c.in_ok-put_list-3.ensures)
+    (more (listed (map_both field_text field_desc message.field.items) (sliced _ c.deref-4.ensures.value c.in_ok-put_list-4.ensures))
+    (last sent))))))
     c.put.ensures

@@ -2,9 +2,10 @@ use Rattle.std.proofs.Common.{List, [], ◌∷◌, ◌++◌, map, refl, sym, ap,
 use Rattle.proto_faults.proofs.Common.{map-append, all_listed}
 use Rattle.proto_tree.specs.declared.tree.Member.{Member}
 use Rattle.proto_tree.proofs.Common.{member_tree, trees, member_tree-Enum, member_tree-Oneof}
+use Rattle.proto_tree.proofs.Nodes.{member_tree-Extend}
 use Rattle.proto_parts.proofs.Common.{BlockOf, wanted_turn}
 use Rattle.proto_members.specs.Blocks.{block_of, holders_in, may_hold}
-use Rattle.proto_members.proofs.BlockTrees.{enum_alone, oneof_alone}
+use Rattle.proto_members.proofs.BlockTrees.{enum_alone, extend_alone, oneof_alone}
 use Rattle.proto_members.proofs.blocks.+blocks.Goals as goal
 
 pub push_members-loop-member-preserved : goal.push_members-loop-member-preserved
@@ -27,3 +28,10 @@ push_member-returns-in_ok-push-in-Enum t c =
     ∙ map-append block_of c.args.found.now.items (_ ∷ [])
     ∙ ap (λ (bs : List BlockOf). map block_of c.args.found.now.items ++ bs)
     (sym (ap (λ (m : Member). holders_in (member_tree m)) c.in-Enum.is ∙ ap holders_in (member_tree-Enum c.in-Enum.enumeration) ∙ enum_alone c.in-Enum.enumeration))
+
+pub push_member-returns-in_ok-push-in-Extend : goal.push_member-returns-in_ok-push-in-Extend
+push_member-returns-in_ok-push-in-Extend t c =
+    ap (map block_of) c.in_ok-push-in-Extend.ensures.items
+    ∙ map-append block_of c.args.found.now.items (_ ∷ [])
+    ∙ ap (λ (bs : List BlockOf). map block_of c.args.found.now.items ++ bs)
+    (sym (ap (λ (m : Member). holders_in (member_tree m)) c.in-Extend.is ∙ ap holders_in (member_tree-Extend c.in-Extend.extend) ∙ extend_alone c.in-Extend.extend))

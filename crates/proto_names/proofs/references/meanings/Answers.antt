@@ -34,7 +34,7 @@ loop-used-preserved c = λ w names read. (
     let f = reference_by c.args.file names (word_at c.args.words.now) in
     let asked = asked_in c.args.table.now c.args.seen.now c.args.rows.now names c.args.file w read (word_at c.args.words.now) c.used-item.result within c.match-used.scope scope in
     let is = ap (option_map (λ k. get_or (names_of c.args.table.now) k [])) (sym c.in-Ok.ensures.row.0) ∙ c.in_ok-row.ensures w (f c.used-item.result) asked refl refl in
-    let sound = ap (λ o. row_flaw c.args.table.now o c.used-item.result.is_method) (sym c.in-Ok.ensures.row.0) ∙ c.in-Ok.ensures.row.1 in
+    let sound = ap (λ o. row_flaw c.args.table.now o c.used-item.result.wants_message) (sym c.in-Ok.ensures.row.0) ∙ c.in-Ok.ensures.row.1 in
     let items = c.push.ensures.items ∙ cond-true (is_ok c.push.result) (c.loop-used.meant.items ++ record { token = c.token_of-token.result; row = c.in-Ok.row } ∷ []) c.loop-used.meant.items (sym c.map_err.ensures.variant ∙ ap is_ok c.in_ok-map_err-in-Ok.was) in
     subst (AreMeant c.args.table.now w (map f (take (c.loop-used.used-index + 1) c.args.uses.now)) (map first_token (take (c.loop-used.used-index + 1) c.args.uses.now))) (sym items)
     (meant_step c.args.table.now w f c.args.uses.now c.loop-used.used-index c.loop-used.meant.items c.used-item.result (record { token = c.token_of-token.result; row = c.in-Ok.row }) c.loop-used-test.true c.used-item.is

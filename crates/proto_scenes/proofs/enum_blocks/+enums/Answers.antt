@@ -2,9 +2,10 @@ use Rattle.std.proofs.Common.{List, [], ◌∷◌, ◌++◌, map, refl, sym, ap,
 use Rattle.proto_faults.proofs.Common.{map-append, all_listed}
 use Rattle.proto_tree.specs.declared.tree.Member.{Member}
 use Rattle.proto_tree.proofs.Common.{member_tree, trees, member_tree-Enum, member_tree-Oneof}
+use Rattle.proto_tree.proofs.Nodes.{member_tree-Extend}
 use Rattle.proto_parts.proofs.Common.{BlockOf, wanted_turn}
 use Rattle.proto_scenes.specs.Enums.{enum_block, enums_in, is_enum}
-use Rattle.proto_scenes.proofs.EnumTrees.{enum_alone, oneof_enums}
+use Rattle.proto_scenes.proofs.EnumTrees.{enum_alone, extend_enums, oneof_enums}
 use Rattle.proto_scenes.proofs.enum_blocks.+enums.Goals as goal
 
 pub push_members-loop-member-preserved : goal.push_members-loop-member-preserved
@@ -25,3 +26,8 @@ pub push_member-returns-in-Oneof : goal.push_member-returns-in-Oneof
 push_member-returns-in-Oneof t c =
     let found : List BlockOf = map (λ e. enum_block e.now) c.args.found.now.items in
     sym (ap (λ (bs : List BlockOf). found ++ bs) (ap (λ (m : Member). enums_in (member_tree m)) c.in-Oneof.is ∙ ap enums_in (member_tree-Oneof c.in-Oneof.field-0) ∙ oneof_enums c.in-Oneof.field-0) ∙ append-nil found)
+
+pub push_member-returns-in-Extend : goal.push_member-returns-in-Extend
+push_member-returns-in-Extend t c =
+    let found : List BlockOf = map (λ e. enum_block e.now) c.args.found.now.items in
+    sym (ap (λ (bs : List BlockOf). found ++ bs) (ap (λ (m : Member). enums_in (member_tree m)) c.in-Extend.is ∙ ap enums_in (member_tree-Extend c.in-Extend.field-0) ∙ extend_enums c.in-Extend.field-0) ∙ append-nil found)

@@ -1,4 +1,5 @@
-use Rattle.proto_statement_deleted.proofs.Scenes.{other_scenes_stay, scenes_have_tokens}
+use Rattle.proto_statement_deleted.proofs.Extensions.{other_scenes_stay}
+use Rattle.proto_statement_deleted.proofs.Scenes.{scenes_have_tokens}
 use Rattle.proto_statement_deleted.proofs.laws.scenes_have_tokens.Goals as goal
 
 pub returns : goal.returns

@@ -4,8 +4,8 @@ use Rattle.proto_tree.specs.declared.context.Context.TheVariants as context
 use Rattle.proto_tree.specs.declared.piece.Header.TheVariants as header
 use Rattle.proto_tree.specs.declared.piece.Piece.TheVariants as piece
 use Rattle.proto_tree.specs.declared.tree.Member.TheVariants as member
-use Rattle.proto_tree.specs.File.{trees, field_tree, oneof_tree, enum_item_tree, enum_tree, member_tree, message_tree}
-use Rattle.proto_tree.proofs.Nodes.{statement_item, not_here, close_item, block_seen, fault_behind, fault_inside, opening_shorter, read_push, no_other_in_message, member_tree-Message, member_tree-Oneof, member_tree-Enum}
+use Rattle.proto_tree.specs.File.{trees, field_tree, oneof_tree, enum_item_tree, enum_tree, extension_tree, extend_tree, member_tree, message_tree}
+use Rattle.proto_tree.proofs.Nodes.{statement_item, not_here, close_item, block_seen, fault_behind, fault_inside, opening_shorter, read_push, no_other_in_message, member_tree-Message, member_tree-Oneof, member_tree-Enum, member_tree-Extend}
 use Rattle.proto_tree.proofs.blocks.+messages.Goals as goal
 
 pub member-members-requires : goal.member-members-requires
@@ -35,6 +35,13 @@ member-returns-in_err-items-in-Enum t c =
     let found = rw c.in-Enum.is at met in
     rw (p.1, p.2) (fault_inside context.Message (header.Enum c.in-Enum.heading) c.in-Open.«open» c.args.tokens.now c.in_ok-piece.rest.now c.in_err-items-in-Enum.field-0.0 found refl c.in_err-items-in-Enum.ensures)
 
+pub member-returns-in_err-fields-in-Extend : goal.member-returns-in_err-fields-in-Extend
+member-returns-in_err-fields-in-Extend t c =
+    let p = err_from_is_err_and c.from_residual-in_err-fields-in-Extend.result c.from_residual-in_err-fields-in-Extend.ensures.1 in
+    let met = rw c.in-Open.is at c.in_ok-piece.ensures in
+    let found = rw c.in-Extend.is at met in
+    rw (p.1, p.2) (fault_inside context.Message (header.Extend c.in-Extend.extending) c.in-Open.«open» c.args.tokens.now c.in_ok-piece.rest.now c.in_err-fields-in-Extend.field-0.0 found refl c.in_err-fields-in-Extend.ensures)
+
 pub member-returns-in-Some : goal.member-returns-in-Some
 member-returns-in-Some t c =
     statement_item context.Message member_tree c.in-Statement.statement c.in-Some.item c.args.tokens.now c.in_ok-piece.rest.now (rw c.in-Statement.is at c.in_ok-piece.ensures) c.in-Some.ensures
@@ -61,11 +68,17 @@ member-returns-in_ok-items-in-Enum t c =
     let found = rw c.in-Enum.is at met in
     block_seen context.Message (header.Enum c.in-Enum.heading) c.in-Open.«open» (trees enum_item_tree c.in_ok-items-in-Enum.items.items) (member_tree (member.Enum c.block-nested.result)) c.in_ok-items-in-Enum.close c.args.tokens.now c.in_ok-piece.rest.now c.in_ok-items-in-Enum.rest.now found refl c.in_ok-items-in-Enum.ensures (member_tree-Enum c.block-nested.result ∙ ap enum_tree c.block-nested.ensures)
 
+pub member-returns-in_ok-fields-in-Extend : goal.member-returns-in_ok-fields-in-Extend
+member-returns-in_ok-fields-in-Extend t c =
+    let met = rw c.in-Open.is at c.in_ok-piece.ensures in
+    let found = rw c.in-Extend.is at met in
+    block_seen context.Message (header.Extend c.in-Extend.extending) c.in-Open.«open» (trees extension_tree c.in_ok-fields-in-Extend.fields.items) (member_tree (member.Extend c.extend-extended.result)) c.in_ok-fields-in-Extend.close c.args.tokens.now c.in_ok-piece.rest.now c.in_ok-fields-in-Extend.rest.now found refl c.in_ok-fields-in-Extend.ensures (member_tree-Extend c.extend-extended.result ∙ ap extend_tree c.extend-extended.ensures)
+
 pub member-returns-in_default : goal.member-returns-in_default
 member-returns-in_default t c =
     let found = rw c.in-Open.is at c.in_ok-piece.ensures in
     not_here context.Message (piece.Open c.in-Open.header c.in-Open.«open») c.args.tokens.now c.in_ok-piece.rest.now found
-    (no_other_in_message c.in-Open.header c.in_default.not-Message c.in_default.not-Oneof c.in_default.not-Enum) (λ e. refl)
+    (no_other_in_message c.in-Open.header c.in_default.not-Message c.in_default.not-Oneof c.in_default.not-Enum c.in_default.not-Extend) (λ e. refl)
 
 pub member-returns-in-Close : goal.member-returns-in-Close
 member-returns-in-Close t c = close_item context.Message c.in-Close.close c.args.tokens.now c.in_ok-piece.rest.now (rw c.in-Close.is at c.in_ok-piece.ensures) refl

@@ -2,7 +2,7 @@ use Rattle.std.proofs.Common.{◌≡◌, ℕ, ◌<◌, length, subst, inl, inr, 
 use Rattle.proto_faults.proofs.Common.{cases_lt, err_from_is_err_and}
 use Rattle.proto_desc.specs.CheckSteps.{HasNoFlaw}
 use Rattle.proto_desc.proofs.LeastCheckFault.{check_error, no_fault}
-use Rattle.proto_desc.proofs.checking.check_files.Goals as goal
+use Rattle.proto_desc.proofs.checking.check_each.Goals as goal
 
 pub returns-in_err-check_file-clause-fault : goal.returns-in_err-check_file-clause-fault
 returns-in_err-check_file-clause-fault c =

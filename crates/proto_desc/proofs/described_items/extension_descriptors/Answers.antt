@@ -1,0 +1,10 @@
+use Rattle.std.proofs.Common.{refl, arith}
+use Rattle.proto_tree.specs.File.{item_tree}
+use Rattle.proto_described.proofs.Common.{extensions_described, extensions_joined, described_turn, described_none}
+use Rattle.proto_desc.proofs.described_items.extension_descriptors.Goals as goal
+
+pub loop-item-preserved : goal.loop-item-preserved
+loop-item-preserved c = described_turn (extensions_described c.args.scene.now) item_tree (extensions_joined c.args.scene.now) c.args.items.now c.loop-item.item-index c.item-item.result _ _ _ c.loop-item-test.true c.item-item.is c.in_ok-push_item_extensions.ensures c.loop-item.invariant
+
+pub returns : goal.returns
+returns c = described_none (extensions_described c.args.scene.now) item_tree refl c.args.items.now c.loop-item.item-index _ _ (omega arith) c.loop-item.invariant

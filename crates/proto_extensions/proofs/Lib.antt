@@ -1,0 +1,12 @@
+pub mod BlockTrees
+pub mod CappedExtensions
+pub mod ExtendTrees
+pub mod Extendees
+pub mod MovedExtensions
+pub mod NoExtensions
+pub mod OpenRows
+pub mod SeenExtensions
+pub mod ToldExtensions
+pub mod WorkspaceFlaws
+pub mod WorkspaceNumbers
+pub mod WrittenExtensions

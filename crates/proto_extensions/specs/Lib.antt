@@ -1,0 +1,7 @@
+pub mod Blocks
+pub mod Capped
+pub mod Common
+pub mod Extends
+pub mod Extensions
+pub mod Listed
+pub mod OpenTables
