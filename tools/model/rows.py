@@ -1,6 +1,6 @@
 """Renames with their answers, counted by hand. A row has files, the renames asked one after another, and for each what is
-printed, with the splices `path at old new` of an accepted one, and a piece of the descriptors after it. Rows of the other edits
-are read in the tests.
+printed, with the splices `path at old new` of an accepted one, and a piece of the descriptors after it. More rows, of all
+edits, are read in the tests.
 """
 
 import re
@@ -34,29 +34,33 @@ def done(*splices, json=""):
 
 
 COMMANDS = {"rename": "rename", "delete": "delete-field", "add": "add-import", "drop": "drop-import"}
-TABLE = re.compile(r"^(?:pub\(crate\) )?const \w+: &\[(Flat|Deletion|Place)\] = (.*?\];)$", re.S | re.M)
-TEXT = re.compile(r'"(?:[^"\\]|\\.)*"|[\[\],]')
+# A row that has a name, or a table of rows, of which some may be named.
+TABLE = re.compile(r"^(?:pub\(crate\) )?const (\w+): (?:&\[)?(Flat|Deletion|Place)(\])? = &?(.*?\];)$", re.S | re.M)
+TEXT = re.compile(r'"(?:[^"\\]|\\.)*"|[\[\],]|\b[A-Z_]+\b')
+COMMENT = re.compile(r"^\s*//.*$", re.M)
 EMPTY = {"b.proto": "", "c.proto": ""}
 
 
 def rows_of_tests(source):
     """The rows that a source of tests has: texts by path, the edits with their answers, the texts afterwards, a piece of the
     descriptors."""
-    for kind, table in TABLE.findall(source):
-        for row in values_of_table(table):
+    named = {}
+    for name, kind, is_table, table in TABLE.findall(COMMENT.sub("", source)):
+        named[name] = values_of_table(table, named)
+        for row in named[name] if is_table else []:
             files, steps, after, json = parts_of_row(kind, row)
             words = [(COMMANDS[step[0]], *step[1 : 2 if step[0] == "delete" else 3], step[3]) for step in steps]
             yield files, words, after, json
 
 
-def values_of_table(table):
-    return eval("".join(TEXT.findall(table)), {"__builtins__": {}})
+def values_of_table(table, named):
+    return eval("".join(TEXT.findall(table)), {"__builtins__": {}}, named)
 
 
 def rows_of_faults(source):
     """The rows that a source of tests has of faults of extensions: texts by path, and the number, the path and the offset."""
     for table in re.findall(r"^const \w+: &\[\(&str, &str\)\] = (.*?\];)$", source, re.S | re.M):
-        told = values_of_table("[" + ",".join(one for one in TEXT.findall(table) if one[0] == '"') + "]")
+        told = values_of_table("[" + ",".join(one for one in TEXT.findall(table) if one[0] == '"') + "]", {})
         for given, said in zip(told[::2], told[1::2]):
             fault = re.fullmatch(r"(\S+):(\d+): (\d+) \w+", said)
             if fault and int(fault[3]) in OF_EXTENSIONS:

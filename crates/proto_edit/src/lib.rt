@@ -8,4 +8,5 @@ mod workspace;
 pub use proto_desc::{Descriptors, OpenFault, to_json};
 pub use proto_entries::{Change, Edit, Entry, Refusal};
 pub use proto_files::{Fault, FaultKind, Files, NoMemory};
+pub use proto_names::{Kind, Link, RefId, SymbolId};
 pub use workspace::Workspace;

@@ -61,7 +61,7 @@ impl Workspace {
     }
 
     /// The link of the files: their names, and what each reference means.
-    pub(crate) fn link(&self) -> &Link
+    pub fn link(&self) -> &Link
         ensures { IsLinkOf self.now result.now }
     {
         self.schema.link()
@@ -76,7 +76,7 @@ impl Workspace {
         self.schema.descriptors()
     }
 
-    /// Lets the workspace go, as `Schema::release` does.
+    /// Lets the workspace go, as `Schema::release` does, and for the same reason ensures nothing.
     pub fn release(self) {
         self.schema.release();
     }

@@ -1,12 +1,12 @@
 -- Journals with one record more and with one less, and what a call reads of them.
-use Rattle.std.proofs.Common.{arith, ◌≡◌, ◌⊎◌, inl, inr, ℕ, true, false, List, [], ◌∷◌, ◌++◌, length, Option, Some, None, Ok, Err, refl, sym, ap, ◌∙◌, subst, append_assoc, append-nil}
+use Rattle.std.proofs.Common.{arith, ◌≡◌, ◌⊎◌, ℕ, true, false, List, [], ◌∷◌, ◌++◌, length, Option, Some, None, Ok, Err, refl, sym, ap, ◌∙◌, subst, append_assoc, append-nil}
 use Rattle.proto_records.specs.declared.fault.JournalFault.{JournalFault}
 use Rattle.proto_records.specs.declared.fault.JournalFault.TheVariants.{BadJournal, NoMemory}
 use Rattle.proto_records.specs.declared.record.State.{State}
 use Rattle.proto_records.specs.declared.record.State.TheVariants as state
 use Rattle.proto_records.specs.declared.record.Version.{Version}
 use Rattle.proto_records.specs.declared.record.Version.TheVariants.{Second}
-use Rattle.proto_records.proofs.Common.{record_text, IsJournal, is_last_open, is_open, done, journal_text, HasOpenEntry, IsReady, IsUnreadable, CountsFault, Over, RecordOf, IsJournalIn, IsReadyWith}
+use Rattle.proto_records.proofs.Common.{record_text, IsJournal, is_last_open, is_open, done, journal_text, HasOpenEntry, IsReady, IsUnreadable, CountsFault, Over, RecordOf, IsJournalIn, IsReadyWith, unread}
 use Rattle.proto_store.specs.Stores.{Held, HoldsJournal}
 use Rattle.proto_journal.specs.Common.{IsUnready, LastOutcome, IsReadyText}
 
@@ -63,19 +63,13 @@ ready_made (Some there) bytes text v records r e = (v, records, r.0, e)
 
 pub not_read : (h : Option Held) (bytes : List ℕ) (f : JournalFault) → HoldsJournal h bytes → (f ≡ BadJournal) ⊎ (f ≡ NoMemory)
     → (f ≡ BadJournal → (records : List RecordOf) → IsJournal bytes records → ⊥) → IsUnready h f
-not_read h bytes f e which bad = elim which [
-  | inl is ↦ subst (λ (z : JournalFault). IsUnready h z) (sym is) (unreadable h bytes e (bad is))
-  | inr is ↦ subst (λ (z : JournalFault). IsUnready h z) (sym is) tt
-]
+not_read h bytes f e which bad = unread (IsUnready h) f which (λ is. unreadable h bytes e (bad is)) tt
 
 -- ---- the last entry
 
 pub no_last : (bytes : List ℕ) (f : JournalFault) → (f ≡ BadJournal) ⊎ (f ≡ NoMemory)
     → (f ≡ BadJournal → (records : List RecordOf) → IsJournal bytes records → ⊥) → LastOutcome bytes (Err f)
-no_last bytes f which bad = elim which [
-  | inl is ↦ subst (λ (z : JournalFault). LastOutcome bytes (Err z)) (sym is) (bad is)
-  | inr is ↦ subst (λ (z : JournalFault). LastOutcome bytes (Err z)) (sym is) tt
-]
+no_last bytes f which bad = unread (λ (z : JournalFault). LastOutcome bytes (Err z)) f which bad tt
 
 pub last_there : (bytes : List ℕ) (v : Version) (records before : List RecordOf) (r : RecordOf) → IsJournalIn v bytes records → is_last_open records ≡ false → records ≡ before ++ r ∷ [] → LastOutcome bytes (Ok (v, r))
 last_there bytes v records before r j o e =
@@ -93,7 +87,4 @@ nothing_there bytes v records j e = j.text ∙ ap (journal_text v) (no_record re
 -- ---- counts
 
 pub counts_unread : (before after : ℕ) (f : JournalFault) → after ≡ before → (f ≡ BadJournal) ⊎ (f ≡ NoMemory) → CountsFault before after f
-counts_unread before after f e which = elim which [
-  | inl is ↦ subst (λ (z : JournalFault). CountsFault before after z) (sym is) e
-  | inr is ↦ subst (λ (z : JournalFault). CountsFault before after z) (sym is) e
-]
+counts_unread before after f e which = unread (CountsFault before after) f which (λ is. e) e

@@ -4,3 +4,4 @@ pub mod Common
 mod Cursors
 mod FoundFiles
 mod LogSteps
+mod ReferencePlaces

@@ -3,6 +3,7 @@ pub mod EditLines
 pub mod Ends
 pub mod FaultLines
 pub mod FoundLines
+pub mod Locations
 pub mod LogLines
 pub mod Places
 pub mod RecoveryLines

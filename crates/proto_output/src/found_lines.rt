@@ -1,6 +1,6 @@
 //! The lines of what rules find.
 
-ghost use Rattle.std.specs.Prelude.{◌≡◌, ◌++◌, flat_map, map, IfOk, OnOk};
+ghost use Rattle.std.specs.Prelude.{◌≡◌, ◌++◌, ℕ, List, flat_map, map, IfOk, OnOk};
 ghost use Rattle.std.specs.String.{string_bytes};
 ghost use Rattle.proto_files.specs.GivenFiles.{file_at};
 ghost use Rattle.proto_findings.specs.Views.{finding_of};
@@ -26,10 +26,7 @@ pub fn lines_of_findings(
         ≡ flat_map (found_line files.now) (map finding_of found.now)) }
 {
     let mut text = String::new(alloc);
-    let mut spot = Spot {
-        file: 0,
-        cursor: Cursor::new(),
-    };
+    let mut spot = Spot::new();
     for finding in found {
         spot = spot.moved_to(files, finding.path.as_str(), finding.offset);
         add_line(alloc, &mut text, finding, spot.cursor.place())?;
@@ -57,21 +54,31 @@ fn add_line(
 
 // A file by its number, and a place of its text.
 #[derive(Clone, Copy)]
-struct Spot {
-    file: usize,
-    cursor: Cursor,
+pub(crate) struct Spot {
+    pub(crate) file: usize,
+    pub(crate) cursor: Cursor,
 }
 
 impl Spot {
-    // At an offset of the text of the file at a path. Files behind this one are looked at first.
-    fn moved_to(self, files: &Files, path: &str, offset: u32) -> Spot
-        requires { IsCursorIn (file_at files.now self.file).bytes self.cursor }
-        ensures there { IsCursorIn (file_at files.now result.file).bytes result.cursor }
-        ensures line { result.cursor.place.line ≡ line_at (text_at path.now files.now) offset }
-        ensures column { result.cursor.place.column
-            ≡ column_at (text_at path.now files.now) offset }
+    // At the beginning of the first file.
+    pub(crate) fn new() -> Spot
+        ensures { (text : List ℕ) → IsCursorIn text result.cursor }
     {
-        let file = number_of(files, self.file, path);
+        Spot {
+            file: 0,
+            cursor: Cursor::new(),
+        }
+    }
+
+    // At an offset of the text of the file with a number.
+    pub(crate) fn in_file(self, files: &Files, file: usize, offset: u32) -> Spot
+        requires { IsCursorIn (file_at files.now self.file).bytes self.cursor }
+        ensures file { result.file ≡ file }
+        ensures there { IsCursorIn (file_at files.now file).bytes result.cursor }
+        ensures line { result.cursor.place.line ≡ line_at (file_at files.now file).bytes offset }
+        ensures column { result.cursor.place.column
+            ≡ column_at (file_at files.now file).bytes offset }
+    {
         let cursor = if file == self.file {
             self.cursor
         } else {
@@ -81,6 +88,18 @@ impl Spot {
             file,
             cursor: cursor.moved_to(text_of(files, file), offset),
         }
+    }
+
+    // At an offset of the text of the file at a path. Files behind this one are looked at first.
+    fn moved_to(self, files: &Files, path: &str, offset: u32) -> Spot
+        requires { IsCursorIn (file_at files.now self.file).bytes self.cursor }
+        ensures there { IsCursorIn (file_at files.now result.file).bytes result.cursor }
+        ensures line { result.cursor.place.line ≡ line_at (text_at path.now files.now) offset }
+        ensures column { result.cursor.place.column
+            ≡ column_at (text_at path.now files.now) offset }
+    {
+        let file = number_of(files, self.file, path);
+        self.in_file(files, file, offset)
     }
 }
 

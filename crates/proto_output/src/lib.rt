@@ -5,6 +5,7 @@
 mod answer;
 mod edit_lines;
 mod found_lines;
+mod locations;
 mod log_lines;
 mod place;
 mod recovery_lines;
@@ -17,6 +18,7 @@ mod writing;
 pub use answer::{Answer, write_answer};
 pub use edit_lines::{journal_line, refusal_line, write_changed};
 pub use found_lines::lines_of_findings;
+pub use locations::{Location, locations_of_references, place_of_fault};
 pub use log_lines::lines_of_records;
 pub use place::{Cursor, Place, place_at};
 pub use recovery_lines::{plain_refusal_line, write_migration, write_recovery};

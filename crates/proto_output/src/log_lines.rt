@@ -1,6 +1,6 @@
 //! The lines of a journal's records.
 
-ghost use Rattle.std.specs.Prelude.{◌≡◌, ◌++◌, IfOk, OnOk, codes, map, option_map, string_bytes};
+ghost use Rattle.std.specs.Prelude.{◌≡◌, ◌++◌, IfOk, OnOk, codes, decimal, map, option_map, string_bytes};
 ghost use Rattle.proto_entries.specs.EditsAsked.{asked};
 ghost use Rattle.proto_entries.specs.Entries.{change_of};
 ghost use Rattle.proto_output.specs.LogLines.{edit_words, joined_paths, log_lines, one_word, record_line, told_words, two_words};
@@ -35,13 +35,21 @@ fn add_record(
     ensures { OnOk result (string_bytes text.new
         ≡ string_bytes text.old ++ record_line index noted.now) }
 {
-    let number = format!(in alloc; "{index}")?;
-    text.push_str(number.as_str())?;
+    add_number(alloc, text, index)?;
     add_word(text, state_text(noted.state()))?;
     text.push(' ')?;
     add_paths(text, noted.entry().changes())?;
     add_told(text, noted.edit())?;
     text.push('\n')?;
+    Ok(())
+}
+
+// Adds a number in decimal.
+fn add_number(alloc: Global, text: &mut String, number: usize) -> Result<(), NoMemory>
+    ensures { OnOk result (string_bytes text.new ≡ string_bytes text.old ++ decimal number) }
+{
+    let digits = format!(in alloc; "{number}")?;
+    text.push_str(digits.as_str())?;
     Ok(())
 }
 

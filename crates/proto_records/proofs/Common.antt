@@ -7,3 +7,4 @@ pub use Rattle.proto_records.specs.ReadJournals.{HasOpenEntry, IsReady, IsReadyW
 unfoldable pub use Rattle.proto_records.specs.RecordText.{record_text}
 pub use Rattle.proto_records.specs.Records.{IsNoted, RecordOf, done, opened}
 pub use Rattle.proto_records.specs.Torn.{IsBetween, IsTornBetween, Keeps}
+pub use Rattle.proto_records.proofs.UnreadJournals.{unread}

@@ -1,4 +1,5 @@
 pub mod TornStores
+pub mod UnreadJournals
 mod Apart
 mod Comebacks
 mod CompactText

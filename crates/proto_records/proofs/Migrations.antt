@@ -5,7 +5,8 @@ use Rattle.std.specs.Global.{Vec}
 use Rattle.proto_records.specs.Common.{JournalFault, Version, First, Second, RecordOf, IsJournal, IsJournalIn, is_last_open, journal_text, CountsFault, IsSettled, IsReadInOneWay, IsMigrant, IsMigrated, IsOpenFirst, IsSecond, IsTooLong, MigrateOutcome, MigrationsAreOne, SecondOutcome}
 use Rattle.proto_records.specs.declared.fault.JournalFault.TheVariants as fault
 use Rattle.proto_store.specs.Stores.{Held, HoldsJournal, with_journal}
-use Rattle.proto_records.proofs.Outcomes.{over_journal, unread}
+use Rattle.proto_records.proofs.Outcomes.{over_journal}
+use Rattle.proto_records.proofs.UnreadJournals.{unread}
 
 -- ---- what is answered
 

@@ -11,13 +11,10 @@ use Rattle.proto_records.proofs.Comebacks.{entry_of, last_of_all}
 use Rattle.proto_records.proofs.OldFiles.{all_back, distinct, olds_listed, some_back}
 use Rattle.proto_records.proofs.OneRecovery.{last_of}
 use Rattle.proto_records.proofs.PutBack.{put_back_was_either}
+use Rattle.proto_records.proofs.UnreadJournals.{unread}
 use Rattle.proto_entries.specs.declared.refusal.Refusal.TheVariants as refusal
 
 -- ---- the open entry
-
--- what isn't read is no journal, or wants memory
-pub unread : (P : JournalFault → Type 0) (f : JournalFault) → (f ≡ fault.BadJournal) ⊎ (f ≡ fault.NoMemory) → (f ≡ fault.BadJournal → P fault.BadJournal) → P fault.NoMemory → P f
-unread P f which bad none = elim which [ inl is ↦ subst P (sym is) (bad is) | inr is ↦ subst P (sym is) none ]
 
 pub no_open : (bytes : List ℕ) (f : JournalFault) → (f ≡ fault.BadJournal) ⊎ (f ≡ fault.NoMemory)
     → (f ≡ fault.BadJournal → (records : List RecordOf) → IsJournal bytes records → ⊥) → OpenOutcome bytes (Err f)

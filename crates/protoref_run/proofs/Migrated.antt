@@ -1,4 +1,6 @@
 -- What is told of the move of a journal, and what the command then answers.
+-- As `Recovered` goes through the faults of a recovery: which of them come, and what each leaves, differs (`MigrateOutcome`,
+-- `RecoverOutcome`), so each has its own cases.
 use Rattle.std.proofs.Common.{◌≡◌, Option, Result, Ok, Err}
 use Rattle.proto_output.specs.RecoveryLines.{plain_refused_line}
 use Rattle.proto_output.specs.declared.answer.Answer.{Answer}

@@ -30,7 +30,8 @@ pub(crate) fn opened<S: Store>(alloc: Global, store: &mut S) -> Result<Schema, L
     }
 }
 
-// The same without descriptors.
+// The same without descriptors. One function for both would be generic over which schemas are
+// opened, by a trait whose clauses are those of two types: longer than the two.
 pub(crate) fn checked<S: Store>(alloc: Global, store: &mut S) -> Result<CheckedSchema, LoadFault>
     requires { S.failure_count store.old < 2 ^ 64 - 1 }
     ensures compiles { IfOk result (Compiles (S.holds store.old)) }

@@ -8,6 +8,7 @@ mod extensions;
 mod imports;
 mod journal;
 mod lists;
+mod locations;
 mod opening;
 mod renames;
 mod rows;

@@ -2,8 +2,8 @@
 //! allocation these tests still pass, whichever it is.
 
 use super::calls::{Flat, expect_none, told};
-use super::deletions::ONEOF;
-use super::imports::IMPORT;
+use super::deletions::{ONEOF, PLAIN};
+use super::imports::{EMPTY, IMPORT};
 use super::rows::{FIRST_MAP, VALUE, WIDE};
 use proto_faults::NoMemory;
 use std::process::Abort;
@@ -29,4 +29,10 @@ fn one_is_refused(rt: HostRuntime) {
 fn one_is_refused_of_statements(rt: HostRuntime) {
     expect_in_the_end(&rt, ONEOF);
     expect_in_the_end(&rt, IMPORT);
+}
+
+// A field outside of a oneof, deleted, and an import into an empty file.
+#[test]
+fn one_is_refused_of_single_statements(rt: HostRuntime) {
+    expect_in_the_end(&rt, &[PLAIN, EMPTY]);
 }

@@ -113,14 +113,17 @@ pub(crate) const ONEOF: &[Flat] = &[[
     "\"oneofDecl\":[{\"name\":\"o\"}],\"reservedName\":[\"a\"],\"reservedRange\":[{\"end\":2,\"start\":1}]",
 ]];
 
+/// A field outside of a oneof, with what refuses others before.
+pub(crate) const PLAIN: Flat = [
+    "a.proto syntax = \"proto3\"; message A { string b_c = 1; }",
+    "delete A > 2 KindNotAllowed|delete A.q > 1 UnknownTarget|delete .A.b_c > 1 UnknownTarget|delete A.b_c > a.proto 48 60 (31 string b_c = 1; reserved 1; reserved \"b_c\";);",
+    "a.proto syntax = \"proto3\"; message A { reserved 1; reserved \"b_c\"; }",
+    "{\"file\":[{\"messageType\":[{\"name\":\"A\",\"reservedName\":[\"b_c\"],\"reservedRange\":[{\"end\":2,\"start\":1}]}],\"name\":\"a.proto\",\"syntax\":\"proto3\"}]}",
+];
+
 /// Deletions one after another, and what refuses them.
 pub(crate) const DELETIONS: &[Flat] = &[
-    [
-        "a.proto syntax = \"proto3\"; message A { string b_c = 1; }",
-        "delete A > 2 KindNotAllowed|delete A.q > 1 UnknownTarget|delete .A.b_c > 1 UnknownTarget|delete A.b_c > a.proto 48 60 (31 string b_c = 1; reserved 1; reserved \"b_c\";);",
-        "a.proto syntax = \"proto3\"; message A { reserved 1; reserved \"b_c\"; }",
-        "{\"file\":[{\"messageType\":[{\"name\":\"A\",\"reservedName\":[\"b_c\"],\"reservedRange\":[{\"end\":2,\"start\":1}]}],\"name\":\"a.proto\",\"syntax\":\"proto3\"}]}",
-    ],
+    PLAIN,
     [
         "a.proto message M { map<string,int32> foo = 1; }",
         "delete M.FooEntry > 2 KindNotAllowed|delete M.FooEntry.key > 2 KindNotAllowed|delete M.foo > a.proto 40 41 (12 map<string,int32> foo = 1; reserved 1; reserved \"foo\";);",

@@ -14,14 +14,17 @@ pub(crate) const IMPORT: &[Flat] = &[[
     "",
 ]];
 
+/// An import added to an empty file.
+pub(crate) const EMPTY: Flat = [
+    "a.proto|b.proto",
+    "add a.proto b.proto > a.proto 0 18 (0  import \"b.proto\";\n);",
+    "a.proto import \"b.proto\";\n|b.proto",
+    "{\"dependency\":[\"b.proto\"],\"name\":\"a.proto\"}",
+];
+
 /// Imports added.
 pub(crate) const ADDED: &[Flat] = &[
-    [
-        "a.proto|b.proto",
-        "add a.proto b.proto > a.proto 0 18 (0  import \"b.proto\";\n);",
-        "a.proto import \"b.proto\";\n|b.proto",
-        "{\"dependency\":[\"b.proto\"],\"name\":\"a.proto\"}",
-    ],
+    EMPTY,
     [
         "a.proto|b.proto",
         "add a.proto a.proto > 14 Cycle|add a.proto x.proto > 11 UnknownFile|add x.proto a.proto > 11 UnknownFile|drop x.proto a.proto > 11 UnknownFile|drop a.proto b.proto > 13 NotImported|drop a.proto x.proto > 13 NotImported",

@@ -144,6 +144,12 @@ pub(crate) const NAMES: &[Flat] = &[
         "",
     ],
     [
+        "a.proto enum E { V = 0; }",
+        "rename E message > 4 KeywordName|rename E option > 4 KeywordName|rename E reserved > 4 KeywordName|rename V reserved > 4 KeywordName|rename V message > a.proto 17 23 (9 V message);|rename message enum > a.proto 23 20 (9 message enum);",
+        "a.proto enum E { enum = 0; }",
+        "{\"file\":[{\"enumType\":[{\"name\":\"E\",\"value\":[{\"name\":\"enum\",\"number\":0}]}],\"name\":\"a.proto\"}]}",
+    ],
+    [
         "a.proto syntax = \"proto3\"; message M { string fooBar = 1; string x = 2; }",
         "rename M.x fooBar > 6 Collision|rename M.x foo_bar > 9 JsonClash",
         "",
@@ -180,6 +186,20 @@ pub(crate) const CAPTURES: &[Flat] = &[
     [
         "a.proto message BarEntry {} message M { map<string,int32> foo = 1; optional BarEntry x = 2; }",
         "rename M.foo bar > 7 Captured a.proto 68",
+        "",
+        "",
+    ],
+    // Two references would be captured: the one that stands first is told, and of two files that of
+    // the first path.
+    [
+        "a.proto package p; message M {} message Q { message N {} optional M y = 2; optional M x = 1; }",
+        "rename p.M N > 7 Captured a.proto 58",
+        "",
+        "",
+    ],
+    [
+        "a.proto package p; message M {}|b.proto import \"a.proto\"; package p; message Q { message N {} optional int32 long = 1; optional M x = 2; }|c.proto import \"a.proto\"; package p; message R { message N {} optional M x = 1; }",
+        "rename p.M N > 7 Captured b.proto 88",
         "",
         "",
     ],

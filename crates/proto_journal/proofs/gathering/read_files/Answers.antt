@@ -1,3 +1,4 @@
+-- The loop of `all_files` of proto_store, over paths that were asked before.
 use Rattle.std.proofs.Common.{◌≡◌, ℕ, List, ◌++◌, [], ◌∷◌, sym, ◌∙◌, ap, subst, rules, map, Option, String, Global, string_bytes}
 use Rattle.proto_faults.proofs.Common.{Vec}
 use Rattle.std.specs.Vec.Iter.{into_iter_items}

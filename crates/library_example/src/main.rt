@@ -1,0 +1,197 @@
+//! Schemas in memory: a fault, references, findings, edits, a refusal, descriptors, and the way
+//! back.
+#![tactic(auto)]
+
+use proto_edit::{Edit, Entry, NoMemory, OpenFault, Refusal, Workspace, to_json};
+use proto_lint::{RuleSet, lint};
+use proto_output::{
+    lines_of_findings, locations_of_references, place_of_fault, refusal_line, schema_line,
+};
+use std::alloc::Global;
+use std::io;
+
+/// Files by their paths in the workspace, with their bytes.
+type Given = Vec<(String, Vec<u8>)>;
+
+const MONEY: (&str, &str) = (
+    "shop/money.proto",
+    "syntax = \"proto3\";
+package shop;
+
+message Money {
+  int64 units = 1;
+}
+",
+);
+
+const ORDER: (&str, &str) = (
+    "shop/order.proto",
+    "syntax = \"proto3\";
+package shop;
+
+import \"shop/money.proto\";
+
+message Order {
+  Money total = 1;
+  repeated shop.Money paid = 2;
+  string Note = 3;
+}
+",
+);
+
+fn main(rt: HostRuntime) -> io::Result<()> {
+    // Without the file that it imports, and with it.
+    open(&rt, given(rt.alloc(), &[ORDER])?)?;
+    open(&rt, given(rt.alloc(), &[ORDER, MONEY])?)
+}
+
+fn given(alloc: Global, files: &[(&str, &str)]) -> io::Result<Given> {
+    let mut list = Vec::new(alloc);
+    for (path, text) in files {
+        list.push((path.to_string(alloc)?, text.as_bytes().to_vec(alloc)?))?;
+    }
+    Ok(list)
+}
+
+// Opens files and works with them, or prints their fault. This function alone owns the workspace,
+// and ends it by `release`; all others borrow it.
+fn open<R: Print + AllocGlobal>(rt: &R, files: Given) -> io::Result<()> {
+    match Workspace::open(rt.alloc(), files.clone()?) {
+        Ok(mut workspace) => {
+            let worked = work(rt, &mut workspace);
+            workspace.release();
+            worked
+        }
+        Err(OpenFault::Schema(fault)) => {
+            let place = place_of_fault(&files, &fault);
+            print_text(rt, schema_line(rt.alloc(), &fault, place))
+        }
+        Err(OpenFault::NoMemory) => rt.println("no memory"),
+    }
+}
+
+fn work<R: Print + AllocGlobal>(rt: &R, workspace: &mut Workspace) -> io::Result<()> {
+    print_references(rt, workspace, "shop.Money")?;
+    print_findings(rt, workspace)?;
+    let rename = Edit::Rename {
+        name: "shop.Money".to_string(rt.alloc())?,
+        to: "Order".to_string(rt.alloc())?,
+    };
+    // Refused, since there is an `Order`; a clone was asked, so the edit can be asked again.
+    ask(rt, workspace, rename.clone()?)?;
+    let first = ask(rt, workspace, rename_order(rt.alloc())?)?;
+    let second = ask(rt, workspace, rename)?;
+    match (first, second) {
+        (Some(first), Some(second)) => look_and_go_back(rt, workspace, &first, &second),
+        _ => Ok(()),
+    }
+}
+
+fn rename_order(alloc: Global) -> io::Result<Edit> {
+    let name = "shop.Order".to_string(alloc)?;
+    let to = "Purchase".to_string(alloc)?;
+    Ok(Edit::Rename { name, to })
+}
+
+// Asks for an edit and prints the answer; the entry, if it was made.
+fn ask<R: Print + AllocGlobal>(
+    rt: &R,
+    workspace: &mut Workspace,
+    edit: Edit,
+) -> io::Result<Option<Entry>> {
+    match workspace.apply(rt.alloc(), edit) {
+        Ok(entry) => {
+            print_changed(rt, &entry)?;
+            Ok(Some(entry))
+        }
+        Err(refusal) => {
+            print_refusal(rt, workspace, &refusal)?;
+            Ok(None)
+        }
+    }
+}
+
+fn look_and_go_back<R: Print + AllocGlobal>(
+    rt: &R,
+    workspace: &mut Workspace,
+    first: &Entry,
+    second: &Entry,
+) -> io::Result<()> {
+    // `files`, `link` and `descriptors` are those of the files after both edits.
+    print_references(rt, workspace, "shop.Order")?;
+    print_json(rt, workspace)?;
+    // The last edit is undone first: what comes before it is stale until then.
+    undo(rt, workspace, first)?;
+    undo(rt, workspace, second)?;
+    undo(rt, workspace, first)?;
+    undo(rt, workspace, first)
+}
+
+fn undo<R: Print + AllocGlobal>(
+    rt: &R,
+    workspace: &mut Workspace,
+    entry: &Entry,
+) -> io::Result<()> {
+    match workspace.undo(rt.alloc(), entry) {
+        Ok(()) => rt.println("undone"),
+        Err(refusal) => print_refusal(rt, workspace, &refusal),
+    }
+}
+
+fn print_references<R: Print + AllocGlobal>(
+    rt: &R,
+    workspace: &Workspace,
+    name: &str,
+) -> io::Result<()> {
+    let link = workspace.link();
+    let Some(symbol) = link.symbol(name) else {
+        return println!(rt; "no {name}");
+    };
+    let references = link.references(symbol);
+    match locations_of_references(rt.alloc(), workspace.files(), references) {
+        Ok(locations) => {
+            for location in &locations {
+                println!(rt; "{location}: {name}")?;
+            }
+            Ok(())
+        }
+        Err(NoMemory) => rt.println("no memory"),
+    }
+}
+
+fn print_findings<R: Print + AllocGlobal>(rt: &R, workspace: &Workspace) -> io::Result<()> {
+    let files = workspace.files();
+    match lint(rt.alloc(), files, workspace.link(), &RuleSet::all()) {
+        Ok(found) => print_text(rt, lines_of_findings(rt.alloc(), files, &found)),
+        Err(NoMemory) => rt.println("no memory"),
+    }
+}
+
+fn print_changed<R: Print>(rt: &R, entry: &Entry) -> io::Result<()> {
+    for change in entry.changes() {
+        println!(rt; "changed {}", change.path)?;
+    }
+    Ok(())
+}
+
+fn print_refusal<R: Print + AllocGlobal>(
+    rt: &R,
+    workspace: &Workspace,
+    refusal: &Refusal,
+) -> io::Result<()> {
+    print_text(rt, refusal_line(rt.alloc(), refusal, workspace.files()))
+}
+
+fn print_json<R: Print + AllocGlobal>(rt: &R, workspace: &Workspace) -> io::Result<()> {
+    match to_json(rt.alloc(), workspace.descriptors()) {
+        Ok(text) => rt.println(text.as_str()),
+        Err(NoMemory) => rt.println("no memory"),
+    }
+}
+
+fn print_text<R: Print>(rt: &R, text: Result<String, NoMemory>) -> io::Result<()> {
+    match text {
+        Ok(text) => print!(rt; "{text}"),
+        Err(NoMemory) => rt.println("no memory"),
+    }
+}
