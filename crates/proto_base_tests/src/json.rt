@@ -3,9 +3,9 @@
 use crate::expect::{expect, owned};
 use proto_descriptors::{
     Descriptors, EnumDescriptor, EnumOptions, EnumReservedRange, EnumValueDescriptor,
-    EnumValueOptions, FieldDescriptor, FieldOptions, FieldType, FileDescriptor, FileOptions,
-    IdempotencyLevel, Label, MessageDescriptor, MessageOptions, MethodDescriptor, MethodOptions,
-    NumberRange, OptimizeMode, ServiceDescriptor, ServiceOptions, Syntax,
+    EnumValueOptions, FieldDescriptor, FieldOptions, FieldRole, FieldType, FileDescriptor,
+    FileOptions, IdempotencyLevel, Label, MessageDescriptor, MessageOptions, MethodDescriptor,
+    MethodOptions, NumberRange, OptimizeMode, ServiceDescriptor, ServiceOptions, Syntax,
 };
 use proto_json::text_of_files;
 use std::process::Abort;
@@ -154,10 +154,11 @@ fn field_of<R: AllocGlobal + Abort>(
         label: Label::Optional,
         field_type,
         type_name: None,
-        extendee: None,
         default_value: None,
         oneof_index: None,
-        json_name: Some(owned(rt, json_name)),
+        role: FieldRole::Regular {
+            json_name: owned(rt, json_name),
+        },
         proto3_optional: false,
         options: FieldOptions {
             packed: None,
@@ -174,8 +175,9 @@ fn extension_of<R: AllocGlobal + Abort>(
     extendee: &str,
 ) -> FieldDescriptor {
     let mut extension = field_of(rt, name, name, number, field_type);
-    extension.json_name = None;
-    set(rt, &mut extension.extendee, extendee);
+    extension.role = FieldRole::Extension {
+        extendee: owned(rt, extendee),
+    };
     extension
 }
 

@@ -16,9 +16,10 @@ pub use described::file_descriptor;
 pub use json_form::to_json;
 pub use proto_descriptors::{
     Descriptors, EnumDescriptor, EnumOptions, EnumReservedRange, EnumValueDescriptor,
-    EnumValueOptions, FieldDescriptor, FieldOptions, FieldType, FileDescriptor, FileOptions,
-    IdempotencyLevel, Label, MessageDescriptor, MessageOptions, MethodDescriptor, MethodOptions,
-    NumberRange, OneofDescriptor, OptimizeMode, ServiceDescriptor, ServiceOptions, Syntax,
+    EnumValueOptions, FieldDescriptor, FieldOptions, FieldRole, FieldType, FileDescriptor,
+    FileOptions, IdempotencyLevel, Label, MessageDescriptor, MessageOptions, MethodDescriptor,
+    MethodOptions, NumberRange, OneofDescriptor, OptimizeMode, ServiceDescriptor, ServiceOptions,
+    Syntax,
 };
 pub use proto_faults::{NoMemory, SchemaFault as CheckFault, SchemaFault as OpenFault};
 pub use schema::{CheckedSchema, Schema};

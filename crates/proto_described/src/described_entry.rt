@@ -9,7 +9,7 @@ ghost use Rattle.proto_descriptors.specs.Views.{field_desc, message_tree};
 use crate::described_type::{scalar_type, type_name, type_of};
 use proto_case::entry_name;
 use proto_descriptors::{
-    FieldDescriptor, FieldOptions, FieldType, Label, MessageDescriptor, MessageOptions,
+    FieldDescriptor, FieldOptions, FieldRole, FieldType, Label, MessageDescriptor, MessageOptions,
 };
 use proto_faults::NoMemory;
 use proto_parts::Scene;
@@ -32,10 +32,11 @@ fn entry_field(
         label: Label::Optional,
         field_type: kind,
         type_name,
-        extendee: None,
         default_value: None,
         oneof_index: None,
-        json_name: Some(String::from_str(alloc, word)?),
+        role: FieldRole::Regular {
+            json_name: String::from_str(alloc, word)?,
+        },
         proto3_optional: false,
         options: FieldOptions {
             packed: None,

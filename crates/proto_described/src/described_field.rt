@@ -7,13 +7,13 @@ ghost use Rattle.proto_parts.specs.Scenes.{text};
 ghost use Rattle.proto_parts.specs.Views.{field_of, option_of};
 ghost use Rattle.proto_parts.specs.Labels.{has_label};
 ghost use Rattle.proto_described.specs.Described.{label_of, field_type_of, field_type_name, default_text, field_options, field_with, field_described, extension_described};
-ghost use Rattle.proto_descriptors.specs.Views.{field_desc};
+ghost use Rattle.proto_descriptors.specs.Views.{field_desc, role_extendee, role_json_name};
 
 use crate::described_names::type_text;
 use crate::described_numbers::{default_number, field_number};
 use crate::described_type::{type_name, type_of};
 use proto_case::entry_name;
-use proto_descriptors::{FieldDescriptor, FieldOptions, FieldType, Label};
+use proto_descriptors::{FieldDescriptor, FieldOptions, FieldRole, FieldType, Label};
 use proto_faults::NoMemory;
 use proto_meaning::below;
 use proto_parts::{
@@ -108,7 +108,7 @@ pub(crate) fn field_descriptor(
         ≡ field_described scene.now full.now (field_of field.entry)) }
 {
     let json_name = json_name(alloc, scene, field)?;
-    field_with(alloc, scene, full, None, Some(json_name), field)
+    field_with(alloc, scene, full, FieldRole::Regular { json_name }, field)
 }
 
 /// The descriptor of an extension of the message that the reference means.
@@ -122,25 +122,23 @@ pub(crate) fn extension_descriptor(
         ≡ extension_described scene.now extendee.now (field_of field.entry)) }
 {
     let extendee = type_text(alloc, scene, extendee)?;
-    field_with(alloc, scene, "", Some(extendee), None, field)
+    field_with(alloc, scene, "", FieldRole::Extension { extendee }, field)
 }
 
-// A field, with what is said of its message: its full name, the extendee of an extension and the
-// JSON name of any other field.
+// A field, with the full name of its message and with its role.
 fn field_with(
     alloc: Global,
     scene: &Scene,
     full: &str,
-    extendee: Option<String>,
-    json_name: Option<String>,
+    role: FieldRole,
     field: FieldAt,
 ) -> Result<FieldDescriptor, NoMemory>
     ensures { IfOk result (λ d. field_desc d
-        ≡ field_with scene.now full.now (option_map string_bytes extendee)
-        (option_map string_bytes json_name) (field_of field.entry)) }
+        ≡ field_with scene.now full.now (role_extendee role) (role_json_name role)
+        (field_of field.entry)) }
 {
     let options = options_between(alloc, field.settings)?;
-    field_with_options(alloc, scene, full, extendee, json_name, field, &options)
+    field_with_options(alloc, scene, full, role, field, &options)
 }
 
 // The same, with the options at the field.
@@ -148,15 +146,14 @@ fn field_with_options(
     alloc: Global,
     scene: &Scene,
     full: &str,
-    extendee: Option<String>,
-    json_name: Option<String>,
+    role: FieldRole,
     field: FieldAt,
     options: &[OptionAt],
 ) -> Result<FieldDescriptor, NoMemory>
     requires { map option_of options.now ≡ (field_of field).options }
     ensures { IfOk result (λ d. field_desc d
-        ≡ field_with scene.now full.now (option_map string_bytes extendee)
-        (option_map string_bytes json_name) (field_of field.entry)) }
+        ≡ field_with scene.now full.now (role_extendee role) (role_json_name role)
+        (field_of field.entry)) }
 {
     Ok(FieldDescriptor {
         name: String::from_str(alloc, scene.text(field.name))?,
@@ -164,10 +161,9 @@ fn field_with_options(
         label: label_of(scene, field),
         field_type: field_type_of(scene, field),
         type_name: field_type_name(alloc, scene, full, field)?,
-        extendee,
         default_value: default_value(alloc, scene, options)?,
         oneof_index: field.oneof,
-        json_name,
+        role,
         proto3_optional: scene.is_proto3() && has_label(scene, "optional", field),
         options: field_options(scene, options),
     })

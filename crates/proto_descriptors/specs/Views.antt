@@ -1,9 +1,11 @@
 -- What the declared types of descriptors say, as the plain records of `Descriptors`.
-use Rattle.std.specs.Prelude.{List, [], ◌∷◌, map, option_map, string_bytes}
+use Rattle.std.specs.Prelude.{List, [], ◌∷◌, Option, Some, None, map, option_map, string_bytes}
 use Rattle.proto_faults.specs.Texts.{Text}
 use Rattle.proto_descriptors.specs.declared.enumeration.EnumDescriptor.{EnumDescriptor}
 use Rattle.proto_descriptors.specs.declared.enumeration.EnumValueDescriptor.{EnumValueDescriptor}
 use Rattle.proto_descriptors.specs.declared.field.FieldDescriptor.{FieldDescriptor}
+use Rattle.proto_descriptors.specs.declared.field.FieldRole.{FieldRole}
+use Rattle.proto_descriptors.specs.declared.field.FieldRole.TheVariants as role
 use Rattle.proto_descriptors.specs.declared.file.Descriptors.{Descriptors}
 use Rattle.proto_descriptors.specs.declared.file.FileDescriptor.{FileDescriptor}
 use Rattle.proto_descriptors.specs.declared.file.FileOptions.{FileOptions}
@@ -15,6 +17,16 @@ use Rattle.proto_descriptors.specs.declared.service.MethodDescriptor.{MethodDesc
 use Rattle.proto_descriptors.specs.declared.service.ServiceDescriptor.{ServiceDescriptor}
 use Rattle.proto_descriptors.specs.Descriptors.{FieldDesc, EnumValueDesc, EnumDesc, MessageDesc, Messages, NoMessages, Message, MethodDesc, ServiceDesc, FileOptionsDesc, FileDesc}
 
+-- the full name of the message that an extension extends; a regular field extends none
+abbrev pub role_extendee : FieldRole → Option Text
+role_extendee (role.Regular json_name) = None
+role_extendee (role.Extension extendee) = Some (string_bytes extendee)
+
+-- the JSON name of a regular field; an extension has none
+abbrev pub role_json_name : FieldRole → Option Text
+role_json_name (role.Regular json_name) = Some (string_bytes json_name)
+role_json_name (role.Extension extendee) = None
+
 -- a field, its texts as bytes
 abbrev pub field_desc : FieldDescriptor → FieldDesc
 field_desc f = record {
@@ -23,10 +35,10 @@ field_desc f = record {
   label = f.label;
   field_type = f.field_type;
   type_name = option_map string_bytes f.type_name;
-  extendee = option_map string_bytes f.extendee;
+  extendee = role_extendee f.role;
   default_value = option_map string_bytes f.default_value;
   oneof_index = f.oneof_index;
-  json_name = option_map string_bytes f.json_name;
+  json_name = role_json_name f.role;
   proto3_optional = f.proto3_optional;
   options = f.options;
 }

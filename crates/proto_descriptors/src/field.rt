@@ -16,19 +16,31 @@ pub struct FieldDescriptor {
     pub field_type: FieldType,
     /// The full name of the message or enum, behind a dot.
     pub type_name: Option<String>,
-    /// The full name of the message that an extension extends, behind a dot: none at other fields.
-    pub extendee: Option<String>,
     /// The default as text: decimal, `true` or `false`, the string, or the name of an enum's value.
     pub default_value: Option<String>,
     /// The place of its oneof in the message's `oneof_decl`, from 0.
     pub oneof_index: Option<usize>,
-    /// The name in JSON texts: the one that is written, or the field's own in camel case. An
-    /// extension has none.
-    pub json_name: Option<String>,
+    /// Whether it is a regular field or an extension, and what is said of that kind alone.
+    pub role: FieldRole,
     /// Whether a proto3 field says `optional`.
     pub proto3_optional: bool,
     /// The options in brackets behind it.
     pub options: FieldOptions,
+}
+
+/// Whether a field is declared in its message or in an `extend` block.
+#[derive(Drop)]
+pub enum FieldRole {
+    /// A field that stands in its message.
+    Regular {
+        /// The name in JSON texts: the one that is written, or the field's own in camel case.
+        json_name: String,
+    },
+    /// A field that an `extend` block gives another message.
+    Extension {
+        /// The full name of the message that it extends, behind a dot.
+        extendee: String,
+    },
 }
 
 /// How many values a field may have.

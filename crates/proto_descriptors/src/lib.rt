@@ -10,7 +10,7 @@ mod service;
 pub use enumeration::{
     EnumDescriptor, EnumOptions, EnumReservedRange, EnumValueDescriptor, EnumValueOptions,
 };
-pub use field::{FieldDescriptor, FieldOptions, FieldType, Label};
+pub use field::{FieldDescriptor, FieldOptions, FieldRole, FieldType, Label};
 pub use file::{Descriptors, FileDescriptor, FileOptions, OptimizeMode, Syntax};
 pub use message::{MessageDescriptor, MessageOptions, NumberRange, OneofDescriptor};
 pub use service::{

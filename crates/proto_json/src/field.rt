@@ -1,15 +1,15 @@
 //! The text of fields of messages.
 
-ghost use Rattle.std.specs.Prelude.{OnOk, take, drop};
+ghost use Rattle.std.specs.Prelude.{[], ◌∷◌, OnOk, take, drop, codes, option_map};
 ghost use Rattle.proto_json.specs.DescriptorText.{label_name, field_type_name, field_slots, field_text, field_options_slots};
 ghost use Rattle.proto_json.specs.JsonText.{quoted};
 ghost use Rattle.proto_json.specs.Written.{PutsMember, PutsMembers, options_slot};
-ghost use Rattle.proto_descriptors.specs.Views.{field_desc};
+ghost use Rattle.proto_descriptors.specs.Views.{field_desc, role_extendee, role_json_name};
 
 use crate::members::{put, put_mark, put_optional};
 use crate::options::{close, put_option};
 use crate::values::ToJson;
-use proto_descriptors::{FieldDescriptor, FieldOptions, FieldType, Label};
+use proto_descriptors::{FieldDescriptor, FieldOptions, FieldRole, FieldType, Label};
 use serde::Serializer;
 
 impl ToJson for Label {
@@ -45,11 +45,23 @@ fn put_first<S: Serializer>(out: &mut S, field: &FieldDescriptor) -> Result<(), 
         (S.written out.old) (S.written out.new)) }
 {
     put_optional(out, "defaultValue", &field.default_value)?;
-    put_optional(out, "extendee", &field.extendee)?;
-    put_optional(out, "jsonName", &field.json_name)?;
+    put_role(out, &field.role)?;
     put(out, "label", &field.label)?;
     put(out, "name", &field.name)?;
     put(out, "number", &field.number)
+}
+
+/// The extendee of an extension, or the JSON name of a regular field.
+fn put_role<S: Serializer>(out: &mut S, role: &FieldRole) -> Result<(), S::Error>
+    ensures { OnOk result (PutsMembers (
+        (codes "extendee", option_map quoted (role_extendee role.now))
+        ∷ (codes "jsonName", option_map quoted (role_json_name role.now)) ∷ [])
+        (S.written out.old) (S.written out.new)) }
+{
+    match role {
+        FieldRole::Regular { json_name } => put(out, "jsonName", json_name),
+        FieldRole::Extension { extendee } => put(out, "extendee", extendee),
+    }
 }
 
 /// The members from `oneofIndex` on.
