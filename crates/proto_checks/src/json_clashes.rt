@@ -18,7 +18,7 @@ fn json_names(alloc: Global, scene: &Scene, fields: &[FieldAt]) -> Result<Vec<St
     ensures { IfOk result (λ names. map string_bytes names.items
         ≡ map (json_name_of scene.now) (map field_of fields.now)) }
 {
-    let mut names = Vec::new(alloc);
+    let mut names = Vec::with_capacity(alloc, fields.len())?;
     for field in fields {
         names.push(json_name(alloc, scene, *field)?)?;
     }
@@ -29,7 +29,7 @@ fn json_names(alloc: Global, scene: &Scene, fields: &[FieldAt]) -> Result<Vec<St
 pub(crate) fn name_tokens(alloc: Global, fields: &[FieldAt]) -> Result<Vec<u32>, NoMemory>
     ensures { IfOk result (λ tokens. tokens.items ≡ map (λ f. f.name) (map field_of fields.now)) }
 {
-    let mut tokens = Vec::new(alloc);
+    let mut tokens = Vec::with_capacity(alloc, fields.len())?;
     for field in fields {
         tokens.push(field.name)?;
     }

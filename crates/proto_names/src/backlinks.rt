@@ -32,7 +32,7 @@ pub(crate) fn references_by_name(
 fn empty_lists(alloc: Global, count: usize) -> Result<Vec<Vec<RefId>>, NoMemory>
     ensures { IfOk result (λ lists. map (λ v. v.items) lists.items ≡ replicate count []) }
 {
-    let mut lists = Vec::new(alloc);
+    let mut lists = Vec::with_capacity(alloc, count)?;
     for _ in 0..count {
         lists.push(Vec::new(alloc))?;
     }

@@ -28,7 +28,7 @@ use std::alloc::Global;
 pub(crate) fn listings<'a>(alloc: Global, files: &'a Files) -> Result<Vec<Listing<'a>>, NoMemory>
     ensures { IfOk result (λ ls. AreListings files.now ls.items) }
 {
-    let mut listings = Vec::new(alloc);
+    let mut listings = Vec::with_capacity(alloc, files.len())?;
     for file in 0..files.len() {
         listings.push(list_file(alloc, files.tree(file))?)?;
     }

@@ -1,7 +1,7 @@
 //! Flaws of a file, each at one of its tokens.
 
 ghost use Rattle.std.specs.Prelude.{◌≡◌, ◌++◌, ◌∷◌, [], List, length, IfOk, OnOk};
-ghost use Rattle.std.specs.List.{Contains};
+ghost use Rattle.std.specs.List.{Contains, list_any};
 ghost use Rattle.proto_numbers.specs.declared.flaw.Flaw.{Flaw as FlawOf};
 ghost use Rattle.proto_numbers.specs.Flaws.{flaw_if, marked, after_earlier, comes_before, IsLeast};
 
@@ -48,8 +48,29 @@ pub fn add_marked(
     Ok(())
 }
 
-/// For each key, in order, whether one before it is equal.
-pub fn repeats<K: Eq + Hash + Drop>(alloc: Global, keys: Vec<K>) -> Result<Vec<bool>, NoMemory>
+/// So many keys are compared one by one.
+const FEW: usize = 16;
+
+/// Whether one of the keys is equal to this one.
+fn has_equal<K: Eq>(keys: &[K], key: &K) -> bool
+    ensures { result ≡ list_any (λ k. K.eq k key.now) keys.now }
+{
+    keys.iter().any(|other| *other == *key)
+}
+
+/// For each of few keys, in order, whether one before it is equal.
+fn repeats_of_few<K: Eq>(alloc: Global, keys: &[K]) -> Result<Vec<bool>, NoMemory>
+    ensures { IfOk result (λ flags. flags.items ≡ after_earlier K.eq keys.now) }
+{
+    let mut flags = Vec::with_capacity(alloc, keys.len())?;
+    for i in 0..keys.len() {
+        flags.push(has_equal(&keys[..i], &keys[i]))?;
+    }
+    Ok(flags)
+}
+
+/// The same of any number of keys.
+fn repeats_of_many<K: Eq + Hash + Drop>(alloc: Global, keys: Vec<K>) -> Result<Vec<bool>, NoMemory>
     ensures flags { IfOk result (λ flags. flags.items ≡ after_earlier K.eq keys.items) }
 {
     let mut seen = IndexSet::new(alloc);
@@ -59,6 +80,17 @@ pub fn repeats<K: Eq + Hash + Drop>(alloc: Global, keys: Vec<K>) -> Result<Vec<b
         flags.push(!is_new)?;
     }
     Ok(flags)
+}
+
+/// For each key, in order, whether one before it is equal.
+pub fn repeats<K: Eq + Hash + Drop>(alloc: Global, keys: Vec<K>) -> Result<Vec<bool>, NoMemory>
+    ensures flags { IfOk result (λ flags. flags.items ≡ after_earlier K.eq keys.items) }
+{
+    if keys.len() < FEW {
+        repeats_of_few(alloc, &keys)
+    } else {
+        repeats_of_many(alloc, keys)
+    }
 }
 
 fn comes_before(a: Flaw, b: Flaw) -> bool

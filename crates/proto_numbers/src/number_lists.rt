@@ -31,7 +31,7 @@ pub fn field_numbers(
     ensures { IfOk result (λ numbers. numbers.items
         ≡ map (number_of_field scene.now) (map field_of fields.now)) }
 {
-    let mut numbers = Vec::new(alloc);
+    let mut numbers = Vec::with_capacity(alloc, fields.len())?;
     for field in fields {
         numbers.push(number_of_field(scene, *field))?;
     }

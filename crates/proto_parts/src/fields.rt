@@ -161,7 +161,7 @@ pub fn fields_of<'a>(alloc: Global, members: &'a [Member]) -> Result<Vec<FieldAt
     ensures { IfOk result (λ fields. map field_of fields.items
         ≡ fields_in (trees member_tree members.now)) }
 {
-    let mut fields = Vec::new(alloc);
+    let mut fields = Vec::with_capacity(alloc, members.len())?;
     let mut oneofs = 0;
     for member in members {
         push_fields(&mut fields, oneofs, member)?;

@@ -261,6 +261,7 @@ impl<'a, R: Files + AllocGlobal> FolderStore<'a, R> {
             Some(known) => (self.full_path("")?, known),
             None => (self.root_path()?, ""),
         };
+        full_path.reserve(path.len().saturating_add(1))?;
         let mut above = known.split('/');
         let mut is_known = true;
         for part in path.split('/') {
@@ -436,7 +437,9 @@ fn is_walked_name(name: &str) -> bool {
 
 // A path below a folder, where either may be empty.
 fn joined(alloc: Global, folder: &str, path: &str) -> io::Result<String> {
-    let mut joined = String::from_str(alloc, folder)?;
+    let len = folder.len().saturating_add(path.len()).saturating_add(1);
+    let mut joined = String::with_capacity(alloc, len)?;
+    joined.push_str(folder)?;
     if !folder.is_empty() && !path.is_empty() {
         joined.push('/')?;
     }

@@ -116,7 +116,7 @@ fn declare_packages(
     let mut rows = Vec::new(alloc);
     for file in 0..files.len() {
         let spelled = &files[file];
-        let own = Vec::new(alloc);
+        let own = Vec::with_capacity(alloc, spelled.len())?;
         let filled = fill(
             alloc,
             names,

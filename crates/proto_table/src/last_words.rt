@@ -46,7 +46,7 @@ pub fn spelled(alloc: Global, words: &Words, declared: &[Listed]) -> Result<Vec<
     ensures spelled { IfOk result (λ ss. AreListed
         (word_at words.now) declared.now → AreSpelled ss.items) }
 {
-    let mut spelled = Vec::new(alloc);
+    let mut spelled = Vec::with_capacity(alloc, declared.len())?;
     for entry in declared {
         let word = last_word(alloc, words, entry)?;
         spelled.push(Spelled {

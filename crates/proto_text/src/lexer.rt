@@ -55,7 +55,8 @@ fn fault_at(offset: u32, stop: Stop) -> TextFault
 fn tokens_of(alloc: Global, source: &Source) -> Result<Vec<Token>, TextFault>
     ensures { IsLexed source.now result }
 {
-    let mut tokens = Vec::new(alloc);
+    // With the space around it a token mostly has more than four bytes.
+    let mut tokens = Vec::with_capacity(alloc, source.as_bytes().len() / 4)?;
     let mut rest = source.as_bytes();
     let mut at: u32 = 0;
     while !rest.is_empty() {

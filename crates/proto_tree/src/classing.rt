@@ -17,7 +17,7 @@ pub fn lexemes(alloc: Global, source: &Source, tokens: &[Token]) -> Result<Vec<L
     requires few { length tokens.now ≤ text_limit }
     ensures { IfOk result (λ found. found.items ≡ classed source.now tokens.now) }
 {
-    let mut found = Vec::new(alloc);
+    let mut found = Vec::with_capacity(alloc, tokens.len())?;
     for (i, token) in tokens.iter().enumerate() {
         let class = token_class(token.kind, source.text(token.span));
         found.push(Lexeme {

@@ -2,7 +2,7 @@ use Rattle.std.proofs.Common.{◌≡◌}
 use Rattle.std.specs.List.{list_any}
 use Rattle.indexmap.specs.IndexSet.{contains}
 use Rattle.proto_numbers.specs.Flaws.{after_earlier}
-use Rattle.proto_numbers.proofs.flaw.repeats.Given as goal
+use Rattle.proto_numbers.proofs.flaw.repeats_of_many.Given as goal
 
 abbrev pub invariant-loop-key : goal.invariant-loop-key
 invariant-loop-key g l = record {

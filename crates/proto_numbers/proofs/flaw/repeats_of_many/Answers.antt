@@ -3,7 +3,7 @@ use Rattle.proto_faults.proofs.Common.{list_any, YieldsList-from_vec, YieldsList
 use Rattle.indexmap.specs.IndexSet.{contains}
 use Rattle.proto_numbers.specs.Flaws.{after_earlier}
 use Rattle.proto_numbers.proofs.FlawLists.{repeats_snoc, new_is, seen_more}
-use Rattle.proto_numbers.proofs.flaw.repeats.Goals as goal
+use Rattle.proto_numbers.proofs.flaw.repeats_of_many.Goals as goal
 
 pub loop-key-preserved : goal.loop-key-preserved
 loop-key-preserved g c = record {
