@@ -149,7 +149,7 @@ impl CheckedSchema {
     }
 
     /// Lets the files go. A crate that ends them by this call need not prove how each of their parts
-    /// is dropped.
+    /// is dropped. No clause: the files are gone after it, and nothing is left to speak of.
     pub fn release(self) {
         self.files.release();
         self.link.release();
@@ -204,7 +204,7 @@ impl Schema {
     }
 
     /// Lets the schemas go. A crate that ends them by this call need not prove how each of their
-    /// parts is dropped.
+    /// parts is dropped. No clause: the schema is gone after it, and nothing is left to speak of.
     pub fn release(self) {
         self.files.release();
         self.link.release();

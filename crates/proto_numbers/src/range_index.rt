@@ -70,7 +70,8 @@ fn raised(alloc: Global, ranges: &[RangeAt]) -> Result<Vec<RangeAt>, NoMemory>
     Ok(raised)
 }
 
-/// An index of ranges, by which `shares` and `is_covered` look them up.
+/// An index of ranges, by which `shares` and `is_covered` look them up. Fails only for want of
+/// memory.
 pub fn index_of(alloc: Global, ranges: &[RangeAt]) -> Result<Vec<RangeAt>, NoMemory>
     ensures { IfOk result (λ index. IsIndexOf ranges.now index.items) }
 {

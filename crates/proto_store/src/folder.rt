@@ -83,7 +83,8 @@ impl<'a, R: Files + AllocGlobal> FolderStore<'a, R> {
     /// over these names. Fails where the root is no folder, or where a folder cannot be read or such
     /// a file not be removed; all others are removed then, and who goes on all the same writes by
     /// the second of these names, beside what was left. It is for who holds the lock: another run
-    /// may be writing such a file, and fails where it is gone.
+    /// may be writing such a file, and fails where it is gone. Which files go no clause can say: of
+    /// what is in a folder beside the store's files nothing is known.
     pub fn clear_leftovers(&mut self) -> Result<(), StoreFault>
         requires { self.old.failures < 2 ^ 64 - 1 }
         ensures same { ⟦<FolderStore<'a, R> as Store>⟧.holds self.new
@@ -394,7 +395,7 @@ impl<'a, R: Files<File = File> + AllocGlobal> FolderStore<'a, R> {
     /// however it ends. Nothing is written for it. A store that has the folder keeps it. Fails, at
     /// once, where another store has it, in this process or in another, and where the root is no
     /// folder or cannot be opened. A file system that has no such locks gives none; the store goes
-    /// on without.
+    /// on without. No clause can say that others wait: of what they do nothing is known.
     pub fn lock(&mut self) -> Result<(), StoreFault>
         requires { self.old.failures < 2 ^ 64 - 1 }
         ensures same { ⟦<FolderStore<'a, R> as Store>⟧.holds self.new
