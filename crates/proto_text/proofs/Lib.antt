@@ -5,7 +5,6 @@ pub mod EditLaws
 mod EndLoop
 mod Ends
 mod Grouping
-mod Identifiers
 pub mod Once
 pub mod OneEdit
 pub mod Order

@@ -46,9 +46,11 @@ pub fn class_of_byte(byte: u8) -> Class
 }
 
 /// Whether a byte is an ASCII letter, `_` or a decimal digit.
-#[tactic(auto, using(crate::proofs::Identifiers::identifier_test))]
 pub fn is_identifier_byte(byte: u8) -> bool
     ensures { result ≡ is_identifier byte }
 {
-    byte.is_ascii_alphanumeric() || byte == b'_'
+    match class_of_byte(byte) {
+        Class::Letter | Class::Digit => true,
+        _ => false,
+    }
 }
