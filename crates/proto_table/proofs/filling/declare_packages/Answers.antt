@@ -26,8 +26,8 @@ loop-file-preserved c =
     let front = subst (AreInFront c.package_count.result) d c.package_count.ensures in
     record {
       table = c.in_ok-filled.ensures.table;
-      held = subst (Holds c.in_ok-filled.filled.0) (packages_next (map (λ v. v.items) c.args.files.now) c.loop-file.file c.package_count.result (length c.new-own.result.items) l ok front (ap length c.new-own.ensures.items))
-          (subst (λ z. Holds c.in_ok-filled.filled.0 (packages_in (all_named 0 (take c.loop-file.file (map (λ v. v.items) c.args.files.now))) ++ drop (length c.new-own.result.items) (take c.package_count.result (named_in c.loop-file.file z)))) e
+      held = subst (Holds c.in_ok-filled.filled.0) (packages_next (map (λ v. v.items) c.args.files.now) c.loop-file.file c.package_count.result (length c.in_ok-own.own.items) l ok front (ap length c.in_ok-own.ensures.items))
+          (subst (λ z. Holds c.in_ok-filled.filled.0 (packages_in (all_named 0 (take c.loop-file.file (map (λ v. v.items) c.args.files.now))) ++ drop (length c.in_ok-own.own.items) (take c.package_count.result (named_in c.loop-file.file z)))) e
           (c.in_ok-filled.ensures.held (packages_in (all_named 0 (take c.loop-file.file (map (λ v. v.items) c.args.files.now)))) c.loop-file.invariant.held));
       rows = subst (ArePackageRows c.in_ok-filled.filled.0 (take (c.loop-file.file + 1) (map (λ v. v.items) c.args.files.now)))
           (sym (ap (map (λ v. v.items)) c.in_ok-push.ensures.items ∙ map-append (λ v. v.items) c.loop-file.rows.items (c.in_ok-filled.filled.1 ∷ [])))
@@ -43,10 +43,10 @@ pub fill-requires-clause-end : goal.fill-requires-clause-end
 fill-requires-clause-end c = (subst (AreInFront c.package_count.result) (c.deref-in-loop-file.ensures.value ∙ sym c.deref.ensures.value) c.package_count.ensures).within
 
 pub fill-requires-clause-start : goal.fill-requires-clause-start
-fill-requires-clause-start c = omega (arith, ap length c.new-own.ensures.items)
+fill-requires-clause-start c = omega (arith, ap length c.in_ok-own.ensures.items)
 
 pub fill-requires-clause-rows : goal.fill-requires-clause-rows
-fill-requires-clause-rows c = no_rows c.loop-file.names (named_in c.loop-file.file c.deref.result.now) c.new-own.result.items c.new-own.ensures.items
+fill-requires-clause-rows c = no_rows c.loop-file.names (named_in c.loop-file.file c.deref.result.now) c.in_ok-own.own.items c.in_ok-own.ensures.items
 
 pub loop-file-init : goal.loop-file-init
 loop-file-init c = record {
@@ -69,7 +69,7 @@ returns-clause-rows c =
 
 pub returns-in_err-filled : goal.returns-in_err-filled
 returns-in_err-filled c =
-    let p = err_from_is_err_and c.from_residual.result c.from_residual.ensures.1 in
+    let p = err_from_is_err_and c.from_residual-in_err-filled.result c.from_residual-in_err-filled.ensures.1 in
     let e = c.deref.ensures.value ∙ item_at (λ v. v.items) c.args.files.now c.loop-file.file c.index-files-file.result c.loop-file-test.true c.index-files-file.is in
     let d = c.deref-in-loop-file.ensures.value ∙ sym c.deref.ensures.value in
     let l = within_map (λ v. v.items) c.args.files.now c.loop-file.file c.loop-file-test.true in
@@ -80,7 +80,7 @@ returns-in_err-filled c =
       held = tt;
       rows = tt;
       fault =
-          packages_pass (all_named 0 (take c.loop-file.file (map (λ v. v.items) c.args.files.now))) c.loop-file.file c.package_count.result (length c.new-own.result.items) c.deref.result.now c.in_err-filled.field-0.0 ok front
+          packages_pass (all_named 0 (take c.loop-file.file (map (λ v. v.items) c.args.files.now))) c.loop-file.file c.package_count.result (length c.in_ok-own.own.items) c.deref.result.now c.in_err-filled.field-0.0 ok front
           (c.in_err-filled.ensures.fault (packages_in (all_named 0 (take c.loop-file.file (map (λ v. v.items) c.args.files.now)))) c.loop-file.invariant.held);
     })
 
