@@ -1,3 +1,4 @@
+pub mod BlockTrees
 pub mod CappedExtensions
 pub mod ExtendTrees
 pub mod Extendees

@@ -1,3 +1,4 @@
+pub mod Blocks
 pub mod Capped
 pub mod Common
 pub mod Extends

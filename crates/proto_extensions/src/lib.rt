@@ -2,6 +2,7 @@
 //! and extensions of other files.
 #![tactic(auto)]
 
+mod blocks;
 mod extends;
 mod flaws;
 pub mod laws;

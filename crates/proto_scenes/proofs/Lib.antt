@@ -1,6 +1,5 @@
-pub mod BlockTrees
 pub mod EnumRows
-pub mod Holders
+pub mod EnumTrees
 pub mod MeantEnums
 pub mod MeantPlaces
 pub mod ReadScenes

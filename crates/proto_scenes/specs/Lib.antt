@@ -1,4 +1,3 @@
-pub mod Blocks
 pub mod Common
 pub mod Enums
 pub mod Meanings

@@ -2,9 +2,8 @@
 //! reference means.
 #![tactic(auto)]
 
-mod blocks;
+mod enum_blocks;
 pub mod enum_table;
 pub mod scenes;
 
-pub use blocks::{BlockAt, blocks_of};
 pub use proto_names::Link;

@@ -3,7 +3,7 @@ use Rattle.proto_tree.specs.declared.tree.EnumItem.{EnumItem}
 use Rattle.proto_tree.specs.File.{enum_item_tree, trees}
 use Rattle.proto_scenes.specs.SceneOf.{enum_within}
 use Rattle.proto_scenes.proofs.EnumRows.{row_added}
-use Rattle.proto_scenes.proofs.enum_table.add_enum.Goals as goal
+use Rattle.proto_scenes.proofs.enum_table.add.Goals as goal
 
 pub returns-in_ok-insert : goal.returns-in_ok-insert
 returns-in_ok-insert c = λ blocks h.

@@ -1,0 +1,33 @@
+use Rattle.std.proofs.Common.{List, [], ◌∷◌, ◌++◌, map, refl, sym, ap, ◌∙◌, arith, append-nil}
+use Rattle.proto_faults.proofs.Common.{map-append, all_listed}
+use Rattle.proto_tree.specs.declared.tree.Member.{Member}
+use Rattle.proto_tree.proofs.Common.{member_tree, trees, member_tree-Enum, member_tree-Oneof}
+use Rattle.proto_tree.proofs.Nodes.{member_tree-Extend}
+use Rattle.proto_parts.proofs.Common.{BlockOf, wanted_turn}
+use Rattle.proto_extensions.specs.Common.{asked_in, block_of, is_asked}
+use Rattle.proto_extensions.proofs.BlockTrees.{enum_not_asked, extend_alone, oneof_not_asked}
+use Rattle.proto_extensions.proofs.blocks.+blocks.Goals as goal
+
+pub push_members-loop-member-preserved : goal.push_members-loop-member-preserved
+push_members-loop-member-preserved t c =
+    wanted_turn is_asked member_tree c.args.members.now c.loop-member.member-index c.member-item.result _ _ _ c.loop-member-test.true c.member-item.is c.in_ok-push_member.ensures c.loop-member.invariant
+
+pub push_members-returns : goal.push_members-returns
+push_members-returns t c = all_listed (λ members. asked_in (trees member_tree members)) refl c.args.members.now c.loop-member.member-index _ _ (omega arith) c.loop-member.invariant
+
+pub push_member-returns-in_ok-push-in-Extend : goal.push_member-returns-in_ok-push-in-Extend
+push_member-returns-in_ok-push-in-Extend t c =
+    ap (map block_of) c.in_ok-push-in-Extend.ensures.items
+    ∙ map-append block_of c.args.found.now.items (_ ∷ [])
+    ∙ ap (λ (bs : List BlockOf). map block_of c.args.found.now.items ++ bs)
+    (sym (ap (λ (m : Member). asked_in (member_tree m)) c.in-Extend.is ∙ ap asked_in (member_tree-Extend c.in-Extend.extend) ∙ extend_alone c.in-Extend.extend))
+
+pub push_member-returns-in-Enum : goal.push_member-returns-in-Enum
+push_member-returns-in-Enum t c =
+    let found : List BlockOf = map block_of c.args.found.now.items in
+    sym (ap (λ (bs : List BlockOf). found ++ bs) (ap (λ (m : Member). asked_in (member_tree m)) c.in-Enum.is ∙ ap asked_in (member_tree-Enum c.in-Enum.field-0) ∙ enum_not_asked c.in-Enum.field-0) ∙ append-nil found)
+
+pub push_member-returns-in-Oneof : goal.push_member-returns-in-Oneof
+push_member-returns-in-Oneof t c =
+    let found : List BlockOf = map block_of c.args.found.now.items in
+    sym (ap (λ (bs : List BlockOf). found ++ bs) (ap (λ (m : Member). asked_in (member_tree m)) c.in-Oneof.is ∙ ap asked_in (member_tree-Oneof c.in-Oneof.field-0) ∙ oneof_not_asked c.in-Oneof.field-0) ∙ append-nil found)
