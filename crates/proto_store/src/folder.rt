@@ -4,7 +4,9 @@ ghost use Rattle.std.specs.Prelude.{◌≡◌, ◌⊎◌, ◌+◌, ◌-◌, ◌^
 ghost use Rattle.std.specs.String.{string_bytes};
 ghost use Rattle.proto_store.specs.Stores.{Counts, HoldsBytes, HoldsJournal, ListsPaths, unknown, with_file, with_journal};
 
-use crate::looks::{Stamp, look, open_found, read_names, regular_file, stamp_of};
+use crate::looks::{
+    FileNumber, Stamp, look, number_of, open_numbered, read_names, regular_file, stamp_of,
+};
 use crate::replacing::{
     OTHER_SECOND, Place, SECOND, clear_leftover, put_file, refuse_read_only, second_named,
 };
@@ -28,8 +30,8 @@ const NEW_JOURNAL_MODE: u32 = 0o644;
 /// `.protoref-journal` in it. Names that begin with a dot are passed over, and so
 /// is all that is neither a folder nor a regular file whose name ends in `.proto`.
 /// A root that is the empty word names no folder, so each call fails. No symbolic
-/// link below the root is followed; of files in one folder that are read one after the other, the
-/// folders above them are looked at once. No contract can say what a folder holds.
+/// link below the root is followed; a file that was listed is read where it is still the file that
+/// was seen then, and looked for anew where it is another. No contract can say what a folder holds.
 ///
 /// Other programs may write the folder meanwhile. `lock` keeps other runs away that ask for it, and
 /// a replace fails where not the file stands that this store has last read or written there.
@@ -40,21 +42,29 @@ pub struct FolderStore<'a, R: Files + AllocGlobal> {
     failures: u64,
     // The folder while it is locked.
     locked: Option<File>,
-    // What was last read or written at a path, none of a journal that was not there.
-    seen: BTreeMap<String, Option<Stamp>>,
+    // What is known of each path.
+    seen: BTreeMap<String, Seen>,
     // The bits that the modes of all schemas have that were listed.
     shared_mode: u32,
-    // The folder below the root of the file that was read last, which the walk goes through.
-    known: Option<String>,
     // The name of the second files that it makes.
     second: &'static str,
 }
 
-// What is left to walk, and what was found, as paths below the root.
+// What is known of a path.
+#[derive(Clone, Copy)]
+enum Seen {
+    // A file was listed, which is this one.
+    Listed(FileNumber),
+    // This was last read or written, or there was no journal.
+    Held(Option<Stamp>),
+}
+
+// What is left to walk, and what was found: paths below the root, and which file each listed one is.
 #[derive(Drop)]
 struct Walk {
     folders: Vec<String>,
     files: Vec<String>,
+    numbers: Vec<FileNumber>,
     leftovers: Vec<String>,
     shared_mode: u32,
 }
@@ -72,7 +82,6 @@ impl<'a, R: Files + AllocGlobal> FolderStore<'a, R> {
             locked: None,
             seen: BTreeMap::new(rt.alloc()),
             shared_mode: 0o777,
-            known: None,
             second: SECOND,
         }
     }
@@ -112,14 +121,12 @@ impl<'a, R: Files + AllocGlobal> FolderStore<'a, R> {
         StoreFault::Failed
     }
 
-    // Notes what was read or written at a path.
-    fn note(&mut self, path: &str, stamp: Option<Stamp>) -> io::Result<()>
+    // Notes what is known of a path.
+    fn note(&mut self, path: &str, seen: Seen) -> io::Result<()>
         ensures root { self.new.root.now ≡ self.old.root.now }
         ensures failures { self.new.failures ≡ self.old.failures }
     {
-        let path = String::from_str(self.rt.alloc(), path)?;
-        let _ = self.seen.insert(path, stamp)?;
-        Ok(())
+        note_seen(self.rt.alloc(), &mut self.seen, path, seen)
     }
 
     // Notes what was written at a path.
@@ -128,7 +135,7 @@ impl<'a, R: Files + AllocGlobal> FolderStore<'a, R> {
         ensures root { self.new.root.now ≡ self.old.root.now }
         ensures count { Counts self.old.failures self.new.failures result }
     {
-        match self.note(path, Some(stamp)) {
+        match self.note(path, Seen::Held(Some(stamp))) {
             Ok(()) => Ok(()),
             Err(_) => Err(self.fault()),
         }
@@ -137,8 +144,8 @@ impl<'a, R: Files + AllocGlobal> FolderStore<'a, R> {
     // What has to stand at a path: what was noted of it, or else what a look has found there.
     fn wanted(&self, path: &str, found: Option<Stamp>) -> Option<Stamp> {
         match self.seen.get(path) {
-            Some(stamp) => *stamp,
-            None => found,
+            Some(Seen::Held(stamp)) => *stamp,
+            Some(Seen::Listed(_)) | None => found,
         }
     }
 
@@ -167,6 +174,7 @@ impl<'a, R: Files + AllocGlobal> FolderStore<'a, R> {
         let mut walk = Walk {
             folders: Vec::new(alloc),
             files: Vec::new(alloc),
+            numbers: Vec::new(alloc),
             leftovers: Vec::new(alloc),
             shared_mode: 0o777,
         };
@@ -180,7 +188,19 @@ impl<'a, R: Files + AllocGlobal> FolderStore<'a, R> {
         Ok(walk)
     }
 
-    // Notes what a folder has.
+    // The paths of all schema files, noted.
+    fn listed(&mut self) -> io::Result<Vec<String>>
+        ensures nowhere { self.old.root.now ≡ [] → IsErr result }
+        ensures root { self.new.root.now ≡ self.old.root.now }
+        ensures failures { self.new.failures ≡ self.old.failures }
+    {
+        let walk = self.walked()?;
+        note_listed(self.rt.alloc(), &mut self.seen, &walk)?;
+        self.shared_mode &= walk.shared_mode;
+        Ok(walk.files)
+    }
+
+    // Notes what a folder has. What is no folder has nothing.
     fn visit_folder(&self, walk: &mut Walk, folder: &str) -> io::Result<()>
         ensures { self.now.root.now ≡ [] → IsErr result }
     {
@@ -202,20 +222,26 @@ impl<'a, R: Files + AllocGlobal> FolderStore<'a, R> {
         joined(self.rt.alloc(), self.root, path)
     }
 
-    // All names in a folder, each ended by a zero byte.
+    // All names in a folder, each ended by a zero byte: none where what has this name is gone, or is
+    // no folder. The root has to be one, or a symbolic link to one; no other link is followed.
     fn names_in(&self, folder: &str) -> io::Result<Vec<u8>>
         ensures { self.now.root.now ≡ [] → IsErr result }
     {
         let mut path = self.full_path(folder)?;
-        path.push('/')?;
-        let mut folder = self.rt.open_dir(path.as_str())?;
+        if folder.is_empty() {
+            path.push('/')?;
+        }
         let mut names = Vec::new(self.rt.alloc());
-        read_names(&mut folder, &mut names)?;
+        match self.rt.open_dir(path.as_str()) {
+            Ok(mut opened) => read_names(&mut opened, &mut names)?,
+            Err(error) if !folder.is_empty() && is_no_folder(error.kind()) => {}
+            Err(error) => return Err(error),
+        }
         Ok(names)
     }
 
-    // Notes a name of the folder, if it is that of a folder, of a schema
-    // file or of what a write has left. A name that is gone is passed over.
+    // Notes a name of the folder, if it may be that of a folder, or is that of a schema file or of
+    // what a write has left. A name that is gone is passed over.
     fn visit(&self, walk: &mut Walk, folder: &str, name: &[u8]) -> io::Result<()> {
         if let Some(second) = second_named(name) {
             walk.leftovers
@@ -228,13 +254,25 @@ impl<'a, R: Files + AllocGlobal> FolderStore<'a, R> {
             return Err(io::Error::from(io::ErrorKind::InvalidFilename));
         };
         let path = joined(self.rt.alloc(), folder, name)?;
+        if name.ends_with(".proto") {
+            self.visit_file(walk, path)
+        } else {
+            // That it is a folder its opening tells.
+            walk.folders.push(path)?;
+            Ok(())
+        }
+    }
+
+    // Notes what has the name of a schema file, if it is a regular file or a folder.
+    fn visit_file(&self, walk: &mut Walk, path: String) -> io::Result<()> {
         let full_path = self.full_path(path.as_str())?;
         let Some(found) = look(self.rt, full_path.as_str())? else {
             return Ok(());
         };
         if found.is_dir() {
             walk.folders.push(path)?;
-        } else if found.is_file() && name.ends_with(".proto") {
+        } else if found.is_file() {
+            walk.numbers.push(number_of(&found))?;
             walk.files.push(path)?;
             walk.shared_mode &= found.mode();
         }
@@ -253,88 +291,89 @@ impl<'a, R: Files + AllocGlobal> FolderStore<'a, R> {
     }
 
     // The full path of a file, where each part before the last is a folder that the walk goes
-    // through; those that are above a known folder too are not looked at. That the last is a
-    // regular file is for the caller to see.
-    fn walked_path(&self, path: &str, known: Option<&str>) -> io::Result<String>
+    // through. That the last is a regular file is for the caller to see.
+    fn walked_path(&self, path: &str) -> io::Result<String>
         ensures { self.now.root.now ≡ [] → IsErr result }
     {
-        let (mut full_path, known) = match known {
-            Some(known) => (self.full_path("")?, known),
-            None => (self.root_path()?, ""),
-        };
+        let mut full_path = self.root_path()?;
         full_path.reserve(path.len().saturating_add(1))?;
-        let mut above = known.split('/');
-        let mut is_known = true;
+        let mut is_root = true;
         for part in path.split('/') {
             if !is_walked_name(part) {
                 return Err(io::Error::from(io::ErrorKind::InvalidFilename));
             }
-            if !is_known && !fs::symlink_metadata(self.rt, full_path.as_str())?.is_dir() {
+            if !is_root && !fs::symlink_metadata(self.rt, full_path.as_str())?.is_dir() {
                 return Err(io::Error::from(io::ErrorKind::NotADirectory));
             }
-            is_known = is_known && above.next() == Some(part);
+            is_root = false;
             full_path.push('/')?;
             full_path.push_str(part)?;
         }
         Ok(full_path)
     }
 
-    // The same of a file to read. Files are read in the order of their paths, so most folders above
-    // one are those of the one before, and are not looked at again.
-    fn path_to_read(&mut self, path: &str) -> io::Result<String>
-        ensures nowhere { self.old.root.now ≡ [] → IsErr result }
-        ensures root { self.new.root.now ≡ self.old.root.now }
-        ensures failures { self.new.failures ≡ self.old.failures }
-    {
-        let known = match &self.known {
-            Some(known) => Some(known.as_str()),
-            None => None,
-        };
-        let full_path = self.walked_path(path, known)?;
-        let folder = match path.rsplit_once('/') {
-            Some((folder, _)) => folder,
-            None => "",
-        };
-        if known != Some(folder) {
-            self.known = Some(String::from_str(self.rt.alloc(), folder)?);
-        }
-        Ok(full_path)
-    }
-
     // The bytes of a file, up to the first that is too many.
-    fn file_bytes(&mut self, path: &str) -> io::Result<(Vec<u8>, Stamp)>
-        ensures nowhere { self.old.root.now ≡ [] → IsErr result }
-        ensures root { self.new.root.now ≡ self.old.root.now }
-        ensures failures { self.new.failures ≡ self.old.failures }
+    fn file_bytes(&self, path: &str) -> io::Result<(Vec<u8>, Stamp)>
+        ensures { self.now.root.now ≡ [] → IsErr result }
     {
-        let full_path = self.path_to_read(path)?;
+        if let Some(read) = self.seen_bytes(path)? {
+            return Ok(read);
+        }
+        let full_path = self.walked_path(path)?;
         match regular_file(self.rt, full_path.as_str())? {
-            Some(found) => self.found_bytes(full_path.as_str(), &found, MAX_LEN + 1),
+            Some(found) => self.found_bytes(full_path.as_str(), number_of(&found), MAX_LEN + 1),
             None => Err(io::Error::from(io::ErrorKind::NotFound)),
         }
     }
 
-    // The bytes of a file that a look has found, and how it was when it was opened.
+    // The bytes of a file that was listed or read, where it is still that file: the folders above it
+    // need no other look, since what else its path leads to is another file.
+    fn seen_bytes(&self, path: &str) -> io::Result<Option<(Vec<u8>, Stamp)>>
+        ensures { self.now.root.now ≡ [] → IsErr result }
+    {
+        let full_path = self.full_path(path)?;
+        let number = match self.seen.get(path) {
+            Some(Seen::Listed(number)) => *number,
+            Some(Seen::Held(Some(stamp))) => stamp.file,
+            Some(Seen::Held(None)) | None => return Ok(None),
+        };
+        match open_numbered(self.rt, full_path.as_str(), number) {
+            Ok((file, found)) => Ok(Some(self.opened_bytes(file, &found, MAX_LEN + 1)?)),
+            Err(_) => Ok(None),
+        }
+    }
+
+    // The bytes of a file that a look has found.
     fn found_bytes(
         &self,
         path: &str,
+        number: FileNumber,
+        limit: usize,
+    ) -> io::Result<(Vec<u8>, Stamp)> {
+        let (file, found) = open_numbered(self.rt, path, number)?;
+        self.opened_bytes(file, &found, limit)
+    }
+
+    // The bytes of an open file, and how it was when it was opened.
+    fn opened_bytes(
+        &self,
+        file: R::File,
         found: &Metadata,
         limit: usize,
     ) -> io::Result<(Vec<u8>, Stamp)> {
-        let (file, stamp) = open_found(self.rt, path, found)?;
         // No more than a schema may have, whatever length is told; the byte more is that of the
         // read that finds the end.
         let told = found.size().min(MAX_LEN as u64) as usize;
         let mut bytes = Vec::with_capacity(self.rt.alloc(), told + 1)?;
         file.take(limit as u64).read_to_end(&mut bytes)?;
-        Ok((bytes, stamp))
+        Ok((bytes, stamp_of(found)))
     }
 
     // A file that is not there is none of the list, and is not made.
     fn put_bytes(&self, path: &str, bytes: &[u8]) -> io::Result<Stamp>
         ensures { self.now.root.now ≡ [] → IsErr result }
     {
-        let full_path = self.walked_path(path, None)?;
+        let full_path = self.walked_path(path)?;
         let Some(found) = regular_file(self.rt, full_path.as_str())? else {
             return Err(io::Error::from(io::ErrorKind::NotFound));
         };
@@ -376,7 +415,11 @@ impl<'a, R: Files + AllocGlobal> FolderStore<'a, R> {
         let Some(found) = regular_file(self.rt, path.as_str())? else {
             return Ok((Vec::new(self.rt.alloc()), None));
         };
-        let (bytes, stamp) = self.found_bytes(path.as_str(), &found, MAX_JOURNAL_LEN + 1)?;
+        let (bytes, stamp) = self.found_bytes(
+            path.as_str(),
+            number_of(&found),
+            MAX_JOURNAL_LEN + 1,
+        )?;
         Ok((bytes, Some(stamp)))
     }
 
@@ -431,9 +474,43 @@ impl<'a, R: Files<File = File> + AllocGlobal> FolderStore<'a, R> {
     }
 }
 
+// Notes what is known of a path.
+fn note_seen(
+    alloc: Global,
+    all: &mut BTreeMap<String, Seen>,
+    path: &str,
+    seen: Seen,
+) -> io::Result<()> {
+    if let Some(before) = all.get_mut(path) {
+        *before = seen;
+        return Ok(());
+    }
+    let path = String::from_str(alloc, path)?;
+    let _ = all.insert(path, seen)?;
+    Ok(())
+}
+
+// Notes which files were listed. What was read or written stays known.
+fn note_listed(alloc: Global, all: &mut BTreeMap<String, Seen>, walk: &Walk) -> io::Result<()> {
+    for (path, number) in walk.files.iter().zip(walk.numbers.iter()) {
+        if !matches!(all.get(path.as_str()), Some(Seen::Held(_))) {
+            note_seen(alloc, all, path.as_str(), Seen::Listed(*number))?;
+        }
+    }
+    Ok(())
+}
+
 // Whether the walk passes over no file or folder of this name.
 fn is_walked_name(name: &str) -> bool {
     !name.is_empty() && !name.starts_with('.')
+}
+
+// Whether a folder was not opened since none has its name.
+fn is_no_folder(kind: io::ErrorKind) -> bool {
+    matches!(
+        kind,
+        io::ErrorKind::NotFound | io::ErrorKind::NotADirectory | io::ErrorKind::FilesystemLoop
+    )
 }
 
 // A path below a folder, where either may be empty.
@@ -460,12 +537,8 @@ impl<R: Files + AllocGlobal> Store for FolderStore<'_, R> {
         ensures root { self.new.root.now ≡ self.old.root.now }
         ensures count { Counts self.old.failures self.new.failures result }
     {
-        match self.walked() {
-            Ok(walk) => {
-                self.known = None;
-                self.shared_mode &= walk.shared_mode;
-                Ok(walk.files)
-            }
+        match self.listed() {
+            Ok(paths) => Ok(paths),
             Err(_) => Err(self.fault()),
         }
     }
@@ -478,7 +551,7 @@ impl<R: Files + AllocGlobal> Store for FolderStore<'_, R> {
         ensures count { Counts self.old.failures self.new.failures result }
     {
         match self.file_bytes(path) {
-            Ok((bytes, stamp)) => match self.note(path, Some(stamp)) {
+            Ok((bytes, stamp)) => match self.note(path, Seen::Held(Some(stamp))) {
                 Ok(()) => Ok(bytes),
                 Err(_) => Err(self.fault()),
             },
@@ -515,7 +588,7 @@ impl<R: Files + AllocGlobal> Store for FolderStore<'_, R> {
         ensures count { Counts self.old.failures self.new.failures result }
     {
         match self.journal_bytes() {
-            Ok((bytes, stamp)) => match self.note(JOURNAL, stamp) {
+            Ok((bytes, stamp)) => match self.note(JOURNAL, Seen::Held(stamp)) {
                 Ok(()) => Ok(bytes),
                 Err(_) => Err(self.fault()),
             },

@@ -10,8 +10,7 @@ use std::{fs, io};
 // times, and who puts another in its place changes its number.
 #[derive(Clone, Copy, PartialEq, Eq)]
 pub(crate) struct Stamp {
-    device: u64,
-    number: u64,
+    pub(crate) file: FileNumber,
     size: u64,
     written: (i64, i64),
     changed: (i64, i64),
@@ -20,8 +19,7 @@ pub(crate) struct Stamp {
 // The stamp of a file of which this is told.
 pub(crate) fn stamp_of(metadata: &Metadata) -> Stamp {
     Stamp {
-        device: metadata.dev(),
-        number: metadata.ino(),
+        file: number_of(metadata),
         size: metadata.size(),
         written: (metadata.mtime(), metadata.mtime_nsec()),
         changed: (metadata.ctime(), metadata.ctime_nsec()),
@@ -47,23 +45,33 @@ pub(crate) fn regular_file<R: Files>(rt: &R, path: &str) -> io::Result<Option<Me
     }
 }
 
-// Whether both are of the same file.
-pub(crate) fn is_same_file(one: &Metadata, other: &Metadata) -> bool {
-    one.dev() == other.dev() && one.ino() == other.ino()
+// By what a file is known whatever its name: the device that it lies on, and its number there.
+#[derive(Clone, Copy, PartialEq, Eq)]
+pub(crate) struct FileNumber {
+    device: u64,
+    number: u64,
 }
 
-// Opens the regular file that a look has found at a path. What came in its place since fails.
-pub(crate) fn open_found<R: Files>(
+// The number of a file of which this is told.
+pub(crate) fn number_of(metadata: &Metadata) -> FileNumber {
+    FileNumber {
+        device: metadata.dev(),
+        number: metadata.ino(),
+    }
+}
+
+// Opens the regular file that was seen at a path. What came in its place since fails.
+pub(crate) fn open_numbered<R: Files>(
     rt: &R,
     path: &str,
-    found: &Metadata,
-) -> io::Result<(R::File, Stamp)> {
+    number: FileNumber,
+) -> io::Result<(R::File, Metadata)> {
     let file = File::open(rt, path)?;
     let opened = file.metadata()?;
-    if !opened.is_file() || !is_same_file(&opened, found) {
+    if !opened.is_file() || number_of(&opened) != number {
         return Err(io::Error::from(io::ErrorKind::InvalidInput));
     }
-    Ok((file, stamp_of(&opened)))
+    Ok((file, opened))
 }
 
 // Reads all names of a folder, each ended by a zero byte. A read that is interrupted goes on.

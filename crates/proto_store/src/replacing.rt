@@ -1,6 +1,6 @@
 //! Putting a file in the place of another, whole or not at all.
 
-use crate::looks::{Stamp, is_same_file, look, regular_file, stamp_of};
+use crate::looks::{Stamp, look, number_of, regular_file, stamp_of};
 use std::fs::{File, Metadata, OpenFile, OpenOptions, Permissions};
 use std::io::Write;
 use std::os::unix::fs::{MetadataExt, OpenOptionsExt, PermissionsExt, lchown};
@@ -116,7 +116,7 @@ fn take_away<R: Files>(rt: &R, file: &R::File, second: &str) {
 fn is_made_here<R: Files>(rt: &R, file: &R::File, second: &str) -> io::Result<bool> {
     let made = file.metadata()?;
     match look(rt, second)? {
-        Some(found) => Ok(is_same_file(&made, &found)),
+        Some(found) => Ok(number_of(&made) == number_of(&found)),
         None => Ok(false),
     }
 }
