@@ -1,17 +1,25 @@
 -- Files that compile are read, and compile when they are given again (for the crates above).
-use Rattle.std.proofs.Common.{◌≡◌, ℕ, suc, List, [], ◌∷◌, subst, arith, AllPairs}
-use Rattle.proto_faults.proofs.Common.{IsPermutation-sym, All-permutation, length_permutation, from_map}
+use Rattle.std.proofs.Common.{◌≡◌, ℕ, suc, List, [], ◌∷◌, length, refl, subst, inl, inr, arith, AllPairs}
+use Rattle.proto_faults.proofs.Common.{IsPermutation-sym, All-permutation, cases_lt, length_permutation, from_map, text_limit}
 use Rattle.proto_text.proofs.OneEdit.{length_map}
 use Rattle.proto_faults.specs.declared.fault.FaultKind.{FaultKind}
-use Rattle.proto_faults.specs.declared.fault.FaultKind.TheVariants.{BadPath, DoublePath, TooManyFiles}
+use Rattle.proto_faults.specs.declared.fault.FaultKind.TheVariants.{BadPath, DoublePath, TooLarge, TooManyFiles}
 use Rattle.proto_files.proofs.Common.{FaultAt, IsLeastFault, FileOf, paths_of, AreWorkspaceFiles, IsPathFault, IsWorkspacePath, IsBefore, one_order, Rises, count_once}
 use Rattle.proto_files.proofs.Members.{Contains-from_member}
+use Rattle.proto_entries.specs.Putting.{AreShortFiles}
 use Rattle.proto_desc.specs.Whole.{IsSortedOf, FileFaults, WorkspaceFaults, of_path, of_files, of_read}
 use Rattle.proto_rename_described.proofs.CleanFiles.{clean_files_are_read}
-use Rattle.proto_edit.specs.Common.{AreCompiled, CompiledAreRead, WorkspacesAreClean}
+use Rattle.proto_edit.specs.Common.{AreCompiled, at, CompiledAreRead, WorkspacesAreClean}
 
 pub compiled_are_read : CompiledAreRead
 compiled_are_read w has = clean_files_are_read w (λ x h. has.clean x (of_read x h))
+
+-- no file of what compiles is too large
+pub are_short : (w : List FileOf) → AreCompiled w → AreShortFiles w
+are_short w has g k = elim (cases_lt text_limit (length g.bytes)) [
+  | inl lt ↦ absurd (has.clean (at g.path 0 TooLarge) (of_read (at g.path 0 TooLarge) (inl (g, k, refl, (refl, lt)))))
+  | inr le ↦ le
+]
 
 -- files in their order are those given, where these are in order
 pub sorted_again : (w files : List FileOf) → AreWorkspaceFiles w → IsSortedOf w files → files ≡ w

@@ -1,19 +1,10 @@
 -- A workspace with changes, opened again: what is put, or that nothing is.
-use Rattle.std.proofs.Common.{List, length, refl, sym, subst, inl, inr, Some, None}
-use Rattle.proto_faults.proofs.Common.{cases_lt, text_limit}
-use Rattle.proto_faults.specs.declared.fault.FaultKind.TheVariants as kind
+use Rattle.std.proofs.Common.{List, sym, subst, Some, None}
 use Rattle.proto_files.proofs.Common.{FaultAt, IsLeastFault, FileOf}
-use Rattle.proto_desc.specs.Whole.{IsSortedOf, of_read, WorkspaceFaults}
-use Rattle.proto_edit.specs.Common.{IsReopened, AreCompiled, at}
-use Rattle.proto_entries.proofs.Common.{ChangeOf, AreRising, ArePut, AreShortFiles, IsPut, puts_are_once, put_by_paths, put_in_order, still_files}
-use Rattle.proto_edit.proofs.GivenAgain.{opens_again, sorted_again}
-
--- no file of what compiles is too large
-are_short : (w : List FileOf) → AreCompiled w → AreShortFiles w
-are_short w has g k = elim (cases_lt text_limit (length g.bytes)) [
-  | inl lt ↦ absurd (has.clean (at g.path 0 kind.TooLarge) (of_read (at g.path 0 kind.TooLarge) (inl (g, k, refl, (refl, lt)))))
-  | inr le ↦ le
-]
+use Rattle.proto_desc.specs.Whole.{IsSortedOf, WorkspaceFaults}
+use Rattle.proto_edit.specs.Common.{IsReopened, AreCompiled}
+use Rattle.proto_entries.proofs.Common.{ChangeOf, AreRising, ArePut, IsPut, puts_are_once, put_by_paths, put_in_order, still_files}
+use Rattle.proto_edit.proofs.GivenAgain.{are_short, opens_again, sorted_again}
 
 module _ (w : List FileOf) (cs : List ChangeOf) (has : AreCompiled w) (rising : AreRising cs) where
   pub none_put : ((after : List FileOf) → ArePut w cs after → ⊥) → IsReopened w cs None

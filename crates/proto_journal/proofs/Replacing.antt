@@ -1,9 +1,11 @@
--- Replacing the files that differ, one after the other.
-use Rattle.std.proofs.Common.{arith, ◌≡◌, ◌⊎◌, inl, inr, ℕ, suc, ◌+◌, ◌<◌, List, length, Option, Result, Ok, Err, sym, ap, ◌∙◌, subst, OnErr, OnOk, option_map}
+-- Replacing the files of which there is a change, one after the other.
+use Rattle.std.proofs.Common.{arith, ◌≡◌, ◌⊎◌, inl, inr, ℕ, suc, ◌+◌, ◌<◌, List, [], ◌∷◌, length, drop, Option, Result, Ok, Err, refl, sym, ap, ◌∙◌, subst, OnErr, OnOk, option_map}
+use Rattle.proto_faults.proofs.Common.{drop_more}
 use Rattle.proto_files.specs.GivenFiles.{FileOf, file_at, paths_of}
+use Rattle.proto_entries.specs.Entries.{ChangeOf}
 use Rattle.proto_store.specs.Stores.{Held, HoldsFiles, IsListed, with_bytes, with_file}
-use Rattle.proto_journal.specs.Written.{AreBetween, IsHalfReplaced, IsReplaced, with_files}
-use Rattle.proto_journal.proofs.Between.{IsOrdered, all_after, between_up_to, listed_step, replaced_step, same_step, up_to}
+use Rattle.proto_journal.specs.Written.{AreBetween, DifferBy, IsHalfReplaced, IsReplaced, with_files}
+use Rattle.proto_journal.proofs.Between.{IsOrdered, all_after, as_long, between_up_to, listed_step, replaced_step, same_step, up_to}
 use Rattle.proto_journal.proofs.Holdings.{file_replaced, files_already, files_between, listed_among}
 
 -- a fact that holds of an answer
@@ -41,6 +43,45 @@ half_told old new path bytes to p b c = elim c [
   | inr n ↦ inr (as_told old new path bytes to p b n)
 ]
 
+-- ---- the changes that are left
+
+-- a file has its bytes of afterwards: they were written, or it had them
+abbrev pub HasNew : FileOf → FileOf → Option Held → Option Held → Type 0
+HasNew from to old new = (new ≡ option_map (with_file to.path to.bytes) old) ⊎ ((from.bytes ≡ to.bytes) × (new ≡ old))
+
+-- the first of the files is as after, and the others differ by the changes that are left
+first_replaced : (cs rest : List ChangeOf) (f g : FileOf) (fs gs : List FileOf) (old new : Option Held) → DifferBy cs (f ∷ fs) (g ∷ gs) → IsReplaced f g cs rest old new
+    → DifferBy rest fs gs × HasNew f g old new
+first_replaced [] rest f g fs gs old new d r = (subst (λ (z : List ChangeOf). DifferBy z fs gs) (sym r.0) d.1, inr (ap (λ (z : FileOf). z.bytes) (sym d.0), r.1))
+first_replaced (c ∷ cs) rest f g fs gs old new (inl d) (inl r) = (subst (λ (z : List ChangeOf). DifferBy z fs gs) (sym r.1) d.2, inl r.2)
+first_replaced (c ∷ cs) rest f g fs gs old new (inl d) (inr r) = absurd (r.0 d.0)
+first_replaced (c ∷ cs) rest f g fs gs old new (inr d) (inl r) = absurd (d.0 r.0)
+first_replaced (c ∷ cs) rest f g fs gs old new (inr d) (inr r) =
+    (subst (λ (z : List ChangeOf). DifferBy z fs gs) (sym r.1) d.2, inr (ap (λ (z : FileOf). z.bytes) (sym d.1), r.2))
+
+-- the same of the file at a place, and of those behind it
+pub next_left : (before after : List FileOf) (i : ℕ) (cs rest : List ChangeOf) (old new : Option Held) → paths_of after ≡ paths_of before → i < length after
+    → DifferBy cs (drop i before) (drop i after) → IsReplaced (file_at before i) (file_at after i) cs rest old new
+    → DifferBy rest (drop (i + 1) before) (drop (i + 1) after) × HasNew (file_at before i) (file_at after i) old new
+next_left before after i cs rest old new p lt d r =
+    let none : FileOf = record { path = []; bytes = [] } in
+    let long : length after ≡ length before = as_long after before p in
+    let was : drop i before ≡ file_at before i ∷ drop (i + 1) before = drop_more before i none (omega (arith, long, lt)) in
+    let is : drop i after ≡ file_at after i ∷ drop (i + 1) after = drop_more after i none lt in
+    first_replaced cs rest (file_at before i) (file_at after i) (drop (i + 1) before) (drop (i + 1) after) old new
+    (subst (λ (z : List FileOf). DifferBy cs (file_at before i ∷ drop (i + 1) before) z) is (subst (λ (z : List FileOf). DifferBy cs z (drop i after)) was d)) r
+
+-- files that differ by changes have the same paths
+pub same_paths : (cs : List ChangeOf) (fs gs : List FileOf) → DifferBy cs fs gs → paths_of gs ≡ paths_of fs
+same_paths cs [] [] d = refl
+same_paths cs [] (g ∷ gs) d = absurd d
+same_paths cs (f ∷ fs) [] d = absurd d
+same_paths [] (f ∷ fs) (g ∷ gs) d = let rest : paths_of gs ≡ paths_of fs = same_paths [] fs gs d.1 in λ j. (d.0 j).path ∷ rest j
+same_paths (c ∷ cs) (f ∷ fs) (g ∷ gs) (inl d) = let rest : paths_of gs ≡ paths_of fs = same_paths cs fs gs d.2 in λ j. d.1 j ∷ rest j
+same_paths (c ∷ cs) (f ∷ fs) (g ∷ gs) (inr d) = let rest : paths_of gs ≡ paths_of fs = same_paths (c ∷ cs) fs gs d.2 in λ j. (d.1 j).path ∷ rest j
+
+-- ---- one file more
+
 module _ (h : Option Held) (before after : List FileOf) (i : ℕ) (lt : i < length after) (p : paths_of after ≡ paths_of before) where
   one_more : i + 1 ≡ suc i
   one_more = omega arith
@@ -65,7 +106,7 @@ module _ (h : Option Held) (before after : List FileOf) (i : ℕ) (lt : i < leng
         let step : with_bytes name text (up_to i after before) ≡ up_to (i + 1) after before = replaced_step i after before lt p ordered ∙ ap (λ (k : ℕ). up_to k after before) (sym one_more) in
         n ∙ ap (option_map (with_file name text)) m ∙ file_replaced h name text (up_to i after before) ∙ ap (λ (files : List FileOf). option_map (with_files files) h) step
 
-    pub next_replaced : (mid now : Option Held) → mid ≡ option_map (with_files (up_to i after before)) h → IsReplaced (file_at before i) (file_at after i) mid now
+    pub next_replaced : (mid now : Option Held) → mid ≡ option_map (with_files (up_to i after before)) h → HasNew (file_at before i) (file_at after i) mid now
         → now ≡ option_map (with_files (up_to (i + 1) after before)) h
     next_replaced mid now m r = elim r [
       | inl n ↦ next_written mid now m n

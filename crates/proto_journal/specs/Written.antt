@@ -1,5 +1,5 @@
 -- Where a store stands while files and journal are written, and what is made before.
-use Rattle.std.specs.Prelude.{◌≡◌, ◌⊎◌, ◌<◌, List, [], ◌∷◌, ◌++◌, length, true, false, Option, Some, option_map, Result, Ok, Err}
+use Rattle.std.specs.Prelude.{◌≡◌, ◌≢◌, ◌⊎◌, ◌<◌, List, [], ◌∷◌, ◌++◌, length, true, false, Option, Some, option_map, Result, Ok, Err}
 use Rattle.proto_faults.specs.Texts.{Text}
 use Rattle.proto_files.specs.GivenFiles.{FileOf}
 use Rattle.proto_entries.specs.Entries.{ChangeOf}
@@ -27,10 +27,24 @@ held files journal = record { files = files; journal = journal }
 abbrev pub with_files : List FileOf → Held → Held
 with_files files h = record h { files = files }
 
--- a file has its bytes of afterwards: they were written, or it had them
-abbrev pub IsReplaced : FileOf → FileOf → Option Held → Option Held → Type 0
-IsReplaced from to old new = (new ≡ option_map (with_file to.path to.bytes) old)
-    ⊎ ((from.bytes ≡ to.bytes) × (new ≡ old))
+-- files that differ at the paths of changes alone, where both are gone through together
+abbrev pub DifferBy : List ChangeOf → List FileOf → List FileOf → Type 0
+DifferBy cs [] [] = Unit {0}
+DifferBy cs [] (g ∷ gs) = ⊥
+DifferBy cs (f ∷ fs) [] = ⊥
+DifferBy [] (f ∷ fs) (g ∷ gs) = (g ≡ f) × DifferBy [] fs gs
+DifferBy (c ∷ cs) (f ∷ fs) (g ∷ gs) =
+    ((c.path ≡ f.path) × (g.path ≡ f.path) × DifferBy cs fs gs)
+    ⊎ ((c.path ≢ f.path) × (g ≡ f) × DifferBy (c ∷ cs) fs gs)
+
+-- a file gets its bytes of afterwards where the first of the changes is of its path, and the others
+-- are left; else nothing is written, and all of them are left
+abbrev pub IsReplaced : FileOf → FileOf → List ChangeOf → List ChangeOf
+    → Option Held → Option Held → Type 0
+IsReplaced from to [] rest old new = (rest ≡ []) × (new ≡ old)
+IsReplaced from to (c ∷ cs) rest old new =
+    ((c.path ≡ from.path) × (rest ≡ cs) × (new ≡ option_map (with_file to.path to.bytes) old))
+    ⊎ ((c.path ≢ from.path) × (rest ≡ c ∷ cs) × (new ≡ old))
 
 -- a write of a file failed: it has its old bytes or the new ones
 abbrev pub IsHalfReplaced : FileOf → Option Held → Option Held → Type 0

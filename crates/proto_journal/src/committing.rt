@@ -117,7 +117,14 @@ pub fn commit<S: Store>(
     let made = prepare(alloc, journal.as_slice(), workspace, &edit)?;
     let first = made.first.as_slice();
     let last = made.last.as_slice();
-    match write_through(store, first, workspace.files(), made.next.files(), last) {
+    match write_through(
+        store,
+        first,
+        workspace.files(),
+        made.next.files(),
+        made.entry.changes(),
+        last,
+    ) {
         Ok(()) => {
             mem::replace(workspace, made.next).release();
             Ok(made.entry)

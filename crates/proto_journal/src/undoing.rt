@@ -101,6 +101,7 @@ pub fn undo_last<S: Store>(
         first.as_slice(),
         workspace.files(),
         next.files(),
+        undone.entry().changes(),
         last,
     ) {
         Ok(()) => {

@@ -1,41 +1,69 @@
 //! The one way in which files and journal are written.
 
-ghost use Rattle.std.specs.Prelude.{◌≡◌, ◌-◌, ◌^◌, ◌<◌, OnErr, OnOk, length, option_map};
-ghost use Rattle.proto_files.specs.GivenFiles.{file_at, paths_of};
-ghost use Rattle.proto_store.specs.Stores.{Counts, HoldsFiles, IsListed};
-ghost use Rattle.proto_journal.specs.Written.{AreBetween, IsHalfReplaced, IsReplaced, Passes, held, with_files};
+ghost use Rattle.std.specs.Prelude.{◌≡◌, ◌-◌, ◌^◌, ◌<◌, IfOk, OnErr, OnOk, length, map, option_map};
+ghost use Rattle.proto_entries.specs.Entries.{change_of};
+ghost use Rattle.proto_files.specs.GivenFiles.{file_at};
+ghost use Rattle.proto_store.specs.Stores.{Counts, HoldsFiles, IsListed, with_file};
+ghost use Rattle.proto_journal.specs.Written.{AreBetween, DifferBy, IsHalfReplaced, IsReplaced, Passes, held, with_files};
 
+use proto_edit::Change;
 use proto_files::Files;
 use proto_store::{Store, StoreFault};
 
-// Replaces the file at a place, where it differs.
-fn replace_file<S: Store>(
-    store: &mut S,
-    before: &Files,
-    after: &Files,
-    place: usize,
-) -> Result<(), StoreFault>
+// Replaces the file at a place.
+fn put_file<S: Store>(store: &mut S, after: &Files, place: usize) -> Result<(), StoreFault>
     requires room { S.failure_count store.old < 2 ^ 64 - 1 }
-    requires was { place < length before.now }
     requires is { place < length after.now }
     requires listed { IsListed (S.holds store.old) (file_at after.now place).path }
-    ensures ok { OnOk result (IsReplaced (file_at before.now place) (file_at after.now place)
-        (S.holds store.old) (S.holds store.new)) }
+    ensures ok { OnOk result (S.holds store.new ≡ option_map (with_file
+        (file_at after.now place).path (file_at after.now place).bytes) (S.holds store.old)) }
     ensures err { OnErr result (IsHalfReplaced (file_at after.now place)
         (S.holds store.old) (S.holds store.new)) }
     ensures count { Counts (S.failure_count store.old) (S.failure_count store.new) result }
 {
-    let bytes = after.source(place).as_bytes();
-    if before.source(place).as_bytes() == bytes {
-        return Ok(());
-    }
-    store.replace(after.path(place), bytes)
+    store.replace(after.path(place), after.source(place).as_bytes())
 }
 
-// Replaces each file that differs, in the order of the paths.
-fn replace_files<S: Store>(store: &mut S, before: &Files, after: &Files) -> Result<(), StoreFault>
+// Replaces the file at a place, where the first of these changes is of its path; answers the
+// changes that are left behind it.
+fn replace_file<'a, S: Store>(
+    store: &mut S,
+    before: &Files,
+    after: &Files,
+    place: usize,
+    left: &'a [Change],
+) -> Result<&'a [Change], StoreFault>
     requires room { S.failure_count store.old < 2 ^ 64 - 1 }
-    requires paths { paths_of after.now ≡ paths_of before.now }
+    requires was { place < length before.now }
+    requires is { place < length after.now }
+    requires listed { IsListed (S.holds store.old) (file_at after.now place).path }
+    ensures ok { IfOk result (λ rest. IsReplaced
+        (file_at before.now place) (file_at after.now place)
+        (map change_of left.now) (map change_of rest.now) (S.holds store.old) (S.holds store.new)) }
+    ensures err { OnErr result (IsHalfReplaced (file_at after.now place)
+        (S.holds store.old) (S.holds store.new)) }
+    ensures count { Counts (S.failure_count store.old) (S.failure_count store.new) result }
+{
+    let Some((change, rest)) = left.split_first() else {
+        return Ok(left);
+    };
+    if change.path.as_str() != before.path(place) {
+        return Ok(left);
+    }
+    put_file(store, after, place)?;
+    Ok(rest)
+}
+
+// Replaces each file of which there is a change, in the order of the paths. No bytes are compared:
+// the changes say which files differ.
+fn replace_files<S: Store>(
+    store: &mut S,
+    before: &Files,
+    after: &Files,
+    changes: &[Change],
+) -> Result<(), StoreFault>
+    requires room { S.failure_count store.old < 2 ^ 64 - 1 }
+    requires differ { DifferBy (map change_of changes.now) before.now after.now }
     requires files { HoldsFiles (S.holds store.old) before.now }
     ensures ok { OnOk result (S.holds store.new
         ≡ option_map (with_files after.now) (S.holds store.old)) }
@@ -43,23 +71,26 @@ fn replace_files<S: Store>(store: &mut S, before: &Files, after: &Files) -> Resu
         (S.holds store.old) (S.holds store.new)) }
     ensures count { Counts (S.failure_count store.old) (S.failure_count store.new) result }
 {
+    let mut left = changes;
     for place in 0..after.len() {
-        replace_file(store, before, after, place)?;
+        left = replace_file(store, before, after, place, left)?;
     }
     Ok(())
 }
 
-// Replaces the journal by the first text, then each file that differs, in the order of the paths,
-// then the journal by the last text. Where a call of the store fails, it goes no further.
+// Replaces the journal by the first text, then each file of which there is a change, in the order
+// of the paths, then the journal by the last text. Where a call of the store fails, it goes no
+// further.
 pub(crate) fn write_through<S: Store>(
     store: &mut S,
     first: &[u8],
     before: &Files,
     after: &Files,
+    changes: &[Change],
     last: &[u8],
 ) -> Result<(), StoreFault>
     requires room { S.failure_count store.old < 2 ^ 64 - 1 }
-    requires paths { paths_of after.now ≡ paths_of before.now }
+    requires differ { DifferBy (map change_of changes.now) before.now after.now }
     requires files { HoldsFiles (S.holds store.old) before.now }
     ensures ok { OnOk result (S.holds store.new
         ≡ option_map (λ h. held after.now last.now) (S.holds store.old)) }
@@ -68,6 +99,6 @@ pub(crate) fn write_through<S: Store>(
     ensures count { Counts (S.failure_count store.old) (S.failure_count store.new) result }
 {
     store.replace_journal(first)?;
-    replace_files(store, before, after)?;
+    replace_files(store, before, after, changes)?;
     store.replace_journal(last)
 }

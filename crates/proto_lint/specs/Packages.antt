@@ -85,6 +85,16 @@ has_version h = not (has_package h) || is_version (behind_last ascii.dot (packag
 abbrev pub has_lower_snake_file : Head → Bool
 has_lower_snake_file h = is_lower_snake (stem (file_name h))
 
+-- whether a file passes a rule of packages; no other rule is asked here
+abbrev pub passes : Rule → List Head → Head → Bool
+passes rule.DirectorySamePackage heads h = has_package_of_directory heads h
+passes rule.PackageDefined heads h = has_package h
+passes rule.PackageDirectoryMatch heads h = has_directory_like_package h
+passes rule.PackageLowerSnakeCase heads h = has_lower_snake_package h
+passes rule.PackageSameDirectory heads h = has_directory_of_package heads h
+passes rule.PackageVersionSuffix heads h = has_version h
+passes _ heads h = true
+
 -- ---- what they find
 
 -- what a rule of packages prints: the package, or `-`

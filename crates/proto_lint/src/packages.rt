@@ -7,7 +7,7 @@ ghost use Rattle.proto_faults.specs.Ascii as ascii;
 ghost use Rattle.proto_case.specs.Cases.{is_lower_snake};
 ghost use Rattle.proto_findings.specs.Views.{found_of};
 ghost use Rattle.proto_rules.specs.declared.rule.Rule.TheVariants as rule;
-ghost use Rattle.proto_lint.specs.Packages.{Head, file_name, found_unless, has_directory_like_package, has_directory_of_package, has_lower_snake_file, has_lower_snake_package, has_package, has_package_of_directory, has_version, head_finds, package_or_dash, package_unless, slashed};
+ghost use Rattle.proto_lint.specs.Packages.{Head, file_name, found_unless, has_directory_like_package, has_directory_of_package, has_lower_snake_file, has_lower_snake_package, has_package, has_package_of_directory, has_version, head_finds, package_or_dash, package_unless, passes, slashed};
 
 use crate::heads::{FileHead, Heads};
 use proto_case::{is_lower_snake, is_version};
@@ -108,9 +108,6 @@ fn has_lower_snake_file(head: &FileHead) -> bool
 
 // ---- what they find
 
-// These differ in the rule and in what passes alone. Each asks for its rule before it looks, so
-// that a rule that is not chosen costs nothing; a common one would be given what passes.
-
 /// The package, or `-`.
 fn package_or_dash<'a>(head: &'a FileHead) -> &'a str
     ensures { result.now ≡ package_or_dash head.entry.now }
@@ -137,33 +134,36 @@ fn add(
     Ok(())
 }
 
-/// Adds the package at its name.
+/// Whether a file passes a rule of packages. It passes each rule that is none.
+fn passes(rule: Rule, heads: &Heads, head: &FileHead) -> bool
+    ensures { result ≡ passes rule heads.now head.now }
+{
+    match rule {
+        Rule::DirectorySamePackage => has_package_of_directory(heads, head),
+        Rule::PackageDefined => has_package(head),
+        Rule::PackageDirectoryMatch => has_directory_like_package(head),
+        Rule::PackageLowerSnakeCase => has_lower_snake_package(head),
+        Rule::PackageSameDirectory => has_directory_of_package(heads, head),
+        Rule::PackageVersionSuffix => has_version(head),
+        _ => true,
+    }
+}
+
+/// Adds what a rule of packages finds: the package, at its name. A rule that is not chosen costs
+/// nothing, since it is asked for before the file is looked at.
 fn add_package(
     alloc: Global,
     found: &mut Vec<Found>,
-    rule: Rule,
-    head: &FileHead,
-) -> Result<(), NoMemory>
-    ensures { OnOk result (map found_of found.new.items ≡ map found_of found.old.items ++
-        (record { offset = head.now.offset; rule = rule; name = package_or_dash head.now }) ∷ []) }
-{
-    add(alloc, found, rule, head.offset(), package_or_dash(head))
-}
-
-fn add_directory_same_package(
-    alloc: Global,
-    found: &mut Vec<Found>,
     rules: &RuleSet,
+    rule: Rule,
     heads: &Heads,
     head: &FileHead,
 ) -> Result<(), NoMemory>
     ensures { OnOk result (map found_of found.new.items ≡ map found_of found.old.items
-        ++ package_unless rules.now.chosen rule.DirectorySamePackage
-        (has_package_of_directory heads.now head.now) head.now) }
+        ++ package_unless rules.now.chosen rule (passes rule heads.now head.now) head.now) }
 {
-    let rule = Rule::DirectorySamePackage;
-    if rules.has(rule) && !has_package_of_directory(heads, head) {
-        add_package(alloc, found, rule, head)?;
+    if rules.has(rule) && !passes(rule, heads, head) {
+        add(alloc, found, rule, head.offset(), package_or_dash(head))?;
     }
     Ok(())
 }
@@ -181,91 +181,6 @@ fn add_file_lower_snake_case(
     let rule = Rule::FileLowerSnakeCase;
     if rules.has(rule) && !has_lower_snake_file(head) {
         add(alloc, found, rule, 0, head.file_name())?;
-    }
-    Ok(())
-}
-
-fn add_package_defined(
-    alloc: Global,
-    found: &mut Vec<Found>,
-    rules: &RuleSet,
-    head: &FileHead,
-) -> Result<(), NoMemory>
-    ensures { OnOk result (map found_of found.new.items ≡ map found_of found.old.items
-        ++ package_unless rules.now.chosen rule.PackageDefined (has_package head.now) head.now) }
-{
-    let rule = Rule::PackageDefined;
-    if rules.has(rule) && !has_package(head) {
-        add_package(alloc, found, rule, head)?;
-    }
-    Ok(())
-}
-
-fn add_package_directory_match(
-    alloc: Global,
-    found: &mut Vec<Found>,
-    rules: &RuleSet,
-    head: &FileHead,
-) -> Result<(), NoMemory>
-    ensures { OnOk result (map found_of found.new.items ≡ map found_of found.old.items
-        ++ package_unless rules.now.chosen rule.PackageDirectoryMatch
-        (has_directory_like_package head.now) head.now) }
-{
-    let rule = Rule::PackageDirectoryMatch;
-    if rules.has(rule) && !has_directory_like_package(head) {
-        add_package(alloc, found, rule, head)?;
-    }
-    Ok(())
-}
-
-fn add_package_lower_snake_case(
-    alloc: Global,
-    found: &mut Vec<Found>,
-    rules: &RuleSet,
-    head: &FileHead,
-) -> Result<(), NoMemory>
-    ensures { OnOk result (map found_of found.new.items ≡ map found_of found.old.items
-        ++ package_unless rules.now.chosen rule.PackageLowerSnakeCase
-        (has_lower_snake_package head.now) head.now) }
-{
-    let rule = Rule::PackageLowerSnakeCase;
-    if rules.has(rule) && !has_lower_snake_package(head) {
-        add_package(alloc, found, rule, head)?;
-    }
-    Ok(())
-}
-
-fn add_package_same_directory(
-    alloc: Global,
-    found: &mut Vec<Found>,
-    rules: &RuleSet,
-    heads: &Heads,
-    head: &FileHead,
-) -> Result<(), NoMemory>
-    ensures { OnOk result (map found_of found.new.items ≡ map found_of found.old.items
-        ++ package_unless rules.now.chosen rule.PackageSameDirectory
-        (has_directory_of_package heads.now head.now) head.now) }
-{
-    let rule = Rule::PackageSameDirectory;
-    if rules.has(rule) && !has_directory_of_package(heads, head) {
-        add_package(alloc, found, rule, head)?;
-    }
-    Ok(())
-}
-
-fn add_package_version_suffix(
-    alloc: Global,
-    found: &mut Vec<Found>,
-    rules: &RuleSet,
-    head: &FileHead,
-) -> Result<(), NoMemory>
-    ensures { OnOk result (map found_of found.new.items ≡ map found_of found.old.items
-        ++ package_unless rules.now.chosen rule.PackageVersionSuffix
-        (has_version head.now) head.now) }
-{
-    let rule = Rule::PackageVersionSuffix;
-    if rules.has(rule) && !has_version(head) {
-        add_package(alloc, found, rule, head)?;
     }
     Ok(())
 }
@@ -300,13 +215,27 @@ pub fn add_head(
         ++ head_finds rules.now.chosen heads.now (get_or heads.now file d)) }
 {
     let head = heads.get(file);
-    add_directory_same_package(alloc, found, rules, heads, head)?;
+    add_package(alloc, found, rules, Rule::DirectorySamePackage, heads, head)?;
     add_file_lower_snake_case(alloc, found, rules, head)?;
-    add_package_defined(alloc, found, rules, head)?;
-    add_package_directory_match(alloc, found, rules, head)?;
-    add_package_lower_snake_case(alloc, found, rules, head)?;
-    add_package_same_directory(alloc, found, rules, heads, head)?;
-    add_package_version_suffix(alloc, found, rules, head)?;
+    add_package(alloc, found, rules, Rule::PackageDefined, heads, head)?;
+    add_package(
+        alloc,
+        found,
+        rules,
+        Rule::PackageDirectoryMatch,
+        heads,
+        head,
+    )?;
+    add_package(
+        alloc,
+        found,
+        rules,
+        Rule::PackageLowerSnakeCase,
+        heads,
+        head,
+    )?;
+    add_package(alloc, found, rules, Rule::PackageSameDirectory, heads, head)?;
+    add_package(alloc, found, rules, Rule::PackageVersionSuffix, heads, head)?;
     add_syntax_specified(alloc, found, rules, head)?;
     Ok(())
 }

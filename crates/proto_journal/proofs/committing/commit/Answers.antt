@@ -1,14 +1,14 @@
-use Rattle.std.proofs.Common.{ℕ, List, refl, sym, ap, ◌∙◌, subst, Option, Some}
+use Rattle.std.proofs.Common.{ℕ, List, map, refl, sym, subst, Option, Some}
 use Rattle.std.proofs.lemmas.Result.{err_from_is_err_and}
-use Rattle.proto_files.specs.GivenFiles.{FileOf, paths_of}
-use Rattle.proto_entries.proofs.Common.{ChangeOf, Asked}
+use Rattle.proto_files.specs.GivenFiles.{FileOf}
+use Rattle.proto_entries.proofs.Common.{ChangeOf, Asked, change_of}
 use Rattle.proto_edit.specs.Answers.{asked}
 use Rattle.proto_records.proofs.Common.{done, opened, Over}
 use Rattle.proto_store.specs.Stores.{Held, HoldsFiles}
 use Rattle.proto_journal.specs.Written.{AddsTo, Passes, IsReadyText}
 use Rattle.proto_journal.proofs.Committed.{commit_cut, committed, counts_unprepared, not_ready, unprepared}
 use Rattle.proto_journal.proofs.Holdings.{passes_from, through_from}
-use Rattle.proto_journal.proofs.PutPaths.{step_paths}
+use Rattle.proto_journal.proofs.PutPaths.{differ_from, step_differs}
 use Rattle.proto_journal.proofs.committing.commit.Goals as goal
 
 pub returns-in_err-journal-clause-outcome : goal.returns-in_err-journal-clause-outcome
@@ -25,10 +25,11 @@ returns-in_err-made-clause-outcome g c =
     rw (p.1, p.2) (unprepared (asked c.args.edit) c.args.workspace.now old (g.S.Store.holds c.ready_text.new.store) c.as_slice.result.now _ c.ready_text.ensures.same
     c.in_ok-journal.ensures.outcome there c.in_err-made.ensures.err)
 
-pub write_through-requires-clause-paths : goal.write_through-requires-clause-paths
-write_through-requires-clause-paths g c =
-    ap paths_of c.files-2.ensures.files ∙ step_paths c.args.workspace.now c.in_ok-made.made.next (asked c.args.edit) c.in_ok-made.made.entry c.in_ok-made.ensures.step
-    ∙ sym (ap paths_of c.files.ensures.files)
+pub write_through-requires-clause-differ : goal.write_through-requires-clause-differ
+write_through-requires-clause-differ g c =
+    differ_from c.files.result.now c.args.workspace.now c.files-2.result.now c.in_ok-made.made.next (map change_of c.changes.result.now) c.in_ok-made.made.entry c.files.ensures.files c.files-2.ensures.files
+    c.changes.ensures.items
+    (step_differs c.args.workspace.now c.in_ok-made.made.next (asked c.args.edit) c.in_ok-made.made.entry c.files.ensures.compiled c.changes.ensures.entry c.in_ok-made.ensures.step)
 
 pub write_through-requires-clause-files : goal.write_through-requires-clause-files
 write_through-requires-clause-files g c =

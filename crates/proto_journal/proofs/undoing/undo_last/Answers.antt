@@ -1,7 +1,7 @@
-use Rattle.std.proofs.Common.{ℕ, List, refl, sym, ap, ◌∙◌, subst, Option}
+use Rattle.std.proofs.Common.{◌≡◌, ℕ, List, map, refl, sym, ◌∙◌, subst, Option}
 use Rattle.std.proofs.lemmas.Result.{err_from_is_err_and}
-use Rattle.proto_files.specs.GivenFiles.{FileOf, paths_of}
-use Rattle.proto_entries.proofs.Common.{Asked, ChangeOf}
+use Rattle.proto_files.specs.GivenFiles.{FileOf}
+use Rattle.proto_entries.proofs.Common.{Asked, ChangeOf, IsEntry, change_of}
 use Rattle.proto_edit.specs.Workspaces.{IsUndo}
 use Rattle.proto_records.specs.declared.record.Version.{Version}
 use Rattle.proto_records.proofs.Common.{done}
@@ -10,7 +10,7 @@ use Rattle.proto_store.specs.Stores.{Held, HoldsFiles, HoldsJournal}
 use Rattle.proto_journal.specs.Undoing.{IsUndone}
 use Rattle.proto_journal.specs.Written.{Passes, Reopens}
 use Rattle.proto_journal.proofs.Holdings.{passes_from, through_from}
-use Rattle.proto_journal.proofs.PutPaths.{undo_paths}
+use Rattle.proto_journal.proofs.PutPaths.{differ_from, undo_differs, undo_paths}
 use Rattle.proto_journal.proofs.Undone.{counts_no_entry, counts_stale, no_entry, stale, undo_cut, undone}
 use Rattle.proto_journal.proofs.undoing.undo_last.Goals as goal
 
@@ -33,9 +33,14 @@ pub reopened-requires : goal.reopened-requires
 reopened-requires g c =
     (last_record c.in_ok-found.found.0 c.in_ok-found.ensures.0 (done c.in_ok-found.found.1.edit c.in_ok-found.found.1.entry) c.in_ok-found.ensures.1.entries).edit
 
-pub write_through-requires-clause-paths : goal.write_through-requires-clause-paths
-write_through-requires-clause-paths g c =
-    ap paths_of c.files-2.ensures.files ∙ undo_paths c.args.workspace.now c.in_ok-next.next c.in_ok-found.found.1.entry (subst (λ (e : List ChangeOf). IsUndo c.args.workspace.now e c.in_ok-next.next) c.entry.ensures c.in_ok-next.ensures.ok) ∙ sym (ap paths_of c.files.ensures.files)
+pub write_through-requires-clause-differ : goal.write_through-requires-clause-differ
+write_through-requires-clause-differ g c =
+    let entry : List ChangeOf = c.in_ok-found.found.1.entry in
+    let items : map change_of c.changes.result.now ≡ entry = c.changes.ensures.items ∙ c.entry-2.ensures in
+    let is : IsEntry entry = subst IsEntry c.entry-2.ensures c.changes.ensures.entry in
+    differ_from c.files.result.now c.args.workspace.now c.files-2.result.now c.in_ok-next.next (map change_of c.changes.result.now) entry c.files.ensures.files c.files-2.ensures.files items
+    (undo_differs c.args.workspace.now c.in_ok-next.next entry c.files.ensures.compiled is
+    (subst (λ (e : List ChangeOf). IsUndo c.args.workspace.now e c.in_ok-next.next) c.entry.ensures c.in_ok-next.ensures.ok))
 
 pub write_through-requires-clause-files : goal.write_through-requires-clause-files
 write_through-requires-clause-files g c =
