@@ -1,9 +1,6 @@
 -- Names that are known: a list of them without repeats has the same names.
 use Rattle.std.proofs.Common.{◌≡◌, ℕ, Bool, true, false, ◌||◌, List, [], ◌∷◌, ◌++◌, map, flat_map, refl, sym, ap, ◌∙◌, if◌then◌else◌, bytes_eq}
 use Rattle.proto_faults.proofs.Common.{list_any, map-append, list_any-append, bytes_eq-Decides, any_map}
-use Rattle.proto_parts.specs.Scenes.{Scene}
-use Rattle.proto_numbers.specs.declared.flaw.Flaw.{Flaw}
-use Rattle.proto_checks.specs.FileFlaws.{name_flaws}
 
 or_right : (a b : Bool) → (b ≡ true → a ≡ true) → a ≡ (a || (b || false))
 or_right true b h = refl
@@ -32,15 +29,3 @@ known_more f keys after names x w e h =
 pub flat_map_same : {A B : Type 0} (f g : A → List B) → ((x : A) → f x ≡ g x) → (xs : List A) → flat_map f xs ≡ flat_map g xs
 flat_map_same f g e [] = refl
 flat_map_same f g e (x ∷ xs) = ap (λ (ys : List _). ys ++ flat_map f xs) (e x) ∙ ap (λ (ys : List _). g x ++ ys) (flat_map_same f g e xs)
-
--- where none is reserved there is no flaw
-pub none_reserved : (scene : Scene) (names : List ℕ) (found : List Flaw) → found ≡ found ++ name_flaws scene [] names
-none_reserved scene names found = sym (ap (λ (fs : List Flaw). found ++ fs) (none names) ∙ append_nil found)
-  where
-    none : (names : List ℕ) → name_flaws scene [] names ≡ []
-    none [] = refl
-    none (t ∷ ts) = none ts
-
-    append_nil : (xs : List Flaw) → xs ++ [] ≡ xs
-    append_nil [] = refl
-    append_nil (x ∷ xs) = ap (λ (ys : List Flaw). x ∷ ys) (append_nil xs)

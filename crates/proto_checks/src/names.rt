@@ -89,8 +89,9 @@ fn add_repeated_names(
     add_marked(found, FaultKind::ReservedName, tokens, &flags)
 }
 
-// As `add_name_flaws`, without a look at whether any name is reserved.
-fn add_name_flaws_of(
+/// Adds the names that are reserved, by their tokens, and the reserved names that were given
+/// before.
+pub(crate) fn add_name_flaws(
     alloc: Global,
     found: &mut Vec<Flaw>,
     scene: &Scene,
@@ -103,23 +104,4 @@ fn add_name_flaws_of(
     let values = values(alloc, scene, reserved)?;
     add_reserved(alloc, found, scene, &values, names)?;
     add_repeated_names(alloc, found, reserved, values)
-}
-
-/// Adds the names that are reserved, by their tokens, and the reserved names that were given
-/// before.
-#[tactic(auto, using(crate::proofs::KnownNames::none_reserved))]
-pub(crate) fn add_name_flaws(
-    alloc: Global,
-    found: &mut Vec<Flaw>,
-    scene: &Scene,
-    reserved: &[u32],
-    names: &[u32],
-) -> Result<(), NoMemory>
-    ensures { OnOk result (found.new.items ≡ found.old.items
-        ++ name_flaws scene.now reserved.now names.now) }
-{
-    match reserved {
-        [] => Ok(()),
-        _ => add_name_flaws_of(alloc, found, scene, reserved, names),
-    }
 }
