@@ -1,5 +1,6 @@
 //! Tests of what needs no link, through the public calls of its crates alone: names, texts, trees,
-//! files, the JSON text of descriptors, stores, and the journals that they hold.
+//! files, the JSON text of descriptors, lists that are kept over edits, stores, and the journals
+//! that they hold.
 #![tactic(auto)]
 
 #[cfg(test)]
@@ -14,6 +15,8 @@ mod files;
 mod folders;
 #[cfg(test)]
 mod json;
+#[cfg(test)]
+mod kept_lists;
 #[cfg(test)]
 mod listings;
 #[cfg(test)]

@@ -1,0 +1,3 @@
+mod Merging
+mod Referring
+mod TakenBack

@@ -1,0 +1,19 @@
+-- A log of changes of a list, and the list without them.
+use Rattle.std.specs.Prelude.{◌≡◌, ℕ, ◌<◌, ◌≤◌, List, [], ◌∷◌, ◌++◌, length, slice_set, take}
+use Rattle.std.specs.List.{All}
+use Rattle.proto_kept_lists.specs.declared.changes.Change.{Change}
+
+-- the list as it was before the changes of the log, the last of which is taken back first
+abbrev pub undone : {T : Type 0} → List (Change T) → List T → List T
+undone [] items = items
+undone (c ∷ log) items = slice_set (undone log items) c.place c.was
+
+-- each change is one of a place among so many
+abbrev pub AreWithin : {T : Type 0} → ℕ → List (Change T) → Type 0
+AreWithin count log = All (λ c. c.place < count) log
+
+-- elements that were added at the end since make no difference to the first ones, as they were
+abbrev pub AddedAreCut : Type 0 → Type 0
+AddedAreCut T =
+    (log : List (Change T)) (items added : List T) (count : ℕ) → count ≤ length items
+    → take count (undone log (items ++ added)) ≡ take count (undone log items)
