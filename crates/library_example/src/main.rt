@@ -41,8 +41,8 @@ message Order {
 
 fn main(rt: HostRuntime) -> io::Result<()> {
     // Without the file that it imports, and with it.
-    open(&rt, given(rt.alloc(), &[ORDER])?)?;
-    open(&rt, given(rt.alloc(), &[ORDER, MONEY])?)
+    open(&rt, &[ORDER])?;
+    open(&rt, &[ORDER, MONEY])
 }
 
 fn given(alloc: Global, files: &[(&str, &str)]) -> io::Result<Given> {
@@ -55,74 +55,83 @@ fn given(alloc: Global, files: &[(&str, &str)]) -> io::Result<Given> {
 
 // Opens files and works with them, or prints their fault. This function alone owns the workspace,
 // and ends it by `release`; all others borrow it.
-fn open<R: Print + AllocGlobal>(rt: &R, files: Given) -> io::Result<()> {
-    match Workspace::open(rt.alloc(), files.clone()?) {
+fn open<R: Print + AllocGlobal>(rt: &R, files: &[(&str, &str)]) -> io::Result<()> {
+    match Workspace::open(rt.alloc(), given(rt.alloc(), files)?) {
         Ok(mut workspace) => {
             let worked = work(rt, &mut workspace);
             workspace.release();
             worked
         }
-        Err(OpenFault::Schema(fault)) => {
-            let place = place_of_fault(&files, &fault);
-            print_text(rt, schema_line(rt.alloc(), &fault, place))
+        Err(fault) => print_fault(rt, files, &fault),
+    }
+}
+
+fn print_fault<R: Print + AllocGlobal>(
+    rt: &R,
+    files: &[(&str, &str)],
+    fault: &OpenFault,
+) -> io::Result<()> {
+    match fault {
+        OpenFault::Schema(fault) => {
+            let place = place_of_fault(&given(rt.alloc(), files)?, fault);
+            print_text(rt, schema_line(rt.alloc(), fault, place))
         }
-        Err(OpenFault::NoMemory) => rt.println("no memory"),
+        OpenFault::NoMemory => rt.println("no memory"),
     }
 }
 
 fn work<R: Print + AllocGlobal>(rt: &R, workspace: &mut Workspace) -> io::Result<()> {
     print_references(rt, workspace, "shop.Money")?;
     print_findings(rt, workspace)?;
-    let rename = Edit::Rename {
-        name: "shop.Money".to_string(rt.alloc())?,
-        to: "Order".to_string(rt.alloc())?,
-    };
-    // Refused, since there is an `Order`; a clone was asked, so the edit can be asked again.
-    ask(rt, workspace, rename.clone()?)?;
-    let first = ask(rt, workspace, rename_order(rt.alloc())?)?;
-    let second = ask(rt, workspace, rename)?;
-    match (first, second) {
-        (Some(first), Some(second)) => look_and_go_back(rt, workspace, &first, &second),
-        _ => Ok(()),
-    }
+    let mut entries = Vec::new(rt.alloc());
+    edit(rt, workspace, &mut entries)
 }
 
-fn rename_order(alloc: Global) -> io::Result<Edit> {
-    let name = "shop.Order".to_string(alloc)?;
-    let to = "Purchase".to_string(alloc)?;
-    Ok(Edit::Rename { name, to })
-}
-
-// Asks for an edit and prints the answer; the entry, if it was made.
-fn ask<R: Print + AllocGlobal>(
+fn edit<R: Print + AllocGlobal>(
     rt: &R,
     workspace: &mut Workspace,
-    edit: Edit,
-) -> io::Result<Option<Entry>> {
-    match workspace.apply(rt.alloc(), edit) {
-        Ok(entry) => {
-            print_changed(rt, &entry)?;
-            Ok(Some(entry))
-        }
-        Err(refusal) => {
-            print_refusal(rt, workspace, &refusal)?;
-            Ok(None)
-        }
-    }
-}
-
-fn look_and_go_back<R: Print + AllocGlobal>(
-    rt: &R,
-    workspace: &mut Workspace,
-    first: &Entry,
-    second: &Entry,
+    entries: &mut Vec<Entry>,
 ) -> io::Result<()> {
+    // Refused, since there is an `Order`.
+    rename(rt, workspace, entries, ("shop.Money", "Order"))?;
+    rename(rt, workspace, entries, ("shop.Order", "Purchase"))?;
+    rename(rt, workspace, entries, ("shop.Money", "Order"))?;
     // `files`, `link` and `descriptors` are those of the files after both edits.
     print_references(rt, workspace, "shop.Order")?;
     print_json(rt, workspace)?;
-    // The last edit is undone first: what comes before it is stale until then.
+    go_back(rt, workspace, entries)
+}
+
+// Asks for a rename, prints the answer, and keeps the entry, if it was made.
+fn rename<R: Print + AllocGlobal>(
+    rt: &R,
+    workspace: &mut Workspace,
+    entries: &mut Vec<Entry>,
+    (name, to): (&str, &str),
+) -> io::Result<()> {
+    let name = name.to_string(rt.alloc())?;
+    let to = to.to_string(rt.alloc())?;
+    match workspace.apply(rt.alloc(), Edit::Rename { name, to }) {
+        Ok(entry) => {
+            print_changed(rt, &entry)?;
+            entries.push(entry)?;
+            Ok(())
+        }
+        Err(refusal) => print_refusal(rt, workspace, &refusal),
+    }
+}
+
+// The last edit is undone first: what comes before it is stale until then.
+fn go_back<R: Print + AllocGlobal>(
+    rt: &R,
+    workspace: &mut Workspace,
+    entries: &[Entry],
+) -> io::Result<()> {
+    let (Some(first), Some(last)) = (entries.first(), entries.last()) else {
+        return Ok(());
+    };
     undo(rt, workspace, first)?;
-    undo(rt, workspace, second)?;
+    undo(rt, workspace, last)?;
     undo(rt, workspace, first)?;
     undo(rt, workspace, first)
 }

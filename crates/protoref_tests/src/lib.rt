@@ -21,8 +21,6 @@ mod lint_rows;
 #[cfg(test)]
 mod linting;
 #[cfg(test)]
-mod many_files;
-#[cfg(test)]
 mod mended;
 #[cfg(test)]
 mod migrations;

@@ -77,25 +77,6 @@ fn are_refused_where_they_are_none_or_open(rt: HostRuntime) {
     expect_kept(&rt, OLD, journal.as_str(), "migrate", open);
 }
 
-// 120,699 lines have room in the second version, and one more has none. An open entry is told before that.
-#[test]
-fn are_refused_where_they_would_be_too_long(rt: HostRuntime) {
-    let journal = FIRST_LINE.repeat(rt.alloc(), 120_699).expect(&rt, "memory");
-    let later = NULL_LINE.repeat(rt.alloc(), 120_699).expect(&rt, "memory");
-    let turns = [Done("migrate", MIGRATED), Holds(NEW, later.as_str())];
-    expect_turns(&rt, NEW, journal.as_str(), &turns);
-    let long = joined(&rt, journal.as_str(), FIRST_LINE);
-    expect_kept(
-        &rt,
-        NEW,
-        long.as_str(),
-        "migrate",
-        "journal: 5 JournalFull\n",
-    );
-    let open = joined(&rt, long.as_str(), FIRST_OPEN);
-    expect_kept(&rt, NEW, open.as_str(), "migrate", "journal: 3 OpenEntry\n");
-}
-
 /// A call that fails, whether its bytes land, and the journal then.
 const CUTS: &[(u64, bool, &str)] = &[
     (1, false, FIRST_LINE),

@@ -3,7 +3,6 @@
 mod allocations;
 mod calls;
 mod failing;
-mod full;
 mod journals;
 mod rows;
 mod three_files;
