@@ -39,10 +39,14 @@ impl<'a> Files for Tree<'a> {
     }
 
     fn open_dir(&self, path: &str) -> io::Result<&'a [u8]> {
+        let name = path.strip_suffix('/').unwrap_or(path);
         for (folder, names) in self.folders {
-            if path.strip_suffix('/') == Some(*folder) {
+            if name == *folder {
                 return Ok(*names);
             }
+        }
+        if self.files.contains(&path) || self.links.contains(&path) {
+            return Err(io::Error::from(io::ErrorKind::NotADirectory));
         }
         absent()
     }
