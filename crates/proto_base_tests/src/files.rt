@@ -35,10 +35,10 @@ fn is_fault(fault: &SchemaFault, said: &Said) -> bool {
 }
 
 /// Files: paths and bytes.
-type Given = Vec<(String, Vec<u8>)>;
+pub(crate) type Given = Vec<(String, Vec<u8>)>;
 
 // Puts one more file, with the text so many times.
-fn put_file<R: AllocGlobal + Abort>(
+pub(crate) fn put_file<R: AllocGlobal + Abort>(
     rt: &R,
     files: &mut Given,
     path: &str,
@@ -50,7 +50,7 @@ fn put_file<R: AllocGlobal + Abort>(
 }
 
 // Files from one text: the path of each, a `:` and its text, with `|` between them.
-fn given<R: AllocGlobal + Abort>(rt: &R, texts: &str) -> Given {
+pub(crate) fn given<R: AllocGlobal + Abort>(rt: &R, texts: &str) -> Given {
     let mut files = Vec::new(rt.alloc());
     for file in texts.split('|') {
         if let Some((path, text)) = file.split_once(':') {
@@ -61,7 +61,11 @@ fn given<R: AllocGlobal + Abort>(rt: &R, texts: &str) -> Given {
 }
 
 // Reads files, of which there may be so many if it is said.
-fn read<R: AllocGlobal>(rt: &R, limit: Option<usize>, given: Given) -> Result<Files, SchemaFault> {
+pub(crate) fn read<R: AllocGlobal>(
+    rt: &R,
+    limit: Option<usize>,
+    given: Given,
+) -> Result<Files, SchemaFault> {
     let paths = match limit {
         Some(limit) => Paths::up_to(rt.alloc(), limit.min(4096), given)?,
         None => Paths::new(rt.alloc(), given)?,
@@ -103,6 +107,13 @@ fn is_file(files: &Files, file: usize, path: &str, length: usize, tokens: usize)
 // Whether the file with this path has this place, wherever the search begins.
 fn is_place(files: &Files, path: &str, place: Option<usize>) -> bool {
     are_read(files);
+    let is_found = match files.place_of_path(path) {
+        Some(found) => place == Some(found as usize),
+        None => place.is_none(),
+    };
+    if !is_found {
+        return false;
+    }
     for start in 0..5usize {
         if file_named(files, start, path) != place {
             return false;
@@ -370,8 +381,14 @@ const ANSWERS: &[Row] = &[
     (None, EMPTY_FIRST, Answer::Count(2)),
     (None, EMPTY_FIRST, Answer::File(0, "a.proto", 0, 0)),
     (None, EMPTY_FIRST, Answer::File(1, "b.proto", 12, 4)),
+    (None, "", Answer::Place("a.proto", None)),
+    (None, THREE, Answer::Place("a.proto", Some(0))),
     (None, THREE, Answer::Place("a/b.proto", Some(1))),
+    (None, THREE, Answer::Place("b.proto", Some(2))),
+    (None, THREE, Answer::Place("a", None)),
+    (None, THREE, Answer::Place("a/a.proto", None)),
     (None, THREE, Answer::Place("b", None)),
+    (None, THREE, Answer::Place("c.proto", None)),
     (
         None,
         THREE,

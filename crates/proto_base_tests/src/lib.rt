@@ -8,6 +8,8 @@ mod allocations;
 #[cfg(test)]
 mod calls;
 #[cfg(test)]
+mod copies;
+#[cfg(test)]
 mod expect;
 #[cfg(test)]
 mod files;

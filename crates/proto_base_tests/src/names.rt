@@ -158,6 +158,28 @@ fn is_turned<R: AllocGlobal + Abort>(rt: &R, style: &Style, name: &str, wanted: 
     turned.expect(rt, "memory").as_str() == wanted
 }
 
+/// Names, each in camel case, and in camel case with its first letter in upper case.
+const CAMELS: &[(&str, &str, &str)] = &[
+    ("", "", ""),
+    ("_", "", ""),
+    ("ab", "ab", "Ab"),
+    ("_a", "A", "A"),
+    ("a_", "a", "A"),
+    ("a__b", "aB", "AB"),
+    ("a_b_c", "aBC", "ABC"),
+    ("\u{e4}b_c", "\u{e4}bC", "\u{e4}bC"),
+    ("a_\u{e4}b", "a\u{e4}b", "A\u{e4}b"),
+    ("a_\u{20ac}_\u{1f600}b", "a\u{20ac}\u{1f600}b", "A\u{20ac}\u{1f600}b"),
+];
+
+#[test]
+fn pieces_of_camel_case(rt: HostRuntime) {
+    for (name, camel, pascal) in CAMELS {
+        expect(&rt, is_turned(&rt, &Style::Camel, name, camel), name);
+        expect(&rt, is_turned(&rt, &Style::Pascal, name, pascal), name);
+    }
+}
+
 #[test]
 fn names_in_other_styles(rt: HostRuntime) {
     for (style, name, wanted) in TURNED {

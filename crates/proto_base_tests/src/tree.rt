@@ -2,7 +2,9 @@
 
 use crate::expect::{expect, repeated, source_of};
 use proto_text::lex;
-use proto_tree::{FieldType, File, Item, Member, ParseFault, ServiceItem, parse};
+use proto_tree::{
+    FieldType, File, Item, Member, ParseFault, ServiceItem, Steps, parse, parse_counted,
+};
 use std::process::Abort;
 
 fn read<R: AllocGlobal + Abort>(rt: &R, text: &str) -> Result<File, ParseFault> {
@@ -52,9 +54,9 @@ fn is_said(file: &File, said: &Said) -> bool {
     }
 }
 
-// Whether this is said of the text.
-fn is_answer<R: AllocGlobal + Abort>(rt: &R, text: &str, said: &Said) -> bool {
-    match read(rt, text) {
+// Whether what is said is answered.
+fn is_answered(answer: Result<File, ParseFault>, said: &Said) -> bool {
+    match answer {
         Ok(file) => {
             let is_so = is_said(&file, said);
             file.release();
@@ -67,6 +69,23 @@ fn is_answer<R: AllocGlobal + Abort>(rt: &R, text: &str, said: &Said) -> bool {
             _ => false,
         },
     }
+}
+
+// Whether this is said of the text.
+fn is_answer<R: AllocGlobal + Abort>(rt: &R, text: &str, said: &Said) -> bool {
+    is_answered(read(rt, text), said)
+}
+
+// The same of a parse that is counted, and the count is one more.
+fn is_counted<R: AllocGlobal + Abort>(rt: &R, steps: &mut Steps, text: &str, said: &Said) -> bool {
+    let before = steps.count();
+    if before >= 1000 {
+        return false;
+    }
+    let source = source_of(rt, text);
+    let tokens = lex(rt.alloc(), &source).expect(rt, "tokens");
+    let answer = parse_counted(rt.alloc(), &source, &tokens, steps);
+    is_answered(answer, said) && steps.count() == before + 1
 }
 
 /// Texts, each with what is said of it.
@@ -195,4 +214,16 @@ fn texts_with_and_without_a_tree(rt: HostRuntime) {
         let text = repeated(&rt, first, *count, second, *more);
         expect(&rt, is_answer(&rt, text.as_str(), said), text.as_str());
     }
+}
+
+#[test]
+fn parses_are_counted(rt: HostRuntime) {
+    let mut steps = Steps::new();
+    assert!(rt; steps.count() == 0);
+    for (text, said) in TEXTS {
+        expect(&rt, is_counted(&rt, &mut steps, text, said), text);
+    }
+    let text = repeated(&rt, "message M { }", 4096, "", 0);
+    let is_large = is_counted(&rt, &mut steps, text.as_str(), &Said::Tree);
+    expect(&rt, is_large, "a large file");
 }

@@ -14,7 +14,8 @@ ghost use Rattle.proto_findings.specs.Readings.{reading_of, text};
 ghost use Rattle.proto_findings.specs.Views.{found_of};
 ghost use Rattle.proto_block_rules.specs.NameRules.{allowed_alias, enum_finds, enum_first_value_zero, enum_no_allow_alias, enum_value_prefix, enum_value_upper_snake_case, enum_zero_value_suffix, is_zero, value_prefix};
 
-use crate::names::add_name;
+use crate::names::{ScopedName, add_name};
+use crate::walk::Walk;
 use proto_case::{is_pascal, is_upper_snake, upper};
 use proto_faults::NoMemory;
 use proto_findings::{Found, Reading, Rule, RuleSet, add_below_unless, add_unless, under};
@@ -332,23 +333,23 @@ fn add_aliases(
 pub(crate) fn add_enum(
     alloc: Global,
     found: &mut Vec<Found>,
-    rules: &RuleSet,
-    reading: &Reading,
+    walk: &Walk,
     scope: &str,
     names: &Enum,
 ) -> Result<(), NoMemory>
     ensures { OnOk result (map found_of found.new.items ≡ map found_of found.old.items
-        ++ enum_finds rules.now.chosen (reading_of reading.now) scope.now names.now.name
-        (trees enum_item_tree names.now.members.items)) }
+        ++ enum_finds walk.now.rules.now.chosen (reading_of walk.now.reading.now)
+        scope.now names.now.name (trees enum_item_tree names.now.members.items)) }
 {
+    let Walk { rules, reading, .. } = *walk;
     let items = names.members.as_slice();
     add_first_value(alloc, found, rules, reading, scope, items)?;
     add_aliases(alloc, found, rules, reading, scope, names)?;
+    let token = names.name;
+    let name = ScopedName { scope, token };
     let rule = Rule::EnumPascalCase;
-    let passes = is_pascal(reading.text(names.name));
-    add_name(
-        alloc, found, rules, reading, rule, passes, scope, names.name,
-    )?;
+    let passes = is_pascal(reading.text(token));
+    add_name(alloc, found, walk, rule, passes, &name)?;
     add_prefixes(alloc, found, rules, reading, scope, names)?;
     add_value_names(alloc, found, rules, reading, scope, items)?;
     add_zero_suffixes(alloc, found, rules, reading, scope, items)

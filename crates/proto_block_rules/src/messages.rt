@@ -10,7 +10,8 @@ ghost use Rattle.proto_findings.specs.Readings.{reading_of};
 ghost use Rattle.proto_findings.specs.Views.{found_of};
 ghost use Rattle.proto_block_rules.specs.NameRules.{field_lower_snake_case, message_finds, oneof_finds};
 
-use crate::names::add_name;
+use crate::names::{ScopedName, add_name};
+use crate::walk::Walk;
 use proto_case::{is_lower_snake, is_pascal};
 use proto_faults::NoMemory;
 use proto_findings::{Found, Reading, Rule, RuleSet, add_below_unless, under};
@@ -64,45 +65,37 @@ fn add_field_names(
 pub(crate) fn add_message(
     alloc: Global,
     found: &mut Vec<Found>,
-    rules: &RuleSet,
-    reading: &Reading,
+    walk: &Walk,
     scope: &str,
     message: &Message,
 ) -> Result<(), NoMemory>
     ensures { OnOk result (map found_of found.new.items ≡ map found_of found.old.items
-        ++ message_finds rules.now.chosen (reading_of reading.now) scope.now message.now.name
-        (trees member_tree message.now.members.items)) }
+        ++ message_finds walk.now.rules.now.chosen (reading_of walk.now.reading.now)
+        scope.now message.now.name (trees member_tree message.now.members.items)) }
 {
+    let token = message.name;
+    let name = ScopedName { scope, token };
     let rule = Rule::MessagePascalCase;
-    let passes = is_pascal(reading.text(message.name));
-    add_name(
-        alloc,
-        found,
-        rules,
-        reading,
-        rule,
-        passes,
-        scope,
-        message.name,
-    )?;
-    add_field_names(alloc, found, rules, reading, scope, message)
+    let passes = is_pascal(walk.reading.text(token));
+    add_name(alloc, found, walk, rule, passes, &name)?;
+    add_field_names(alloc, found, walk.rules, walk.reading, scope, message)
 }
 
 /// Adds what the rules find at the name of a oneof in a scope.
 pub(crate) fn add_oneof(
     alloc: Global,
     found: &mut Vec<Found>,
-    rules: &RuleSet,
-    reading: &Reading,
+    walk: &Walk,
     scope: &str,
     oneof: &Oneof,
 ) -> Result<(), NoMemory>
     ensures { OnOk result (map found_of found.new.items ≡ map found_of found.old.items
-        ++ oneof_finds rules.now.chosen (reading_of reading.now) scope.now oneof.now.name) }
+        ++ oneof_finds walk.now.rules.now.chosen (reading_of walk.now.reading.now)
+        scope.now oneof.now.name) }
 {
+    let token = oneof.name;
+    let name = ScopedName { scope, token };
     let rule = Rule::OneofLowerSnakeCase;
-    let passes = is_lower_snake(reading.text(oneof.name));
-    add_name(
-        alloc, found, rules, reading, rule, passes, scope, oneof.name,
-    )
+    let passes = is_lower_snake(walk.reading.text(token));
+    add_name(alloc, found, walk, rule, passes, &name)
 }

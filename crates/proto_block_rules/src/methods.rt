@@ -6,11 +6,12 @@ ghost use Rattle.proto_findings.specs.Readings.{reading_of, text};
 ghost use Rattle.proto_findings.specs.Views.{found_of};
 ghost use Rattle.proto_block_rules.specs.Methods.{is_shared, is_standard, method_finds, type_meant};
 
-use crate::names::add_name;
+use crate::names::{ScopedName, add_name};
 use crate::shared::Messages;
+use crate::walk::Walk;
 use proto_case::is_pascal;
 use proto_faults::NoMemory;
-use proto_findings::{Found, Reading, Rule, RuleSet, last_part};
+use proto_findings::{Found, Reading, Rule, last_part};
 use proto_tree::{MethodType, Signature};
 use std::alloc::Global;
 
@@ -103,39 +104,39 @@ fn has_shared(reading: &Reading, messages: &Messages, method: &Signature) -> boo
 
 // ---- all of them
 
-/// Adds what the rules find at a method of a service, where these are the messages of all methods
-/// of the workspace.
+/// Adds what the rules find at a method of a service.
 pub(crate) fn add_method(
     alloc: Global,
     found: &mut Vec<Found>,
-    rules: &RuleSet,
-    reading: &Reading,
-    messages: &Messages,
+    walk: &Walk,
     service: &ServiceName,
     method: &Signature,
 ) -> Result<(), NoMemory>
     ensures { OnOk result (map found_of found.new.items ≡ map found_of found.old.items
-        ++ method_finds rules.now.chosen
-        (reading_of reading.now) messages.now service.now.full.now service.now.token method.now) }
+        ++ method_finds walk.now.rules.now.chosen (reading_of walk.now.reading.now)
+        walk.now.messages.now service.now.full.now service.now.token method.now) }
 {
-    let name = method.name;
-    let full = service.full;
+    let reading = walk.reading;
+    let name = ScopedName {
+        scope: service.full,
+        token: method.name,
+    };
     let rule = Rule::RpcNoClientStreaming;
     let passes = method.input.stream.is_none();
-    add_name(alloc, found, rules, reading, rule, passes, full, name)?;
+    add_name(alloc, found, walk, rule, passes, &name)?;
     let rule = Rule::RpcNoServerStreaming;
     let passes = method.output.stream.is_none();
-    add_name(alloc, found, rules, reading, rule, passes, full, name)?;
+    add_name(alloc, found, walk, rule, passes, &name)?;
     let rule = Rule::RpcPascalCase;
-    let passes = is_pascal(reading.text(name));
-    add_name(alloc, found, rules, reading, rule, passes, full, name)?;
+    let passes = is_pascal(reading.text(method.name));
+    add_name(alloc, found, walk, rule, passes, &name)?;
     let rule = Rule::RpcRequestResponseUnique;
-    let passes = !has_shared(reading, messages, method);
-    add_name(alloc, found, rules, reading, rule, passes, full, name)?;
+    let passes = !has_shared(reading, walk.messages, method);
+    add_name(alloc, found, walk, rule, passes, &name)?;
     let rule = Rule::RpcRequestStandardName;
     let passes = is_request_standard(reading, service.token, method);
-    add_name(alloc, found, rules, reading, rule, passes, full, name)?;
+    add_name(alloc, found, walk, rule, passes, &name)?;
     let rule = Rule::RpcResponseStandardName;
     let passes = is_response_standard(reading, service.token, method);
-    add_name(alloc, found, rules, reading, rule, passes, full, name)
+    add_name(alloc, found, walk, rule, passes, &name)
 }

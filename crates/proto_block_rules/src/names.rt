@@ -6,28 +6,35 @@ ghost use Rattle.proto_findings.specs.Placed.{found_by, unless};
 ghost use Rattle.proto_findings.specs.Readings.{reading_of, text};
 ghost use Rattle.proto_findings.specs.Views.{found_of};
 
+use crate::walk::Walk;
 use proto_faults::NoMemory;
-use proto_findings::{Found, Reading, Rule, RuleSet, add_below_unless};
+use proto_findings::{Found, Rule, add_below_unless};
 use std::alloc::Global;
 
-/// Adds a name that stands right in a scope, at its own token, unless it passes, if the rule is one
-/// of those chosen.
+/// A name as rules ask for it: the scope that it stands right in, and its own token.
+#[derive(Clone, Copy)]
+pub(crate) struct ScopedName<'a> {
+    pub(crate) scope: &'a str,
+    pub(crate) token: u32,
+}
+
+/// Adds a name at its own token, unless it passes, if the rule is one of those chosen.
 pub(crate) fn add_name(
     alloc: Global,
     found: &mut Vec<Found>,
-    rules: &RuleSet,
-    reading: &Reading,
+    walk: &Walk,
     rule: Rule,
     passes: bool,
-    scope: &str,
-    token: u32,
+    name: &ScopedName,
 ) -> Result<(), NoMemory>
     ensures { OnOk result (map found_of found.new.items ≡ map found_of found.old.items
-        ++ found_by rules.now.chosen (reading_of reading.now) rule
-        (unless passes token (under scope.now (text (reading_of reading.now) token)))) }
+        ++ found_by walk.now.rules.now.chosen (reading_of walk.now.reading.now) rule
+        (unless passes name.now.token (under name.now.scope.now
+        (text (reading_of walk.now.reading.now) name.now.token)))) }
 {
-    if !rules.has(rule) {
+    if !walk.rules.has(rule) {
         return Ok(());
     }
-    add_below_unless(alloc, found, reading, rule, passes, scope, token)
+    let ScopedName { scope, token } = *name;
+    add_below_unless(alloc, found, walk.reading, rule, passes, scope, token)
 }

@@ -9,11 +9,11 @@ ghost use Rattle.proto_block_rules.specs.Methods.{method_finds, methods_finds, s
 ghost use Rattle.proto_block_rules.specs.NameRules.{service_finds};
 
 use crate::methods::{ServiceName, add_method};
-use crate::names::add_name;
-use crate::shared::Messages;
+use crate::names::{ScopedName, add_name};
+use crate::walk::Walk;
 use proto_case::is_pascal;
 use proto_faults::NoMemory;
-use proto_findings::{Found, Reading, Rule, RuleSet, under};
+use proto_findings::{Found, Rule, under};
 use proto_tree::{Service, ServiceItem};
 use std::alloc::Global;
 
@@ -27,28 +27,17 @@ fn has_service_suffix(word: &str) -> bool
 fn add_item(
     alloc: Global,
     found: &mut Vec<Found>,
-    rules: &RuleSet,
-    reading: &Reading,
-    messages: &Messages,
+    walk: &Walk,
     service: &ServiceName,
     item: &ServiceItem,
 ) -> Result<(), NoMemory>
     ensures { OnOk result (map found_of found.new.items ≡ map found_of found.old.items ++ flat_map
-        (method_finds rules.now.chosen (reading_of reading.now) messages.now service.now.full.now
-        service.now.token) (signatures_in (service_item_tree item.now))) }
+        (method_finds walk.now.rules.now.chosen (reading_of walk.now.reading.now)
+        walk.now.messages.now service.now.full.now service.now.token)
+        (signatures_in (service_item_tree item.now))) }
 {
     match item {
-        ServiceItem::Method(method) => {
-            add_method(
-                alloc,
-                found,
-                rules,
-                reading,
-                messages,
-                service,
-                &method.signature,
-            )
-        }
+        ServiceItem::Method(method) => add_method(alloc, found, walk, service, &method.signature),
         _ => Ok(()),
     }
 }
@@ -56,18 +45,17 @@ fn add_item(
 fn add_items(
     alloc: Global,
     found: &mut Vec<Found>,
-    rules: &RuleSet,
-    reading: &Reading,
-    messages: &Messages,
+    walk: &Walk,
     service: &ServiceName,
     items: &[ServiceItem],
 ) -> Result<(), NoMemory>
     ensures { OnOk result (map found_of found.new.items ≡ map found_of found.old.items ++ flat_map
-        (method_finds rules.now.chosen (reading_of reading.now) messages.now service.now.full.now
-        service.now.token) (signatures_in (trees service_item_tree items.now))) }
+        (method_finds walk.now.rules.now.chosen (reading_of walk.now.reading.now)
+        walk.now.messages.now service.now.full.now service.now.token)
+        (signatures_in (trees service_item_tree items.now))) }
 {
     for item in items {
-        add_item(alloc, found, rules, reading, messages, service, item)?;
+        add_item(alloc, found, walk, service, item)?;
     }
     Ok(())
 }
@@ -75,54 +63,46 @@ fn add_items(
 fn add_methods(
     alloc: Global,
     found: &mut Vec<Found>,
-    rules: &RuleSet,
-    reading: &Reading,
-    messages: &Messages,
+    walk: &Walk,
     scope: &str,
     service: &Service,
 ) -> Result<(), NoMemory>
     ensures { OnOk result (map found_of found.new.items ≡ map found_of found.old.items
-        ++ methods_finds rules.now.chosen (reading_of reading.now) messages.now scope.now
-        service.now.name (trees service_item_tree service.now.members.items)) }
+        ++ methods_finds walk.now.rules.now.chosen (reading_of walk.now.reading.now)
+        walk.now.messages.now scope.now service.now.name
+        (trees service_item_tree service.now.members.items)) }
 {
-    let full = under(alloc, scope, reading.text(service.name))?;
+    let full = under(alloc, scope, walk.reading.text(service.name))?;
     let name = ServiceName {
         full: &full,
         token: service.name,
     };
-    add_items(
-        alloc,
-        found,
-        rules,
-        reading,
-        messages,
-        &name,
-        &service.members,
-    )
+    add_items(alloc, found, walk, &name, &service.members)
 }
 
-/// Adds what the rules find at a service in a scope: its name, and its methods, where these are the
-/// messages of all methods of the workspace.
+/// Adds what the rules find at a service in a scope: its name, and its methods.
 pub(crate) fn add_service(
     alloc: Global,
     found: &mut Vec<Found>,
-    rules: &RuleSet,
-    reading: &Reading,
-    messages: &Messages,
+    walk: &Walk,
     scope: &str,
     service: &Service,
 ) -> Result<(), NoMemory>
     ensures { OnOk result (map found_of found.new.items ≡ map found_of found.old.items ++
-        (service_finds rules.now.chosen (reading_of reading.now) scope.now service.now.name
-        ++ methods_finds rules.now.chosen (reading_of reading.now) messages.now scope.now
-        service.now.name (trees service_item_tree service.now.members.items))) }
+        (service_finds walk.now.rules.now.chosen (reading_of walk.now.reading.now)
+        scope.now service.now.name
+        ++ methods_finds walk.now.rules.now.chosen (reading_of walk.now.reading.now)
+        walk.now.messages.now scope.now service.now.name
+        (trees service_item_tree service.now.members.items))) }
 {
-    let name = service.name;
+    let reading = walk.reading;
+    let token = service.name;
+    let name = ScopedName { scope, token };
     let rule = Rule::ServicePascalCase;
-    let passes = is_pascal(reading.text(name));
-    add_name(alloc, found, rules, reading, rule, passes, scope, name)?;
+    let passes = is_pascal(reading.text(token));
+    add_name(alloc, found, walk, rule, passes, &name)?;
     let rule = Rule::ServiceSuffix;
-    let passes = has_service_suffix(reading.text(name));
-    add_name(alloc, found, rules, reading, rule, passes, scope, name)?;
-    add_methods(alloc, found, rules, reading, messages, scope, service)
+    let passes = has_service_suffix(reading.text(token));
+    add_name(alloc, found, walk, rule, passes, &name)?;
+    add_methods(alloc, found, walk, scope, service)
 }

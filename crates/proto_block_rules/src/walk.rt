@@ -39,7 +39,7 @@ fn add_message_block(
     ensures { OnOk result (map found_of found.new.items ≡ map found_of found.old.items
         ++ walk_finds walk.now scope.now (message_tree message.now)) }
 {
-    add_message(alloc, found, walk.rules, walk.reading, scope, message)?;
+    add_message(alloc, found, walk, scope, message)?;
     let full_name = under(alloc, scope, walk.reading.text(message.name))?;
     add_members(alloc, found, walk, &full_name, &message.members)
 }
@@ -75,8 +75,8 @@ fn add_member(
 {
     match member {
         Member::Message(message) => add_message_block(alloc, found, walk, scope, message),
-        Member::Oneof(oneof) => add_oneof(alloc, found, walk.rules, walk.reading, scope, oneof),
-        Member::Enum(names) => add_enum(alloc, found, walk.rules, walk.reading, scope, names),
+        Member::Oneof(oneof) => add_oneof(alloc, found, walk, scope, oneof),
+        Member::Enum(names) => add_enum(alloc, found, walk, scope, names),
         Member::Extend(_) => Ok(()),
         _ => Ok(()),
     }
@@ -93,17 +93,10 @@ fn add_item(
     ensures { OnOk result (map found_of found.new.items
         ≡ map found_of found.old.items ++ walk_finds walk.now scope.now (item_tree item.now)) }
 {
-    let Walk {
-        rules,
-        reading,
-        messages,
-    } = *walk;
     match item {
         Item::Message(message) => add_message_block(alloc, found, walk, scope, message),
-        Item::Enum(names) => add_enum(alloc, found, rules, reading, scope, names),
-        Item::Service(service) => {
-            add_service(alloc, found, rules, reading, messages, scope, service)
-        }
+        Item::Enum(names) => add_enum(alloc, found, walk, scope, names),
+        Item::Service(service) => add_service(alloc, found, walk, scope, service),
         Item::Extend(_) => Ok(()),
         _ => Ok(()),
     }

@@ -1,6 +1,7 @@
 //! Camel case: words that `_` joins, each behind one begun in upper case.
 
-ghost use Rattle.std.specs.Prelude.{◌≡◌, IfOk};
+ghost use Rattle.std.specs.Char.{to_ascii_uppercase};
+ghost use Rattle.std.specs.Prelude.{◌≡◌, ◌++◌, IfOk, OnOk, drop, if◌then◌else◌, map, take};
 ghost use Rattle.std.specs.String.{string_bytes};
 ghost use Rattle.proto_case.specs.Camel.{camel_from};
 
@@ -14,13 +15,26 @@ pub fn camel_from(alloc: Global, is_up: bool, word: &str) -> Result<String, NoMe
 {
     let mut name = String::with_capacity(alloc, word.len())?;
     let mut up = is_up;
-    for c in word.chars() {
-        if c == '_' {
-            up = true;
-        } else {
-            name.push(if up { c.to_ascii_uppercase() } else { c })?;
-            up = false;
-        }
+    for part in word.split('_') {
+        push_part(&mut name, up, part)?;
+        up = true;
     }
     Ok(name)
+}
+
+// Writes what stands between two `_`: its first character in upper case where `up` says so, the
+// rest as it is.
+fn push_part(name: &mut String, up: bool, part: &str) -> Result<(), NoMemory>
+    ensures { OnOk result (string_bytes name.new ≡ string_bytes name.old
+        ++ (map (λ b. if up then to_ascii_uppercase b else b) (take 1 part.now)
+        ++ drop 1 part.now)) }
+{
+    let mut rest = part.chars();
+    if up {
+        if let Some(first) = rest.next() {
+            name.push(first.to_ascii_uppercase())?;
+        }
+    }
+    name.push_str(rest.as_str())?;
+    Ok(())
 }

@@ -4,6 +4,8 @@ pub mod PathOrder
 pub mod FaultOrder
 pub mod PathWalk
 pub mod NamedLists
+pub mod SetFiles
+pub mod FoundPath
 pub mod FirstFaultSteps
 pub mod FirstErrors
 pub mod FileErrors

@@ -28,7 +28,7 @@ use std::marker::Model;
 /// and its tree. Places of files count from 0.
 #[derive(Drop)]
 pub struct Files {
-    files: Vec<ReadFile>,
+    pub(crate) files: Vec<ReadFile>,
 }
 
 impl Model for Files {

@@ -2,12 +2,14 @@
 //! with them.
 #![tactic(auto)]
 
+mod copying;
 mod files;
 pub mod laws;
 mod looking;
 mod path;
 mod paths;
 mod reading;
+mod setting;
 mod stages;
 mod tokens;
 mod words;

@@ -22,6 +22,7 @@ ghost use Rattle.proto_rules.specs.declared.rule.Rule.TheVariants as rule;
 ghost use Rattle.proto_lint.specs.Imports.{import_finds, import_no_public, import_used, imports_finds, imports_in};
 ghost use Rattle.proto_lint.specs.ImportTables.{AreImportsOf, LeadsToMarked, MarksUsed, public_target, public_targets};
 
+use crate::linting::Linter;
 use crate::uses::{share_a_mark, used_files};
 use indexmap::IndexMap;
 use proto_faults::NoMemory;
@@ -210,27 +211,27 @@ fn add_import_no_public(
 fn add_import_used(
     alloc: Global,
     found: &mut Vec<Found>,
-    rules: &RuleSet,
+    linter: &Linter,
     reading: &Reading,
-    files: &Files,
-    imports: &Imports,
     marks: &[bool],
     import: &Import,
 ) -> Result<(), NoMemory>
     requires string { IsString (text (reading_of reading.now) import.now.path) }
-    requires imports { AreImportsOf files.now imports.now }
-    requires marks { is_chosen rules.now.chosen rule.ImportUsed
-        ≡ true → MarksUsed files.now reading.now.file marks.now }
-    ensures { OnOk result ((reads : List ReadOf) → AreRead files.now reads
+    requires imports { AreImportsOf linter.now.files.now linter.now.imports }
+    requires marks { is_chosen linter.now.rules.now.chosen rule.ImportUsed
+        ≡ true → MarksUsed linter.now.files.now reading.now.file marks.now }
+    ensures { OnOk result ((reads : List ReadOf) → AreRead linter.now.files.now reads
         → map found_of found.new.items ≡ map found_of found.old.items
-        ++ found_by rules.now.chosen (reading_of reading.now) rule.ImportUsed
-        (import_used (names_of_files files.now reads) (paths_of files.now)
+        ++ found_by linter.now.rules.now.chosen (reading_of reading.now) rule.ImportUsed
+        (import_used (names_of_files linter.now.files.now reads) (paths_of linter.now.files.now)
         (reading_of reading.now) reading.now.file import.now)) }
 {
     let rule = Rule::ImportUsed;
-    if rules.has(rule) && import.public.is_none() {
+    if linter.rules.has(rule) && import.public.is_none() {
         let path = string_value(alloc, reading.text(import.path))?;
-        let is_used = imports.leads(alloc, files, path.as_str(), marks)?;
+        let is_used = linter
+            .imports
+            .leads(alloc, linter.files, path.as_str(), marks)?;
         add_unless(
             alloc,
             found,
@@ -247,24 +248,22 @@ fn add_import_used(
 fn add_import(
     alloc: Global,
     found: &mut Vec<Found>,
-    rules: &RuleSet,
+    linter: &Linter,
     reading: &Reading,
-    files: &Files,
-    imports: &Imports,
     marks: &[bool],
     import: &Import,
 ) -> Result<(), NoMemory>
     requires string { IsString (text (reading_of reading.now) import.now.path) }
-    requires imports { AreImportsOf files.now imports.now }
-    requires marks { is_chosen rules.now.chosen rule.ImportUsed
-        ≡ true → MarksUsed files.now reading.now.file marks.now }
-    ensures { OnOk result ((reads : List ReadOf) → AreRead files.now reads
+    requires imports { AreImportsOf linter.now.files.now linter.now.imports }
+    requires marks { is_chosen linter.now.rules.now.chosen rule.ImportUsed
+        ≡ true → MarksUsed linter.now.files.now reading.now.file marks.now }
+    ensures { OnOk result ((reads : List ReadOf) → AreRead linter.now.files.now reads
         → map found_of found.new.items ≡ map found_of found.old.items
-        ++ import_finds rules.now.chosen (names_of_files files.now reads)
-        (paths_of files.now) (reading_of reading.now) reading.now.file import.now) }
+        ++ import_finds linter.now.rules.now.chosen (names_of_files linter.now.files.now reads)
+        (paths_of linter.now.files.now) (reading_of reading.now) reading.now.file import.now) }
 {
-    add_import_no_public(alloc, found, rules, reading, import)?;
-    add_import_used(alloc, found, rules, reading, files, imports, marks, import)?;
+    add_import_no_public(alloc, found, linter.rules, reading, import)?;
+    add_import_used(alloc, found, linter, reading, marks, import)?;
     Ok(())
 }
 
@@ -316,26 +315,25 @@ fn marks_for(
 fn add_statements(
     alloc: Global,
     found: &mut Vec<Found>,
-    rules: &RuleSet,
+    linter: &Linter,
     reading: &Reading,
-    files: &Files,
-    imports: &Imports,
     marks: &[bool],
     statements: &[&Import],
 ) -> Result<(), NoMemory>
     requires strings { All
         (λ i. IsString (text (reading_of reading.now) i.now.path)) statements.now }
-    requires imports { AreImportsOf files.now imports.now }
-    requires marks { is_chosen rules.now.chosen rule.ImportUsed
-        ≡ true → MarksUsed files.now reading.now.file marks.now }
-    ensures { OnOk result ((reads : List ReadOf) → AreRead files.now reads
+    requires imports { AreImportsOf linter.now.files.now linter.now.imports }
+    requires marks { is_chosen linter.now.rules.now.chosen rule.ImportUsed
+        ≡ true → MarksUsed linter.now.files.now reading.now.file marks.now }
+    ensures { OnOk result ((reads : List ReadOf) → AreRead linter.now.files.now reads
         → map found_of found.new.items ≡ map found_of found.old.items
-        ++ flat_map (import_finds rules.now.chosen (names_of_files files.now reads)
-        (paths_of files.now) (reading_of reading.now) reading.now.file)
+        ++ flat_map (import_finds linter.now.rules.now.chosen
+        (names_of_files linter.now.files.now reads)
+        (paths_of linter.now.files.now) (reading_of reading.now) reading.now.file)
         (map (λ i. i.now) statements.now)) }
 {
     for import in statements {
-        add_import(alloc, found, rules, reading, files, imports, marks, import)?;
+        add_import(alloc, found, linter, reading, marks, import)?;
     }
     Ok(())
 }
@@ -344,36 +342,30 @@ fn add_statements(
 pub fn add_imports(
     alloc: Global,
     found: &mut Vec<Found>,
-    rules: &RuleSet,
+    linter: &Linter,
     reading: &Reading,
-    imports: &Imports,
-    link: &Link,
-    files: &Files,
 ) -> Result<(), NoMemory>
-    requires file { reading.now.file < length files.now }
-    requires reading { (reads : List ReadOf) → AreRead files.now reads
-        → reading_of reading.now ≡ read_of_file files.now reads reading.now.file }
-    requires imports { AreImportsOf files.now imports.now }
-    requires link { IsLinkOf files.now link.now }
-    ensures { OnOk result ((reads : List ReadOf) → AreRead files.now reads
+    requires file { reading.now.file < length linter.now.files.now }
+    requires reading { (reads : List ReadOf) → AreRead linter.now.files.now reads
+        → reading_of reading.now ≡ read_of_file linter.now.files.now reads reading.now.file }
+    requires imports { AreImportsOf linter.now.files.now linter.now.imports }
+    requires link { IsLinkOf linter.now.files.now linter.now.link.now }
+    ensures { OnOk result ((reads : List ReadOf) → AreRead linter.now.files.now reads
         → map found_of found.new.items ≡ map found_of found.old.items
-        ++ imports_finds rules.now.chosen (names_of_files files.now reads)
-        (paths_of files.now) (reading_of reading.now) reading.now.file
+        ++ imports_finds linter.now.rules.now.chosen (names_of_files linter.now.files.now reads)
+        (paths_of linter.now.files.now) (reading_of reading.now) reading.now.file
         (read_at reads reading.now.file).tree) }
 {
+    let Linter {
+        files,
+        link,
+        rules,
+        ..
+    } = linter;
     // Each file has tokens and a tree.
     are_read(files);
     let file = reading.file as usize;
     let marks = marks_for(alloc, rules, files, link, file)?;
     let statements = import_statements(alloc, files.tree(file))?;
-    add_statements(
-        alloc,
-        found,
-        rules,
-        reading,
-        files,
-        imports,
-        &marks,
-        &statements,
-    )
+    add_statements(alloc, found, linter, reading, &marks, &statements)
 }

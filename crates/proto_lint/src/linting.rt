@@ -20,12 +20,12 @@ use std::alloc::Global;
 
 /// A workspace with what the rules look up in it.
 #[derive(Drop)]
-struct Linter<'a> {
-    files: &'a Files,
-    link: &'a Link,
-    rules: &'a RuleSet,
+pub(crate) struct Linter<'a> {
+    pub(crate) files: &'a Files,
+    pub(crate) link: &'a Link,
+    pub(crate) rules: &'a RuleSet,
     heads: Heads<'a>,
-    imports: Imports,
+    pub(crate) imports: Imports,
     messages: Messages<'a>,
 }
 
@@ -70,14 +70,14 @@ impl<'a> Linter<'a> {
             link,
             rules,
             heads,
-            imports,
             messages,
+            ..
         } = self;
         let place = file as usize;
         let reading = Reading::of(files, link, file);
         let mut found = Vec::new(alloc);
         add_head(alloc, &mut found, rules, heads, place)?;
-        add_imports(alloc, &mut found, rules, &reading, imports, link, files)?;
+        add_imports(alloc, &mut found, self, &reading)?;
         let walk = Walk {
             rules,
             reading: &reading,

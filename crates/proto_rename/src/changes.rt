@@ -9,7 +9,7 @@ ghost use Rattle.proto_rename.specs.Changes.{AreChangesOf, IsChangesFault, IsVal
 ghost use Rattle.proto_captures.specs.Aims.{IsAimOf};
 
 use crate::changing::{RewordFault, change_of_file};
-use crate::places::places_in;
+use crate::places::{Sought, places_in};
 use proto_captures::Aim;
 use proto_entries::Change;
 use proto_faults::NoMemory;
@@ -28,49 +28,40 @@ fn push_some(changes: &mut Vec<Change>, change: Option<Change>) -> Result<(), No
 }
 
 /// The change of one file, if it is changed.
-fn change_in<'a>(
+fn change_in(
     alloc: Global,
-    files: &Files,
-    link: &'a Link,
-    aim: Aim,
-    enum_name: Option<&'a str>,
-    old: &'a str,
+    sought: &Sought,
     file: u32,
     to: &str,
 ) -> Result<Option<Change>, RewordFault>
-    requires link { IsLinkOf files.now link.now }
-    requires linked { HasNoFault (LinkFaults files.now) }
-    requires aim { IsAimOf files.now aim }
-    requires value { IsValueOf files.now aim (option_map (λ x. x.now) enum_name) old.now }
-    requires file { file < length files.now }
-    ensures change { IfOk result (λ found. IsChangeIn files.now aim.entry file to.now found) }
-    ensures fault { IfErr result (IsFaultIn files.now aim.entry file to.now) }
+    requires link { IsLinkOf sought.now.files.now sought.now.link.now }
+    requires linked { HasNoFault (LinkFaults sought.now.files.now) }
+    requires aim { IsAimOf sought.now.files.now sought.now.aim }
+    requires value { IsValueOf sought.now.files.now sought.now.aim
+        (option_map (λ x. x.now) sought.now.enum_name) sought.now.old.now }
+    requires file { file < length sought.now.files.now }
+    ensures change { IfOk result (λ found.
+        IsChangeIn sought.now.files.now sought.now.aim file to.now found) }
+    ensures fault { IfErr result (IsFaultIn sought.now.files.now sought.now.aim file to.now) }
 {
-    let places = places_in(alloc, files, link, aim, enum_name, old, file)?;
-    change_of_file(alloc, files, file, &places, to)
+    let places = places_in(alloc, sought, file)?;
+    change_of_file(alloc, sought.files, file, &places, to)
 }
 
-/// The changes of all files, in their order, with what a value's defaults are asked by.
-fn changes_with<'a>(
-    alloc: Global,
-    files: &Files,
-    link: &'a Link,
-    aim: Aim,
-    enum_name: Option<&'a str>,
-    old: &'a str,
-    to: &str,
-) -> Result<Vec<Change>, RewordFault>
-    requires link { IsLinkOf files.now link.now }
-    requires linked { HasNoFault (LinkFaults files.now) }
-    requires aim { IsAimOf files.now aim }
-    requires value { IsValueOf files.now aim (option_map (λ x. x.now) enum_name) old.now }
+/// The changes of all files, in their order.
+fn changes_with(alloc: Global, sought: &Sought, to: &str) -> Result<Vec<Change>, RewordFault>
+    requires link { IsLinkOf sought.now.files.now sought.now.link.now }
+    requires linked { HasNoFault (LinkFaults sought.now.files.now) }
+    requires aim { IsAimOf sought.now.files.now sought.now.aim }
+    requires value { IsValueOf sought.now.files.now sought.now.aim
+        (option_map (λ x. x.now) sought.now.enum_name) sought.now.old.now }
     ensures ok { IfOk result (λ changes.
-        AreChangesOf files.now aim.entry to.now (map change_of changes.items)) }
-    ensures err { IfErr result (IsChangesFault files.now aim.entry to.now) }
+        AreChangesOf sought.now.files.now sought.now.aim to.now (map change_of changes.items)) }
+    ensures err { IfErr result (IsChangesFault sought.now.files.now sought.now.aim to.now) }
 {
     let mut changes = Vec::new(alloc);
-    for file in 0..files.len() {
-        let change = change_in(alloc, files, link, aim, enum_name, old, file as u32, to)?;
+    for file in 0..sought.files.len() {
+        let change = change_in(alloc, sought, file as u32, to)?;
         push_some(&mut changes, change)?;
     }
     Ok(changes)
@@ -78,11 +69,11 @@ fn changes_with<'a>(
 
 /// The changes of all files, in their order; refused where a file
 /// would have more than 1,048,576 bytes.
-pub(crate) fn changes(
+pub(crate) fn changes<'a>(
     alloc: Global,
-    files: &Files,
-    link: &Link,
-    aim: Aim,
+    files: &'a Files,
+    link: &'a Link,
+    aim: Aim<'a>,
     to: &str,
 ) -> Result<Vec<Change>, RewordFault>
     requires link { IsLinkOf files.now link.now }
@@ -95,5 +86,12 @@ pub(crate) fn changes(
 {
     let enum_name = enum_name(alloc, files, aim)?;
     let old = Words::new(files, aim.file as usize).get(aim.token);
-    changes_with(alloc, files, link, aim, enum_name.as_deref(), old, to)
+    let sought = Sought {
+        files,
+        link,
+        aim,
+        enum_name: enum_name.as_deref(),
+        old,
+    };
+    changes_with(alloc, &sought, to)
 }

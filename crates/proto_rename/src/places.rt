@@ -16,6 +16,17 @@ use proto_files::Files;
 use proto_names::Link;
 use std::alloc::Global;
 
+/// What is looked for in each file of a workspace: what the rename aims at, with its old word, and
+/// the name of its enum where it is a value.
+#[derive(Clone, Copy)]
+pub(crate) struct Sought<'a> {
+    pub(crate) files: &'a Files,
+    pub(crate) link: &'a Link,
+    pub(crate) aim: Aim<'a>,
+    pub(crate) enum_name: Option<&'a str>,
+    pub(crate) old: &'a str,
+}
+
 /// The token, if it is one of this file.
 fn push_own(places: &mut Vec<u32>, aim: Aim, file: u32) -> Result<(), NoMemory>
     ensures { OnOk result (places.new.items ≡ places.old.items
@@ -57,23 +68,23 @@ fn defaults_in<'a>(
 
 /// The tokens of a file that the rename changes: the declaring one, where it is of this file, the
 /// words of references that stand for what is aimed at, and for a value the defaults that mean it.
-/// The enum's name and the old word are given.
-pub(crate) fn places_in<'a>(
-    alloc: Global,
-    files: &Files,
-    link: &'a Link,
-    aim: Aim,
-    enum_name: Option<&'a str>,
-    old: &'a str,
-    file: u32,
-) -> Result<Vec<u32>, NoMemory>
-    requires link { IsLinkOf files.now link.now }
-    requires linked { HasNoFault (LinkFaults files.now) }
-    requires aim { IsAimOf files.now aim }
-    requires value { IsValueOf files.now aim (option_map (λ x. x.now) enum_name) old.now }
-    requires file { file < length files.now }
-    ensures { IfOk result (λ found. ArePlacesIn files.now aim.entry file found.items) }
+pub(crate) fn places_in(alloc: Global, sought: &Sought, file: u32) -> Result<Vec<u32>, NoMemory>
+    requires link { IsLinkOf sought.now.files.now sought.now.link.now }
+    requires linked { HasNoFault (LinkFaults sought.now.files.now) }
+    requires aim { IsAimOf sought.now.files.now sought.now.aim }
+    requires value { IsValueOf sought.now.files.now sought.now.aim
+        (option_map (λ x. x.now) sought.now.enum_name) sought.now.old.now }
+    requires file { file < length sought.now.files.now }
+    ensures { IfOk result (λ found.
+        ArePlacesIn sought.now.files.now sought.now.aim file found.items) }
 {
+    let Sought {
+        files,
+        link,
+        aim,
+        enum_name,
+        old,
+    } = *sought;
     let mut places = standing_in(alloc, files, link, aim, file)?;
     push_own(&mut places, aim, file)?;
     let defaults = defaults_in(alloc, files, link, file, enum_name, old)?;

@@ -18,11 +18,13 @@ mod pieces;
 mod ranges;
 mod reading;
 mod statements;
+mod steps;
 mod tree;
 mod words;
 
 pub use list::Sequence;
 pub use parsing::{ParseFault, parse};
+pub use steps::{Steps, parse_counted};
 pub use tree::{
     Behind, Block, Constant, Dotted, Enum, EnumItem, Extend, Extension, Extensions, Field,
     FieldType, File, Import, Item, Joined, MapField, Member, Message, Method, MethodEnd,

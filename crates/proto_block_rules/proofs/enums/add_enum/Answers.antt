@@ -12,8 +12,8 @@ use Rattle.proto_block_rules.proofs.enums.add_enum.Goals as goal
 
 pub returns : goal.returns
 returns c =
-    let chosen = c.args.rules.now.chosen in
-    let r = reading_of c.args.reading.now in
+    let chosen = c.args.walk.now.rules.now.chosen in
+    let r = reading_of c.args.walk.now.reading.now in
     let scope = c.args.scope.now in
     let name = c.args.names.now.name in
     let items = c.as_slice-items.result.now in

@@ -14,9 +14,9 @@ flipped a false e = sym (ap not e)
 
 pub returns : goal.returns
 returns c =
-    let r = reading_of c.args.reading.now in
+    let r = reading_of c.args.walk.now.reading.now in
     let s = c.args.method.now in
-    let told : Rule → Bool → List Found = λ rule passes. found_by c.args.rules.now.chosen r rule (method_unless r c.args.service.now.full.now passes s) in
+    let told : Rule → Bool → List Found = λ rule passes. found_by c.args.walk.now.rules.now.chosen r rule (method_unless r c.args.service.now.full.now passes s) in
     let f0 = map found_of c.args.found.now.items in
     let f1 = map found_of c.add_name.new.found.items in
     let f2 = map found_of c.add_name-2.new.found.items in
@@ -24,7 +24,7 @@ returns c =
     let f4 = map found_of c.add_name-4.new.found.items in
     let f5 = map found_of c.add_name-5.new.found.items in
     let f6 = map found_of c.add_name-6.new.found.items in
-    let all = c.args.messages.now in
+    let all = c.args.walk.now.messages.now in
     let input = flipped (is_some s.input.stream) c.is_none-passes.result c.is_none-passes.ensures in
     let output = flipped (is_some s.output.stream) c.is_none-passes-2.result c.is_none-passes-2.ensures in
     let token = c.args.service.now.token in

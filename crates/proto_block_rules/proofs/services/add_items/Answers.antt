@@ -15,7 +15,7 @@ pub loop-item-preserved : goal.loop-item-preserved
 loop-item-preserved c =
     let service = c.args.service.now in
     let items = c.args.items.now in
-    let part : Signature → List Found = method_finds c.args.rules.now.chosen (reading_of c.args.reading.now) c.args.messages.now service.full.now service.token in
+    let part : Signature → List Found = method_finds c.args.walk.now.rules.now.chosen (reading_of c.args.walk.now.reading.now) c.args.walk.now.messages.now service.full.now service.token in
     listed_turn (told part) (λ x. flat_map part (signatures_in (service_item_tree x))) (of_signatures service_item_tree part) items c.loop-item.item-index c.item-item.result _
     (map found_of c.loop-item.found.items) (map found_of c.add_item.new.found.items) (map found_of c.args.found.now.items ++ told part items)
     c.loop-item-test.true c.item-item.is c.in_ok-add_item.ensures c.loop-item.invariant
@@ -24,5 +24,5 @@ pub returns : goal.returns
 returns c =
     let service = c.args.service.now in
     let items = c.args.items.now in
-    let part : Signature → List Found = method_finds c.args.rules.now.chosen (reading_of c.args.reading.now) c.args.messages.now service.full.now service.token in
+    let part : Signature → List Found = method_finds c.args.walk.now.rules.now.chosen (reading_of c.args.walk.now.reading.now) c.args.walk.now.messages.now service.full.now service.token in
     all_listed (told part) refl items c.loop-item.item-index (map found_of c.loop-item.found.items) (map found_of c.args.found.now.items ++ told part items) c.loop-item-test.false c.loop-item.invariant

@@ -1,7 +1,9 @@
-use Rattle.std.proofs.Common.{◌≡◌, ◌++◌, string_bytes}
-use Rattle.std.specs.Str.Iter.{chars_rest}
+use Rattle.std.proofs.Common.{◌≡◌, ◌++◌, [], if◌then◌else◌, string_bytes}
+use Rattle.std.specs.Str.Iter.{split_has_more, split_pattern, split_text}
 use Rattle.proto_case.specs.Camel.{camel_from}
 use Rattle.proto_case.proofs.camel_case.camel_from.Given as goal
 
-abbrev pub invariant-loop-c : goal.invariant-loop-c
-invariant-loop-c l = string_bytes l.name ++ camel_from l.up (chars_rest l.c-iterator) ≡ camel_from l.is_up l.word
+abbrev pub invariant-loop-part : goal.invariant-loop-part
+invariant-loop-part l =
+    (split_pattern l.part-iterator ≡ 95)
+    × (string_bytes l.name ++ (if split_has_more l.part-iterator then camel_from l.up (split_text l.part-iterator) else []) ≡ camel_from l.is_up l.word)

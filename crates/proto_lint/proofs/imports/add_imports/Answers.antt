@@ -12,7 +12,7 @@ use Rattle.proto_lint.proofs.imports.add_imports.Goals as goal
 
 pub add_statements-requires-clause-strings : goal.add_statements-requires-clause-strings
 add_statements-requires-clause-strings c =
-    let files = c.args.files.now in
+    let files = c.args.linter.now.files.now in
     let file = c.args.reading.now.file in
     let reads : List ReadOf = c.are_read.ensures.0 in
     let are = c.are_read.ensures.1 in
@@ -26,9 +26,9 @@ add_statements-requires-clause-strings c =
 
 pub returns : goal.returns
 returns c =
-    let files = c.args.files.now in
+    let files = c.args.linter.now.files.now in
     let file = c.args.reading.now.file in
-    let finds = λ (reads : List ReadOf). import_finds c.args.rules.now.chosen (names_of_files files reads) (paths_of files) (reading_of c.args.reading.now) file in
+    let finds = λ (reads : List ReadOf). import_finds c.args.linter.now.rules.now.chosen (names_of_files files reads) (paths_of files) (reading_of c.args.reading.now) file in
     on_ok_weaker c.add_statements.result
     (λ h (reads : List ReadOf) are. h reads are ∙ ap (λ (is : List Import). map found_of c.args.found.now.items ++ flat_map (finds reads) is)
     (ap (map (λ i. i.now)) c.deref-2.ensures.value ∙ c.in_ok-statements.ensures ∙ ap imports_in (sym (same_tree files reads file (tree_of_file c.tree.result.now) are c.requires.file c.tree.ensures))))

@@ -14,7 +14,7 @@ no_import = record { ref_ptr = (0, 0); now = record { keyword = 0; public = None
 
 pub loop-import-preserved : goal.loop-import-preserved
 loop-import-preserved c = λ (reads : List ReadOf) are.
-    (let finds = import_finds c.args.rules.now.chosen (names_of_files c.args.files.now reads) (paths_of c.args.files.now) (reading_of c.args.reading.now) c.args.reading.now.file in
+    (let finds = import_finds c.args.linter.now.rules.now.chosen (names_of_files c.args.linter.now.files.now reads) (paths_of c.args.linter.now.files.now) (reading_of c.args.reading.now) c.args.reading.now.file in
     then_added _ _ _ _ _ (c.loop-import.invariant reads are) (c.in_ok-add_import.ensures reads are)
     ∙ ap (λ (fs : List Found). map found_of c.args.found.now.items ++ fs) (sym (finds_more finds c.args.statements.now c.loop-import.import-index no_import c.loop-import-test.true)))
 
@@ -23,6 +23,6 @@ add_import-requires-clause-string c = c.requires.strings c.loop-import.import-in
 
 pub returns : goal.returns
 returns c = λ (reads : List ReadOf) are.
-    (let finds = import_finds c.args.rules.now.chosen (names_of_files c.args.files.now reads) (paths_of c.args.files.now) (reading_of c.args.reading.now) c.args.reading.now.file in
+    (let finds = import_finds c.args.linter.now.rules.now.chosen (names_of_files c.args.linter.now.files.now reads) (paths_of c.args.linter.now.files.now) (reading_of c.args.reading.now) c.args.reading.now.file in
     c.loop-import.invariant reads are
     ∙ ap (λ (is : List (Bor Import)). map found_of c.args.found.now.items ++ flat_map finds (map (λ i. i.now) is)) (take_all c.loop-import.import-index c.args.statements.now c.loop-import-test.false))

@@ -7,4 +7,4 @@ use Rattle.proto_captures.specs.Aims.{IsAimedAt}
 use Rattle.proto_rename.proofs.changes.changes_with.Given as goal
 
 abbrev pub invariant-loop-file : goal.invariant-loop-file
-invariant-loop-file l = (reads : List ReadOf) → AreRead l.files reads → (t : Target) → IsAimedAt l.files reads l.aim t → AreChangesUpTo l.files reads (renamed_words l.files reads t l.to) l.file (map change_of l.changes.items)
+invariant-loop-file l = (reads : List ReadOf) → AreRead l.sought.files.now reads → (t : Target) → IsAimedAt l.sought.files.now reads l.sought.aim t → AreChangesUpTo l.sought.files.now reads (renamed_words l.sought.files.now reads t l.to) l.file (map change_of l.changes.items)
